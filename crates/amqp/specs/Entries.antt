@@ -1,0 +1,88 @@
+-- What is told of a stream: an entry for each of its units, up to the first fault (AMQP 1.0, part 2, sections 2.2 and 2.3).
+use Rattle.std.specs.Prelude.{◌≡◌, ℕ, ◌+◌, ◌*◌, ◌==◌, Bool, true, false, List, [], ◌∷◌, length, map, Option, Some, None, option_map, Ok, Err, if◌then◌else◌}
+use Rattle.std.specs.Str.{bytes_eq}
+use Rattle.amqp_frame.specs.declared.units.TheConstants.{HEADER}
+use Rattle.amqp_frame.specs.Units.{StreamUnit, HeaderUnit, FrameUnit, FaultUnit, Units, bytes_of, offset_of, channel_of, body_of}
+use Rattle.amqp_types.specs.declared.fault.ReadFault.{ReadFault}
+use Rattle.amqp_types.specs.declared.fault.ReadFault.TheVariants.{Truncated, UnknownCode, BadSize, BadCount, BadText, BadSymbol, BadChar, BadBoolean, DuplicateKey, TooDeep, TooManyNodes, NoMemory}
+use Rattle.amqp_types.specs.Trees.{Tree}
+use Rattle.amqp_types.specs.Values.{view}
+use Rattle.amqp_types.specs.Reading.{Read, value_of}
+use Rattle.amqp.specs.declared.scan.TheConstants.{MAX_FRAME}
+use Rattle.amqp.specs.declared.scanned.Scanned.{Scanned}
+use Rattle.amqp.specs.declared.scanned.Scanned.TheVariants as scanned
+use Rattle.amqp.specs.declared.scanned.StreamFault.{StreamFault}
+use Rattle.amqp.specs.declared.scanned.StreamFault.TheVariants as stream
+
+-- What is told of a place: the header, a frame with its place, size, channel, value and payload's length, or a fault there.
+pub data Entry : Type 0 where
+  HeaderEntry : Entry
+  FrameEntry : ℕ → ℕ → ℕ → Option Tree → ℕ → Entry
+  FaultEntry : ℕ → StreamFault → Entry
+
+-- the entry that a scanned unit stands for
+abbrev pub entry_of : Scanned → Entry
+entry_of scanned.Header = HeaderEntry
+entry_of (scanned.Frame frame) = FrameEntry frame.place frame.size frame.channel (option_map view frame.value) frame.payload
+entry_of (scanned.Fault place fault) = FaultEntry place fault
+
+-- the place of a fault in what was read
+abbrev pub place_of : ReadFault → ℕ
+place_of (Truncated place) = place
+place_of (UnknownCode place) = place
+place_of (BadSize place) = place
+place_of (BadCount place) = place
+place_of (BadText place) = place
+place_of (BadSymbol place) = place
+place_of (BadChar place) = place
+place_of (BadBoolean place) = place
+place_of (DuplicateKey place) = place
+place_of (TooDeep place) = place
+place_of (TooManyNodes place) = place
+place_of NoMemory = 0
+
+-- the entry of a frame by what its body, which begins at a place in the frame, is read as: the value and the payload behind it, or the fault there
+abbrev pub read_entry : (place size channel start : ℕ) → Read Tree → Entry
+read_entry place size channel start (Ok read) = FrameEntry place size channel (Some read.0) (length read.1)
+read_entry place size channel start (Err fault) = FaultEntry (place + start + place_of fault) (stream.Value fault)
+
+-- the entry of a frame by its body: where there is none it has no value
+abbrev pub body_entry : (place size channel start : ℕ) → List ℕ → Entry
+body_entry place size channel start body = if length body == 0 then FrameEntry place size channel None 0 else read_entry place size channel start (value_of body)
+
+-- the entry of the eight bytes in the header's place
+abbrev pub header_entry : ℕ → List ℕ → Entry
+header_entry place bytes = if bytes_eq bytes HEADER then HeaderEntry else FaultEntry place stream.Header
+
+-- the entry of a unit at a place
+abbrev pub unit_entry : ℕ → StreamUnit → Entry
+unit_entry place (HeaderUnit bytes) = header_entry place bytes
+unit_entry place (FrameUnit bytes) = body_entry place (length bytes) (channel_of bytes) (4 * offset_of bytes) (body_of bytes)
+unit_entry place (FaultUnit fault bytes) = FaultEntry place (stream.Frame fault)
+
+-- what is told of a rest at a place, in which no unit is whole: a stream has to have a header, and to end behind a unit
+abbrev pub rest_entries : ℕ → List ℕ → List Entry
+rest_entries place rest =
+    if place == 0 then FaultEntry 0 stream.Header ∷ [] else if length rest == 0 then [] else FaultEntry place stream.Cut ∷ []
+
+-- the entries of these units from a place on, and of the rest behind them
+abbrev pub unit_entries : ℕ → List StreamUnit → List ℕ → List Entry
+unit_entries place [] rest = rest_entries place rest
+unit_entries place (u ∷ us) rest = unit_entry place u ∷ unit_entries (place + length (bytes_of u)) us rest
+
+abbrev pub is_fault : Entry → Bool
+is_fault HeaderEntry = false
+is_fault (FrameEntry place size channel value payload) = false
+is_fault (FaultEntry place fault) = true
+
+-- the entries up to the first fault
+abbrev pub until_fault : List Entry → List Entry
+until_fault [] = []
+until_fault (entry ∷ entries) = entry ∷ (if is_fault entry then [] else until_fault entries)
+
+-- the list tells of this stream: of its units in order, up to the first fault
+pub record TellsOf (stream : List ℕ) (found : List Scanned) : Type 0 where
+  pub units : List StreamUnit
+  pub rest : List ℕ
+  pub reading : Units MAX_FRAME stream units rest
+  pub told : map entry_of found ≡ until_fault (unit_entries 0 units rest)

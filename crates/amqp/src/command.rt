@@ -1,0 +1,33 @@
+//! The command line.
+
+use clap::{Arg, ArgMatches, Command};
+use std::alloc::{AllocError, Global};
+
+/// What a command line asks for.
+#[derive(Clone, Copy, Debug, PartialEq, Eq)]
+pub enum Order<'a> {
+    /// To print the frames of this file.
+    Dump { file: &'a str },
+}
+
+/// The command line that `amqp` takes.
+pub fn command_line<'a>(alloc: Global) -> Result<Command<'a>, AllocError> {
+    let file = Arg::new(alloc, "FILE")
+        .required(true)
+        .help("The bytes of one direction of a connection");
+    let dump = Command::new(alloc, "dump")
+        .about("Prints the frames of a file")
+        .arg(file)?;
+    Command::new(alloc, "amqp")
+        .about("Reads and speaks AMQP 1.0")
+        .subcommand_required(true)
+        .arg_required_else_help(true)
+        .subcommand(dump)
+}
+
+/// What a command line asks for that was read as one of [`command_line`]. None where it names no command.
+pub fn order_of<'a>(matches: &ArgMatches<'a>) -> Option<Order<'a>> {
+    let dump = matches.subcommand_matches("dump")?;
+    let file = dump.get_str("FILE")?;
+    Some(Order::Dump { file })
+}

@@ -1,0 +1,101 @@
+//! Runs the command that the command line asks for.
+
+use crate::command::{Order, command_line, order_of};
+use crate::dump::{DumpFault, dump};
+use amqp_frame::Device;
+use clap::error::ErrorKind;
+use std::alloc::AllocError;
+use std::process::ExitCode;
+use std::rt::{Env, Files};
+use std::{env, fs, io};
+use thiserror::Error;
+
+/// The exit status of a command line that asks for no command.
+const USAGE: u8 = 2;
+
+/// Why a command did not come to its end.
+#[derive(Debug, Drop, Error)]
+enum Fault {
+    #[error("Open")]
+    Open,
+    #[error("NoMemory")]
+    NoMemory,
+    #[error(transparent)]
+    Dump(DumpFault),
+}
+
+impl From<AllocError> for Fault {
+    fn from(_e: AllocError) -> Fault {
+        Fault::NoMemory
+    }
+}
+
+/// Runs the program. The exit status is 0 for success, 1 for a fault and 2 for a command line that asks for
+/// no command; what went wrong stands on standard error, but for the fault in a dumped stream.
+pub fn run<R: Print + Eprint + Env + Files + AllocGlobal>(rt: &R) -> ExitCode {
+    match obey(rt) {
+        Ok(status) => status,
+        Err(fault) => {
+            let _ = eprintln!(rt; "fault: {fault}");
+            ExitCode::FAILURE
+        }
+    }
+}
+
+/// Does what the command line asks for.
+fn obey<R: Print + Eprint + Env + Files + AllocGlobal>(rt: &R) -> Result<ExitCode, Fault> {
+    let words = match words(rt) {
+        Ok(words) => words,
+        Err(error) => return refuse_words(rt, &error),
+    };
+    let matches = match command_line(rt.alloc())?.try_get_matches_from(words.as_slice()) {
+        Ok(matches) => matches,
+        Err(error) => return refuse(rt, &error),
+    };
+    match order_of(&matches) {
+        Some(Order::Dump { file }) => dump_file(rt, file),
+        None => Ok(ExitCode::from(USAGE)),
+    }
+}
+
+/// The words of the command line.
+fn words<R: Env + AllocGlobal>(rt: &R) -> io::Result<Vec<String>> {
+    Ok(env::args(rt)?.collect(rt.alloc())?)
+}
+
+/// Says that the words of the command line could not be had.
+fn refuse_words(rt: &impl Eprint, error: &io::Error) -> Result<ExitCode, Fault> {
+    if error.kind() == io::ErrorKind::OutOfMemory {
+        return Err(Fault::NoMemory);
+    }
+    let _ = eprintln!(rt; "error: {error}");
+    Ok(ExitCode::from(USAGE))
+}
+
+/// Prints why a command line was refused, or the help that it asked for.
+fn refuse(rt: &(impl Print + Eprint), error: &clap::Error) -> Result<ExitCode, Fault> {
+    if error.kind() == ErrorKind::OutOfMemory {
+        return Err(Fault::NoMemory);
+    }
+    let _ = error.print(rt);
+    if error.use_stderr() {
+        Ok(ExitCode::from(USAGE))
+    } else {
+        Ok(ExitCode::SUCCESS)
+    }
+}
+
+/// Dumps a file to standard output.
+fn dump_file<R: Print + Files + AllocGlobal>(rt: &R, path: &str) -> Result<ExitCode, Fault> {
+    let file = match fs::open(rt, path) {
+        Ok(file) => file,
+        Err(_) => return Err(Fault::Open),
+    };
+    let mut reader = Device::new(file);
+    let mut writer = Device::new(io::writer(rt));
+    match dump(rt.alloc(), &mut reader, &mut writer) {
+        Ok(true) => Ok(ExitCode::SUCCESS),
+        Ok(false) => Ok(ExitCode::FAILURE),
+        Err(fault) => Err(Fault::Dump(fault)),
+    }
+}

@@ -1,0 +1,197 @@
+use crate::dump::{DumpFault, dump};
+use crate::scan::scan;
+use crate::scanned::Scanned;
+use crate::text::write_value;
+use amqp_frame::{Device, HEADER};
+use amqp_types::{Symbol, Value};
+use std::alloc::{AllocError, Global};
+use std::io;
+use std::io::{Read, Write};
+use std::test::Fail;
+
+/// What `dump` prints of these bytes.
+fn dumped(alloc: Global, mut bytes: &[u8]) -> Result<Vec<u8>, DumpFault> {
+    let mut lines = Vec::new(alloc);
+    let _ = dump(
+        alloc,
+        &mut Device::new(&mut bytes),
+        &mut Device::new(&mut lines),
+    )?;
+    Ok(lines)
+}
+
+/// The header, and then these bytes.
+fn behind_header(alloc: Global, bytes: &[u8]) -> Result<Vec<u8>, AllocError> {
+    let mut stream = Vec::from_slice(alloc, HEADER.as_slice())?;
+    stream.extend_from_slice(bytes)?;
+    Ok(stream)
+}
+
+#[test]
+fn prints_a_line_for_each_frame(rt: HostRuntime) -> Result<(), Fail> {
+    let alloc = rt.alloc();
+    let cases: [(&[u8], &[u8]); 8] = [
+        (
+            b"\x00\x00\x00\x0a\x02\x00\x00\x03\x56\x01",
+            b"8 size=10 channel=3 value true payload=0\n",
+        ),
+        (
+            b"\x00\x00\x00\x0c\x03\x00\x00\x00\xff\xff\xff\xff",
+            b"8 size=12 channel=0 empty\n",
+        ),
+        (
+            b"\x00\x00\x00\x0a\x02\x00\x00\x00\x43\xff",
+            b"8 size=10 channel=0 value uint:0 payload=1\n",
+        ),
+        (
+            b"\x00\x00\x00\x0d\x02\x00\x00\x00\x72\x3f\x80\x00\x00",
+            b"8 size=13 channel=0 value float:3f800000 payload=0\n",
+        ),
+        (b"\x00\x00\x00\x08\x01\x00\x00\x00", b"fault: 8 BadOffset\n"),
+        (b"\x00\x00\x00", b"fault: 8 Cut\n"),
+        (
+            b"\x00\x00\x00\x08\x02\x00\x00\x00\x00\x00\x00\x0b\x02\x00\x00\x00\x56\x02\x40",
+            b"8 size=8 channel=0 empty\nfault: 25 BadBoolean\n",
+        ),
+        (b"", b""),
+    ];
+    for (frames, lines) in cases {
+        let mut wanted = Vec::from_slice(alloc, b"header id=0 version=1.0.0\n")?;
+        wanted.extend_from_slice(lines)?;
+        let stream = behind_header(alloc, frames)?;
+        assert_eq!(rt; dumped(alloc, &stream)?, wanted, "{frames:?}");
+    }
+    for stream in [
+        b"".as_slice(),
+        b"AMQP\x00\x01\x00",
+        b"AMQP\x03\x01\x00\x00\x00",
+    ] {
+        let printed = dumped(alloc, stream)?;
+        assert_eq!(rt; printed.as_slice(), b"fault: 0 Header\n".as_slice());
+    }
+    Ok(())
+}
+
+#[test]
+fn scans_the_units(rt: HostRuntime) -> Result<(), Fail> {
+    let alloc = rt.alloc();
+    let stream = behind_header(alloc, b"\x00\x00\x00\x0a\x02\x00\x00\x03\x56\x01\x00")?;
+    let found = scan(alloc, &stream)?;
+    assert_eq!(rt; found.len(), 3);
+    assert!(rt; matches!(&found[0], Scanned::Header));
+    match &found[1] {
+        Scanned::Frame(frame) => {
+            assert_eq!(rt; (frame.place, frame.size, frame.payload), (8, 10, 0));
+            assert_eq!(rt; frame.channel, 3);
+            assert!(rt; matches!(&frame.value, Some(Value::Boolean(true))));
+        }
+        _ => panic!(rt; "no frame"),
+    }
+    assert!(rt; matches!(&found[2], Scanned::Fault(18, _)));
+    Ok(())
+}
+
+#[test]
+fn writes_each_kind_of_value(rt: HostRuntime) -> Result<(), Fail> {
+    let alloc = rt.alloc();
+    let octets = Vec::from_slice(alloc, b"\x00\xab")?;
+    let string = String::from_str(alloc, "a\"\\\u{e9}~ ")?;
+    let name = Symbol::new(Vec::from_slice(alloc, b"a:b\x7f")?).ok_or("no symbol")?;
+    let cases = [
+        (Value::Null, "null"),
+        (Value::Boolean(true), "true"),
+        (Value::Boolean(false), "false"),
+        (Value::Ubyte(255), "ubyte:255"),
+        (Value::Ushort(65535), "ushort:65535"),
+        (Value::Uint(4294967295), "uint:4294967295"),
+        (
+            Value::Ulong(18446744073709551615),
+            "ulong:18446744073709551615",
+        ),
+        (Value::Byte(-128), "byte:-128"),
+        (Value::Short(-32768), "short:-32768"),
+        (Value::Int(-2147483648), "int:-2147483648"),
+        (
+            Value::Long(-9223372036854775808),
+            "long:-9223372036854775808",
+        ),
+        (Value::Float([0x3f, 0x80, 0, 0]), "float:3f800000"),
+        (Value::Double([0xff; 8]), "double:ffffffffffffffff"),
+        (Value::Decimal32([1, 2, 3, 4]), "decimal32:01020304"),
+        (Value::Decimal64([0xa; 8]), "decimal64:0a0a0a0a0a0a0a0a"),
+        (
+            Value::Decimal128([0xb0; 16]),
+            "decimal128:b0b0b0b0b0b0b0b0b0b0b0b0b0b0b0b0",
+        ),
+        (Value::Char('\u{1f600}'), "char:0001f600"),
+        (Value::Timestamp(-1), "timestamp:-1"),
+        (
+            Value::Uuid([0xab; 16]),
+            "uuid:abababab-abab-abab-abab-abababababab",
+        ),
+        (Value::Binary(octets), "binary:00ab"),
+        (Value::String(string), "string:\"a\\x22\\x5c\\xc3\\xa9~ \""),
+        (Value::Symbol(name), "symbol:\"a:b\\x7f\""),
+    ];
+    for (value, wanted) in cases {
+        let mut text = String::new(alloc);
+        write_value(alloc, &mut text, &value)?;
+        assert_eq!(rt; text.as_str(), wanted);
+    }
+    Ok(())
+}
+
+/// Gives the header, and then fails.
+#[derive(Drop)]
+struct FailingReader {
+    has_read: bool,
+}
+
+impl Read for FailingReader {
+    fn read(&mut self, buf: &mut [u8]) -> io::Result<usize> {
+        if self.has_read || buf.len() < 8 {
+            return Err(io::Error::from(io::ErrorKind::Other));
+        }
+        self.has_read = true;
+        buf[..8].copy_from_slice(HEADER.as_slice());
+        Ok(8)
+    }
+}
+
+/// Takes five bytes, and then none.
+#[derive(Drop)]
+struct FullWriter {
+    has_written: bool,
+}
+
+impl Write for FullWriter {
+    fn write(&mut self, buf: &[u8]) -> io::Result<usize> {
+        if self.has_written {
+            return Ok(0);
+        }
+        self.has_written = true;
+        Ok(buf.len().min(5))
+    }
+
+    fn flush(&mut self) -> io::Result<()> {
+        Ok(())
+    }
+}
+
+#[test]
+fn tells_a_reader_or_writer_that_fails(rt: HostRuntime) -> Result<(), Fail> {
+    let alloc = rt.alloc();
+    let mut lines = Vec::new(alloc);
+    let mut reader = Device::new(FailingReader { has_read: false });
+    let result = dump(alloc, &mut reader, &mut Device::new(&mut lines));
+    assert!(rt; matches!(result, Err(DumpFault::Read)));
+    assert!(rt; reader.failed());
+    assert!(rt; lines.is_empty());
+
+    let mut header = HEADER.as_slice();
+    let mut writer = Device::new(FullWriter { has_written: false });
+    let result = dump(alloc, &mut Device::new(&mut header), &mut writer);
+    assert!(rt; matches!(result, Err(DumpFault::Write)));
+    assert!(rt; writer.failed());
+    Ok(())
+}

@@ -1,0 +1,24 @@
+-- What a marked reader or writer shows.
+use Rattle.std.specs.Prelude.{ℕ, ◌+◌, Bool, if◌then◌else◌}
+use Rattle.amqp_frame.specs.declared.marked.Device.{Device}
+
+module _ {T : Type 0} where
+  -- the reader or writer itself
+  abbrev pub device_inner : Device T → T
+  device_inner d = d.inner
+
+  -- it failed
+  abbrev pub has_failed : Device T → Bool
+  has_failed d = d.failed
+
+  -- a read into some room gave nothing
+  abbrev pub has_ended : Device T → Bool
+  has_ended d = d.ended
+
+  -- how many reads it may still ask of the reader
+  abbrev pub reads_left : Device T → ℕ
+  reads_left d = d.reads_left
+
+  -- a number that falls with each read into some room until the reader has ended
+  abbrev pub reads_ahead : Device T → ℕ
+  reads_ahead d = if d.ended then 0 else d.reads_left + 1

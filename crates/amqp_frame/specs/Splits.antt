@@ -1,0 +1,102 @@
+-- What a splitter holds, what it answers, and which units went by before it.
+use Rattle.std.specs.Prelude.{◌≡◌, ℕ, ◌+◌, ◌<◌, ◌≤◌, ◌⊎◌, List, [], ◌++◌, length, Option, Some, None, Result, Ok, Err}
+use Rattle.std.specs.List.{flat_map}
+use Rattle.amqp_frame.specs.Units.{StreamUnit, FrameUnit, FaultUnit, bytes_of, IsUnit, IsRest, AreUnits, due_after, due_behind, channel_of, body_of}
+use Rattle.amqp_frame.specs.declared.units.Frame.{Frame}
+use Rattle.amqp_frame.specs.declared.units.FrameFault.{FrameFault}
+use Rattle.amqp_frame.specs.declared.units.Progress.{Progress}
+use Rattle.amqp_frame.specs.declared.units.Progress.TheVariants.{Wants, Whole, Fails}
+use Rattle.amqp_frame.specs.declared.units.Stage.{Stage}
+use Rattle.amqp_frame.specs.declared.units.Stage.TheVariants.{Header, Frames, Refused, Faulty}
+
+-- these bytes are this unit, which may stand where the stage is due
+pub record Stands (max : ℕ) (stage : Stage) (bytes : List ℕ) (u : StreamUnit) : Type 0 where
+  pub is : IsUnit max stage u
+  pub whole : bytes ≡ bytes_of u
+
+-- these bytes are some unit
+pub record IsOne (max : ℕ) (stage : Stage) (bytes : List ℕ) : Type 0 where
+  pub unit : StreamUnit
+  pub stands : Stands max stage bytes unit
+
+-- nothing is taken any more: a refused header or a fault went by
+abbrev pub IsOver : Stage → Type 0
+IsOver Header = ⊥
+IsOver Frames = ⊥
+IsOver Refused = Unit {0}
+IsOver (Faulty fault) = Unit {0}
+
+-- what came of the unit that is due: less than one, or one; nothing once it is over
+abbrev pub IsHeld : ℕ → Stage → List ℕ → Type 0
+IsHeld max Header bytes = IsRest max Header bytes ⊎ IsOne max Header bytes
+IsHeld max Frames bytes = IsRest max Frames bytes ⊎ IsOne max Frames bytes
+IsHeld max Refused bytes = bytes ≡ []
+IsHeld max (Faulty fault) bytes = bytes ≡ []
+
+-- However much comes of this many bytes more, there is no more than the unit that is due, and its size is within max.
+pub record IsWanted (max : ℕ) (stage : Stage) (bytes : List ℕ) (wanted : ℕ) : Type 0 where
+  pub fits : length bytes + wanted ≤ max
+  pub held : (more : List ℕ) → length more ≤ wanted → IsHeld max stage (bytes ++ more)
+
+-- how far a frame has come
+abbrev pub IsProgress : ℕ → List ℕ → Progress → Type 0
+IsProgress max bytes (Wants wanted) = (0 < wanted) × IsRest max Frames bytes × IsWanted max Frames bytes wanted
+IsProgress max bytes Whole = IsUnit max Frames (FrameUnit bytes)
+IsProgress max bytes (Fails fault) = IsUnit max Frames (FaultUnit fault bytes)
+
+-- what is due once the unit that waits is gone; None where none waits
+abbrev pub IsNext : ℕ → Stage → List ℕ → Option Stage → Type 0
+IsNext max stage bytes None = IsOne max stage bytes → ⊥
+IsNext max stage bytes (Some next) = (u : StreamUnit) × Stands max stage bytes u × (next ≡ due_after u)
+
+-- The largest frame accepted, what is due, the bytes that came of it, and how many bytes are reserved.
+pub record SplitterState : Type 0 where
+  pub limit : ℕ
+  pub stage : Stage
+  pub filled : List ℕ
+  pub room : ℕ
+
+-- what holds of every splitter: it has room for the largest frame, and holds no more than a unit
+pub record IsSound (max : ℕ) (stage : Stage) (bytes : List ℕ) (reserved : ℕ) : Type 0 where
+  pub least : 8 ≤ max
+  pub room : max ≤ reserved
+  pub held : IsHeld max stage bytes
+
+-- this unit waits
+abbrev pub Waits : SplitterState → StreamUnit → Type 0
+Waits s u = Stands s.limit s.stage s.filled u
+
+-- a unit waits, or nothing is taken any more
+abbrev pub IsFull : SplitterState → Type 0
+IsFull s = IsOne s.limit s.stage s.filled ⊎ IsOver s.stage
+
+-- nothing but the reserved bytes may differ
+pub record IsUnchanged (old new : SplitterState) : Type 0 where
+  pub limit : new.limit ≡ old.limit
+  pub stage : new.stage ≡ old.stage
+  pub filled : new.filled ≡ old.filled
+
+-- the buffer is empty, and this is due
+pub record IsEmptied (old new : SplitterState) (due : Stage) : Type 0 where
+  pub limit : new.limit ≡ old.limit
+  pub stage : new.stage ≡ due
+  pub filled : new.filled ≡ []
+
+-- neither a frame nor a fault waits, and no fault went by
+pub record HasNoFrame (s : SplitterState) : Type 0 where
+  pub frames : (bytes : List ℕ) → Waits s (FrameUnit bytes) → ⊥
+  pub faults : (fault : FrameFault) (bytes : List ℕ) → Waits s (FaultUnit fault bytes) → ⊥
+  pub over : (fault : FrameFault) → s.stage ≡ Faulty fault → ⊥
+
+-- the frame that waits, or the fault that waits or went by
+abbrev pub IsFrameAnswer : SplitterState → Option (Result Frame FrameFault) → Type 0
+IsFrameAnswer s None = HasNoFrame s
+IsFrameAnswer s (Some (Ok frame)) =
+    Waits s (FrameUnit s.filled) × (frame.channel ≡ channel_of s.filled) × (frame.body.now ≡ body_of s.filled)
+IsFrameAnswer s (Some (Err fault)) = Waits s (FaultUnit fault s.filled) ⊎ ((s.stage ≡ Faulty fault) × (s.filled ≡ []))
+
+-- of all bytes taken, these units went by, and the rest is in the buffer
+pub record WentBy (s : SplitterState) (us : List StreamUnit) (taken : List ℕ) : Type 0 where
+  pub joined : taken ≡ flat_map bytes_of us ++ s.filled
+  pub each : AreUnits s.limit Header us
+  pub due : s.stage ≡ due_behind Header us

@@ -1,0 +1,37 @@
+//! Facts of streams alone, whoever cuts them. The calls do nothing: their contracts are the laws.
+ghost use Rattle.std.specs.Prelude.{◌≡◌, ℕ, ◌<◌, ◌≤◌, List, ◌∷◌, [], ◌++◌, length};
+ghost use Rattle.amqp_frame.specs.Units.{StreamUnit, bytes_of, IsUnit, IsReading, Units, due_after};
+ghost use Rattle.amqp_frame.specs.Splits.{SplitterState, Waits, IsHeld, IsFull, IsOver, WentBy};
+ghost use Rattle.amqp_frame.specs.declared.units.Stage.{Stage};
+
+/// No unit begins another.
+pub fn no_unit_begins_another()
+    ensures { (max : ℕ) (stage : Stage) (u v : StreamUnit) (a b : List ℕ) → 8 ≤ max → IsUnit max stage u → IsUnit max stage v → bytes_of u ++ a ≡ bytes_of v ++ b → (u ≡ v) × (a ≡ b) }
+{}
+
+/// Each unit has at least four bytes.
+pub fn each_unit_has_bytes()
+    ensures { (max : ℕ) (stage : Stage) (u : StreamUnit) → IsUnit max stage u → 4 ≤ length (bytes_of u) }
+{}
+
+/// Each stream can be read as units and a rest.
+pub fn each_stream_is_read()
+    ensures { (max : ℕ) (stage : Stage) (stream : List ℕ) → (us : List StreamUnit) × (rest : List ℕ) × IsReading max stage stream us rest }
+{}
+
+/// A stream has one reading. So it does not matter in which pieces it came.
+pub fn one_reading()
+    ensures { (max : ℕ) (stage : Stage) (stream : List ℕ) (us vs : List StreamUnit) (rest other : List ℕ) → 8 ≤ max → IsReading max stage stream us rest → IsReading max stage stream vs other → (us ≡ vs) × (rest ≡ other) }
+{}
+
+/// Where no unit waits and the splitter took all that it takes, the units that went by are those
+/// of the whole stream, and what it holds is the rest, with whatever it did not take.
+pub fn reading_ends()
+    ensures { (s : SplitterState) (us : List StreamUnit) (taken more : List ℕ) → IsHeld s.limit s.stage s.filled → ((u : StreamUnit) → Waits s u → ⊥) → (0 < length more → IsFull s) → WentBy s us taken → Units s.limit (taken ++ more) us (s.filled ++ more) }
+{}
+
+/// Where the last unit waits, a header that is refused or a fault, it ends the units of the whole
+/// stream, and whatever follows is the rest.
+pub fn reading_stops()
+    ensures { (s : SplitterState) (us : List StreamUnit) (taken more : List ℕ) (u : StreamUnit) → Waits s u → IsOver (due_after u) → WentBy s us taken → Units s.limit (taken ++ more) (us ++ u ∷ []) more }
+{}

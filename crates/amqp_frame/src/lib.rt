@@ -1,0 +1,18 @@
+//! Bytes of an AMQP 1.0 connection cut into units: the protocol header, whole frames, and the
+//! fault that ends a stream. No unit begins another, so how the bytes come in pieces changes
+//! nothing: [`laws`] states it.
+//!
+//! [`Splitter`] cuts, over one buffer that it reserves at the start. [`Device`] is a reader or a
+//! writer that keeps its first failure.
+#![tactic(auto)]
+
+pub mod laws;
+mod marked;
+mod split;
+#[cfg(test)]
+mod tests;
+mod units;
+
+pub use marked::Device;
+pub use split::Splitter;
+pub use units::{Frame, FrameFault, HEADER, Stage};

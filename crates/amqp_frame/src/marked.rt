@@ -1,0 +1,132 @@
+//! A reader or a writer that keeps its first failure.
+ghost use Rattle.std.specs.Prelude.{◌≡◌, ◌+◌, ◌-◌, ◌^◌, ◌<◌, ◌≤◌, ◌↔◌, true, false, length, take, IfOk, IsErr, IsTrue, MatchResult, Ok, OnErr, OnOk};
+ghost use Rattle.std.specs.Io.KnownBytes.{IsAtEnd, Consumes, Keeps, WriteAppends};
+ghost use Rattle.amqp_frame.specs.Devices.{device_inner, has_failed, has_ended, reads_left, reads_ahead};
+
+use std::io::{self, ErrorKind, Read, Write};
+
+/// A reader or a writer that is marked by its first failure, and only fails from then on. As a
+/// reader it ends where a read into some room gave nothing, and unasked after `2^64 - 1` reads.
+#[derive(Drop)]
+pub struct Device<T> {
+    inner: T,
+    failed: bool,
+    ended: bool,
+    reads_left: u64,
+}
+
+impl<T> Device<T> {
+    /// An unmarked one.
+    pub fn new(inner: T) -> Self
+        ensures inner { device_inner result ≡ inner }
+        ensures failed { has_failed result ≡ false }
+        ensures ended { has_ended result ≡ false }
+        ensures reads { reads_left result ≡ 2 ^ 64 - 1 }
+    {
+        Device {
+            inner,
+            failed: false,
+            ended: false,
+            reads_left: u64::MAX,
+        }
+    }
+
+    /// Whether a call failed.
+    pub fn failed(&self) -> bool
+        ensures { result ≡ has_failed self.now }
+    {
+        self.failed
+    }
+
+    /// Whether a read into some room gave nothing, or no read is left to ask.
+    pub fn ended(&self) -> bool
+        ensures { result ≡ has_ended self.now }
+    {
+        self.ended
+    }
+
+    /// Marks it.
+    fn fail(&mut self, error: io::Error) -> io::Result<usize>
+        ensures err { IsErr result }
+        ensures marked { self.new ≡ record self.old { failed = true } }
+    {
+        self.failed = true;
+        Err(error)
+    }
+}
+
+impl<R: Read> Device<R> {
+    /// Reads into the front of `buf`, and answers how many bytes came. The first error of the
+    /// reader marks it. Once marked it answers an error, and once ended 0, without asking the
+    /// reader. Nor is the reader asked where `buf` is empty.
+    pub fn read(&mut self, buf: &mut [u8]) -> io::Result<usize>
+        ensures bound { IfOk result (λ n. n ≤ length buf.new) }
+        ensures marked { IsErr result ↔ IsTrue (has_failed self.new) }
+        ensures zero { has_failed self.new ≡ false → 0 < length buf.old → (result ≡ Ok 0) ↔ IsTrue (has_ended self.new) }
+
+        // What came is what the reader gave. Where the reader was asked and gave nothing, nothing was left.
+        ensures bytes { MatchResult result
+            (λ n. Consumes (R.remaining (device_inner self.old)) (R.remaining (device_inner self.new)) (take n buf.new))
+            (λ _. Keeps (R.remaining (device_inner self.old)) (R.remaining (device_inner self.new))) }
+        ensures end { has_ended self.old ≡ false → 0 < reads_left self.old → 0 < length buf.old → result ≡ Ok 0 → IsAtEnd (R.remaining (device_inner self.new)) }
+
+        // Where the reader is not asked nothing changes.
+        ensures still { IsTrue (has_failed self.old) → self.new ≡ self.old }
+        ensures over { IsTrue (has_ended self.old) → self.new ≡ self.old }
+        ensures empty { length buf.old ≡ 0 → self.new ≡ self.old }
+
+        // Each read that may ask counts, and after the last one it ends. A failure ends nothing.
+        ensures counts { has_failed self.old ≡ false → has_ended self.old ≡ false → 0 < length buf.old → reads_left self.new ≡ reads_left self.old - 1 }
+        ensures fewer { has_ended self.old ≡ false → 0 < length buf.old → OnOk result (reads_ahead self.new < reads_ahead self.old) }
+        ensures kept { OnErr result (has_ended self.new ≡ has_ended self.old) }
+    {
+        if self.failed {
+            return Err(io::Error::from(ErrorKind::Other));
+        }
+        if buf.is_empty() {
+            return Ok(0);
+        }
+        if self.ended || self.reads_left == 0 {
+            self.ended = true;
+            return Ok(0);
+        }
+        self.reads_left -= 1;
+        match self.inner.read(buf) {
+            Ok(count) => {
+                self.ended = count == 0;
+                Ok(count)
+            }
+            Err(error) => self.fail(error),
+        }
+    }
+}
+
+impl<W: Write> Device<W> {
+    /// Writes bytes from the front of `buf`, and answers how many, at least one of some. The first
+    /// error of the writer marks it, and so does a write that takes none of some bytes. Once marked
+    /// it answers an error without asking the writer. Nor is the writer asked where `buf` is empty.
+    pub fn write(&mut self, buf: &[u8]) -> io::Result<usize>
+        ensures bound { IfOk result (λ n. n ≤ length buf.now) }
+        ensures marked { IsErr result ↔ IsTrue (has_failed self.new) }
+        ensures some { 0 < length buf.now → IfOk result (λ n. 0 < n) }
+        ensures bytes { WriteAppends (W.contents (device_inner self.old)) (W.contents (device_inner self.new)) result buf.now }
+        ensures ended { has_ended self.new ≡ has_ended self.old }
+        ensures reads { reads_left self.new ≡ reads_left self.old }
+
+        // Where the writer is not asked nothing changes.
+        ensures still { IsTrue (has_failed self.old) → self.new ≡ self.old }
+        ensures empty { length buf.now ≡ 0 → self.new ≡ self.old }
+    {
+        if self.failed() {
+            return Err(io::Error::from(ErrorKind::Other));
+        }
+        if buf.is_empty() {
+            return Ok(0);
+        }
+        match self.inner.write(buf) {
+            Ok(0) => self.fail(io::Error::from(ErrorKind::WriteZero)),
+            Ok(count) => Ok(count),
+            Err(error) => self.fail(error),
+        }
+    }
+}

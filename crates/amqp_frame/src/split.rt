@@ -1,0 +1,236 @@
+//! Cutting a stream into its units.
+ghost use Rattle.std.specs.Prelude.{◌≡◌, ℕ, ◌+◌, ◌*◌, ◌⊎◌, ◌<◌, ◌≤◌, ◌++◌, [], ◌∷◌, List, length, take, IfOk, IfSome, IfNone, IsTrue, ◌↔◌, vec_capacity};
+ghost use Rattle.amqp_frame.specs.Units.{StreamUnit, HeaderUnit, IsRest, due_after, offset_of, channel_of, body_of};
+ghost use Rattle.amqp_frame.specs.Splits.{IsHeld, IsWanted, IsOver, IsFull, IsOne, Waits, IsUnchanged, IsEmptied, IsFrameAnswer, IsNext, WentBy};
+
+use crate::units::{Frame, FrameFault, HEADER, Progress, Stage, progress_of};
+use byteorder::{BigEndian, ByteOrder};
+use std::alloc::{AllocError, Allocator, Global};
+use std::marker::Model;
+
+/// Cuts a stream into units, however its bytes come.
+#[derive(Drop)]
+pub struct Splitter<A: Allocator + Copy = Global> {
+    limit: usize,
+    stage: Stage,
+    bytes: Vec<u8, A>,
+}
+
+impl<A: Allocator + Copy> Model for Splitter<A> {
+    ghost use Rattle.std.specs.Prelude.{vec_capacity};
+    ghost use Rattle.amqp_frame.specs.Splits.{SplitterState, IsSound};
+
+    ghost Value = { SplitterState };
+
+    ghost view = { λ a. record { limit = a.limit; stage = a.stage; filled = a.bytes.items; room = vec_capacity a.bytes } };
+
+    ghost invariant = { λ a. IsSound a.limit a.stage a.bytes.items (vec_capacity a.bytes) };
+}
+
+impl<A: Allocator + Copy> Splitter<A> {
+    /// A splitter at the start of a stream, which accepts frames of up to `max` bytes. It reserves
+    /// `max` bytes at once, and takes no memory after that.
+    pub fn new(alloc: A, max: usize) -> Result<Self, AllocError>
+        requires { 8 ≤ max }
+        ensures value { IfOk result (λ s. s ≡ record { limit = max; stage = Stage.Header; filled = []; room = max }) }
+        ensures held { IfOk result (λ s. IsHeld s.limit s.stage s.filled) }
+        ensures history { IfOk result (λ s. WentBy s [] []) }
+    {
+        Ok(Splitter {
+            limit: max,
+            stage: Stage::Header,
+            bytes: Vec::with_capacity(alloc, max)?,
+        })
+    }
+
+    /// Takes bytes of `piece` up to the end of the header, of one frame, or to the byte that shows
+    /// a fault, and answers how many. It takes none while a unit waits, and none any more once a
+    /// header that is not [`HEADER`] or a fault went by. Of a frame at most four bytes are taken
+    /// before its SIZE is judged.
+    pub fn push(&mut self, piece: &[u8]) -> usize
+        ensures bound { result ≤ length piece.now }
+        ensures limit { self.new.limit ≡ self.old.limit }
+        ensures stage { self.new.stage ≡ self.old.stage }
+        ensures filled { self.new.filled ≡ self.old.filled ++ take result piece.now }
+
+        // It stops only where a unit waits or nothing is taken, and takes nothing there.
+        ensures all { result < length piece.now → IsFull self.new }
+        ensures full { IsFull self.old → result ≡ 0 }
+        ensures some { result ≡ 0 → 0 < length piece.now → IsFull self.old }
+
+        // What is held is less than a unit or one unit, and was less before the last byte.
+        ensures held { IsHeld self.new.limit self.new.stage self.new.filled }
+        ensures early { (k : ℕ) → k < result → IsRest self.old.limit self.old.stage (self.old.filled ++ take k piece.now) }
+
+        ensures history { (us : List StreamUnit) (taken : List ℕ) → WentBy self.old us taken → WentBy self.new us (taken ++ take result piece.now) }
+    {
+        fill(self.limit, self.stage, &mut self.bytes, piece)
+    }
+
+    /// The header's eight bytes, while it waits.
+    pub fn header(&self) -> Option<[u8; 8]>
+        ensures some { IfSome result (λ bytes. Waits self.now (HeaderUnit bytes)) }
+        ensures waiting { (bytes : List ℕ) → Waits self.now (HeaderUnit bytes) → result ≡ Some bytes }
+    {
+        match self.stage {
+            Stage::Header => self.bytes.as_slice().as_array().copied(),
+            Stage::Frames | Stage::Refused | Stage::Faulty(_) => None,
+        }
+    }
+
+    /// The frame that waits, lent from the buffer, or the fault. A fault stays, and is repeated.
+    pub fn frame(&self) -> Option<Result<Frame<'_>, FrameFault>>
+        ensures { IsFrameAnswer self.now result }
+    {
+        match self.stage {
+            Stage::Header | Stage::Refused => None,
+            Stage::Faulty(fault) => Some(Err(fault)),
+            Stage::Frames => {
+                let bytes = self.bytes.as_slice();
+                match progress_of(self.limit, bytes) {
+                    Progress::Wants(_) => None,
+                    Progress::Whole => Some(Ok(frame_in(bytes))),
+                    Progress::Fails(fault) => Some(Err(fault)),
+                }
+            }
+        }
+    }
+
+    /// Lets the unit that waits go. Behind [`HEADER`] or a frame a frame is due. Behind another
+    /// header or a fault nothing is, and a fault stays. Where no unit waits nothing changes.
+    pub fn drop_frame(&mut self)
+        ensures goes { (u : StreamUnit) → Waits self.old u → IsEmptied self.old self.new (due_after u) }
+        ensures stays { (IsOne self.old.limit self.old.stage self.old.filled → ⊥) → IsUnchanged self.old self.new }
+        ensures held { IsHeld self.new.limit self.new.stage self.new.filled }
+        ensures history { (us : List StreamUnit) (taken : List ℕ) (u : StreamUnit) → WentBy self.old us taken → Waits self.old u → WentBy self.new (us ++ u ∷ []) taken }
+    {
+        if let Some(next) = next_stage(self.limit, self.stage, self.bytes.as_slice()) {
+            self.stage = next;
+            self.bytes.clear();
+        }
+    }
+
+    /// How many bytes are in the buffer: SIZE while a frame waits, 4 or 8 while a fault does.
+    pub fn len(&self) -> usize
+        ensures { result ≡ length self.now.filled }
+    {
+        self.bytes.len()
+    }
+
+    /// Whether the buffer is empty.
+    pub fn is_empty(&self) -> bool
+        ensures { IsTrue result ↔ (self.now.filled ≡ []) }
+    {
+        self.bytes.is_empty()
+    }
+
+    /// Empties the buffer at the end of the input, and answers how many bytes it had, if any. A
+    /// unit that waits goes as by [`Splitter::drop_frame`], and of less than a unit only the bytes.
+    pub fn finish(&mut self) -> Option<usize>
+        ensures some { IfSome result (λ n. (n ≡ length self.old.filled) × (0 < n)) }
+        ensures none { IfNone result (self.old.filled ≡ []) }
+        ensures goes { (u : StreamUnit) → Waits self.old u → IsEmptied self.old self.new (due_after u) }
+        ensures rest { (IsOne self.old.limit self.old.stage self.old.filled → ⊥) → IsEmptied self.old self.new self.old.stage }
+    {
+        let len = self.len();
+        self.drop_frame();
+        self.bytes.clear();
+        if len > 0 { Some(len) } else { None }
+    }
+}
+
+/// How many bytes more may come before the unit that is due is judged again; 0 where it waits, or
+/// where nothing is taken any more.
+fn wanted(max: usize, stage: Stage, bytes: &[u8]) -> usize
+    requires least { 8 ≤ max }
+    requires held { IsHeld max stage bytes.now }
+    ensures wanted { IsWanted max stage bytes.now result }
+    ensures full { result ≡ 0 → IsOne max stage bytes.now ⊎ IsOver stage }
+{
+    match stage {
+        Stage::Header => HEADER.len() - bytes.len(),
+        Stage::Frames => match progress_of(max, bytes) {
+            Progress::Wants(count) => count,
+            Progress::Whole | Progress::Fails(_) => 0,
+        },
+        Stage::Refused | Stage::Faulty(_) => 0,
+    }
+}
+
+/// Takes bytes up to where the unit that is due is judged again.
+fn fill_once<A: Allocator>(max: usize, stage: Stage, bytes: &mut Vec<u8, A>, piece: &[u8]) -> usize
+    requires least { 8 ≤ max }
+    requires room { max ≤ vec_capacity bytes.old }
+    requires held { IsHeld max stage bytes.old.items }
+    ensures bound { result ≤ length piece.now }
+    ensures filled { bytes.new.items ≡ bytes.old.items ++ take result piece.now }
+    ensures held { IsHeld max stage bytes.new.items }
+    ensures room { max ≤ vec_capacity bytes.new }
+    ensures full { result ≡ 0 → 0 < length piece.now → IsOne max stage bytes.new.items ⊎ IsOver stage }
+{
+    let count = wanted(max, stage, bytes.as_slice()).min(piece.len());
+    bytes.extend_from_slice(&piece[..count]).unwrap();
+    count
+}
+
+/// Takes bytes up to the end of the unit that is due.
+fn fill<A: Allocator>(max: usize, stage: Stage, bytes: &mut Vec<u8, A>, piece: &[u8]) -> usize
+    requires least { 8 ≤ max }
+    requires room { max ≤ vec_capacity bytes.old }
+    requires held { IsHeld max stage bytes.old.items }
+    ensures bound { result ≤ length piece.now }
+    ensures filled { bytes.new.items ≡ bytes.old.items ++ take result piece.now }
+    ensures held { IsHeld max stage bytes.new.items }
+    ensures room { max ≤ vec_capacity bytes.new }
+    ensures all { result < length piece.now → IsOne max stage bytes.new.items ⊎ IsOver stage }
+{
+    let mut taken = 0;
+    while taken < piece.len() {
+        let count = fill_once(max, stage, bytes, &piece[taken..]);
+        if count == 0 {
+            break;
+        }
+        taken += count;
+    }
+    taken
+}
+
+/// What is due once the unit that waits is gone, if one waits.
+fn next_stage(max: usize, stage: Stage, bytes: &[u8]) -> Option<Stage>
+    requires least { 8 ≤ max }
+    requires held { IsHeld max stage bytes.now }
+    ensures { IsNext max stage bytes.now result }
+{
+    match stage {
+        Stage::Header => {
+            if bytes.len() < HEADER.len() {
+                None
+            } else if bytes == HEADER.as_slice() {
+                Some(Stage::Frames)
+            } else {
+                Some(Stage::Refused)
+            }
+        }
+        Stage::Frames => match progress_of(max, bytes) {
+            Progress::Wants(_) => None,
+            Progress::Whole => Some(Stage::Frames),
+            Progress::Fails(fault) => Some(Stage::Faulty(fault)),
+        },
+        Stage::Refused | Stage::Faulty(_) => None,
+    }
+}
+
+/// The channel and the body of a whole frame.
+#[tactic(auto, unfolding(crate::specs::Units::channel_of))]
+fn frame_in(bytes: &[u8]) -> Frame<'_>
+    requires header { 8 ≤ length bytes.now }
+    requires body { 4 * offset_of bytes.now ≤ length bytes.now }
+    ensures channel { result.channel ≡ channel_of bytes.now }
+    ensures body { result.body.now ≡ body_of bytes.now }
+{
+    let place = 4 * bytes[4] as usize;
+    Frame {
+        channel: BigEndian::read_u16(&bytes[6..]),
+        body: &bytes[place..],
+    }
+}

@@ -1,0 +1,99 @@
+//! What a stream is made of, and how far a frame has come.
+ghost use Rattle.std.specs.Prelude.{◌≡◌, ◌≤◌, length};
+ghost use Rattle.amqp_frame.specs.Units.{size_of};
+ghost use Rattle.amqp_frame.specs.Splits.{IsHeld, IsProgress};
+
+use byteorder::{BigEndian, ByteOrder};
+
+/// The protocol header of AMQP 1.0 without a security layer (part 2, section 2.2).
+pub const HEADER: [u8; 8] = [0x41, 0x4d, 0x51, 0x50, 0, 1, 0, 0];
+
+/// How many bytes the fixed part of a frame's header has (part 2, section 2.3.1).
+const FRAME_HEADER: usize = 8;
+
+/// Why the bytes at a frame's place are no frame (part 2, section 2.3.1).
+#[derive(Clone, Copy, Debug, PartialEq, Eq)]
+pub enum FrameFault {
+    /// SIZE is below the eight bytes of a frame header. It shows at the fourth byte.
+    TooSmall,
+    /// SIZE is above the largest frame that is accepted. It shows at the fourth byte.
+    TooLarge,
+    /// DOFF is below 2, or the body would begin behind the frame. It shows at the eighth byte.
+    BadOffset,
+    /// TYPE is not 0, that of an AMQP frame. It shows at the eighth byte.
+    BadType,
+}
+
+/// A whole frame, lent from the buffer that it came in (part 2, section 2.3.1).
+#[derive(Clone, Copy, Debug)]
+pub struct Frame<'a> {
+    /// The channel number.
+    pub channel: u16,
+    /// What follows the extended header. It may be empty.
+    pub body: &'a [u8],
+}
+
+/// What is due next in a stream.
+#[derive(Clone, Copy, Debug, PartialEq, Eq)]
+pub enum Stage {
+    /// The eight bytes of the protocol header.
+    Header,
+    /// A frame.
+    Frames,
+    /// Nothing: the header that came is not [`HEADER`].
+    Refused,
+    /// Nothing: this fault came in a frame's place.
+    Faulty(FrameFault),
+}
+
+/// How far a frame has come.
+#[derive(Clone, Copy)]
+pub enum Progress {
+    /// Less than a frame: so many bytes more are wanted before it is judged again.
+    Wants(usize),
+    /// A whole frame.
+    Whole,
+    /// No frame.
+    Fails(FrameFault),
+}
+
+/// SIZE, once its four bytes are there.
+#[tactic(auto, unfolding(crate::specs::Units::size_of))]
+fn size_in(bytes: &[u8]) -> usize
+    requires { 4 ≤ length bytes.now }
+    ensures { result ≡ size_of bytes.now }
+{
+    BigEndian::read_u32(bytes) as usize
+}
+
+/// Judges SIZE once its four bytes are there, and DOFF and TYPE once all eight are.
+pub fn progress_of(max: usize, bytes: &[u8]) -> Progress
+    requires least { 8 ≤ max }
+    requires held { IsHeld max Stage.Frames bytes.now }
+    ensures { IsProgress max bytes.now result }
+{
+    if bytes.len() < 4 {
+        return Progress::Wants(4 - bytes.len());
+    }
+    let size = size_in(bytes);
+    if size < FRAME_HEADER {
+        return Progress::Fails(FrameFault::TooSmall);
+    }
+    if size > max {
+        return Progress::Fails(FrameFault::TooLarge);
+    }
+    if bytes.len() < FRAME_HEADER {
+        return Progress::Wants(FRAME_HEADER - bytes.len());
+    }
+    let place = 4 * bytes[4] as usize;
+    if place < FRAME_HEADER || place > size {
+        return Progress::Fails(FrameFault::BadOffset);
+    }
+    if bytes[5] != 0 {
+        return Progress::Fails(FrameFault::BadType);
+    }
+    if bytes.len() < size {
+        return Progress::Wants(size - bytes.len());
+    }
+    Progress::Whole
+}

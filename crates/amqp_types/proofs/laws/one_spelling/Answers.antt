@@ -1,0 +1,5 @@
+use Rattle.amqp_types.proofs.Calls.{one_spelling}
+use Rattle.amqp_types.proofs.laws.one_spelling.Goals as goal
+
+pub returns : goal.returns
+returns c = one_spelling

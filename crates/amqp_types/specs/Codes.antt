@@ -1,0 +1,62 @@
+-- The codes of the constructors. [1.2; 1.6]
+use Rattle.std.specs.Prelude.{◌≡◌, ◌≢◌, ℕ, ◌==◌, ◌<◌, ◌≤◌, List, [], ◌∷◌, Option, Some, None}
+use Rattle.std.specs.Map.{lookup}
+use Rattle.amqp_types.specs.declared.kind.Kind.TheVariants as kind
+use Rattle.amqp_types.specs.declared.code.Constructor.{Constructor}
+use Rattle.amqp_types.specs.declared.code.Constructor.TheVariants.{Fixed, Variable}
+use Rattle.amqp_types.specs.declared.code.Form.{Form}
+use Rattle.amqp_types.specs.declared.code.Form.TheVariants as form
+use Rattle.amqp_types.specs.declared.code.SizeWidth.TheVariants as size
+use Rattle.amqp_types.specs.Kinds.{fixed_width, width}
+
+-- each code with the kind that it makes, and the form of the data behind it
+abbrev pub constructors : List (ℕ × Constructor)
+constructors =
+    (0x40, Fixed kind.Null form.Full) ∷
+    (0x41, Fixed kind.Boolean form.One) ∷
+    (0x42, Fixed kind.Boolean form.Zero) ∷
+    (0x56, Fixed kind.Boolean form.Full) ∷
+    (0x50, Fixed kind.Ubyte form.Full) ∷
+    (0x60, Fixed kind.Ushort form.Full) ∷
+    (0x43, Fixed kind.Uint form.Zero) ∷
+    (0x52, Fixed kind.Uint form.OneByte) ∷
+    (0x70, Fixed kind.Uint form.Full) ∷
+    (0x44, Fixed kind.Ulong form.Zero) ∷
+    (0x53, Fixed kind.Ulong form.OneByte) ∷
+    (0x80, Fixed kind.Ulong form.Full) ∷
+    (0x51, Fixed kind.Byte form.Full) ∷
+    (0x61, Fixed kind.Short form.Full) ∷
+    (0x54, Fixed kind.Int form.OneSigned) ∷
+    (0x71, Fixed kind.Int form.Full) ∷
+    (0x55, Fixed kind.Long form.OneSigned) ∷
+    (0x81, Fixed kind.Long form.Full) ∷
+    (0x72, Fixed kind.Float form.Full) ∷
+    (0x82, Fixed kind.Double form.Full) ∷
+    (0x74, Fixed kind.Decimal32 form.Full) ∷
+    (0x84, Fixed kind.Decimal64 form.Full) ∷
+    (0x94, Fixed kind.Decimal128 form.Full) ∷
+    (0x73, Fixed kind.Char form.Full) ∷
+    (0x83, Fixed kind.Timestamp form.Full) ∷
+    (0x98, Fixed kind.Uuid form.Full) ∷
+    (0xa0, Variable kind.Binary size.One) ∷
+    (0xb0, Variable kind.Binary size.Four) ∷
+    (0xa1, Variable kind.String size.One) ∷
+    (0xb1, Variable kind.String size.Four) ∷
+    (0xa3, Variable kind.Symbol size.One) ∷
+    (0xb3, Variable kind.Symbol size.Four) ∷
+    []
+
+-- the constructor that a code stands for
+abbrev pub find_code : ℕ → Option Constructor
+find_code code = lookup (λ c. code == c) constructors
+
+-- a form of n bytes or fewer that has room for its number
+abbrev pub HasRoom : Form → ℕ → Type 0
+HasRoom form.Zero n = Unit {0}
+HasRoom form.Full n = Unit {0}
+HasRoom _ n = 1 ≤ n
+
+-- what every row of the table has: a kind of fixed width with room for the form, or one of variable width
+abbrev pub IsSound : Constructor → Type 0
+IsSound (Fixed k f) = (fixed_width k ≢ None) × HasRoom f (width k) × (8 < width k → f ≡ form.Full)
+IsSound (Variable k s) = fixed_width k ≡ None

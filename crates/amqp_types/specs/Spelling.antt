@@ -1,0 +1,65 @@
+-- Which bytes spell a value, by cases on the value. [1.2]
+use Rattle.std.specs.Prelude.{◌≡◌, ◌≢◌, ℕ, ◌+◌, ◌-◌, ◌*◌, ◌^◌, ◌<◌, nat_lt, if◌then◌else◌, List, [], ◌∷◌, ◌++◌, length, Some}
+use Rattle.std.specs.Char.{IsScalar}
+use Rattle.std.specs.Str.{IsUtf8, IsAscii}
+use Rattle.byteorder.specs.Endian.{big_bytes}
+use Rattle.amqp_types.specs.declared.kind.Kind.{Kind}
+use Rattle.amqp_types.specs.declared.kind.Kind.TheVariants as kind
+use Rattle.amqp_types.specs.declared.code.Form.{Form}
+use Rattle.amqp_types.specs.declared.code.Form.TheVariants as form
+use Rattle.amqp_types.specs.declared.code.SizeWidth.{SizeWidth}
+use Rattle.amqp_types.specs.declared.code.SizeWidth.TheVariants as size
+use Rattle.amqp_types.specs.declared.code.Constructor.TheVariants.{Fixed, Variable}
+use Rattle.amqp_types.specs.Kinds.{width}
+use Rattle.amqp_types.specs.Codes.{find_code}
+use Rattle.amqp_types.specs.Trees.{Tree, Number, Octets}
+
+-- one signed byte, in two's complement of n bytes
+abbrev pub sign_extended : ℕ → ℕ → ℕ
+sign_extended n byte = if nat_lt byte 128 then byte else 256 ^ n - 256 + byte
+
+-- the data that stands for a number of n bytes in a form [1.6]
+abbrev pub SpellsNumber : Form → ℕ → ℕ → List ℕ → Type 0
+SpellsNumber form.Zero n number text = (number ≡ 0) × (text ≡ [])
+SpellsNumber form.One n number text = (number ≡ 1) × (text ≡ [])
+SpellsNumber form.OneByte n number text = (number < 256) × (text ≡ number ∷ [])
+SpellsNumber form.OneSigned n number text = (byte : ℕ) × (byte < 256) × (number ≡ sign_extended n byte) × (text ≡ byte ∷ [])
+SpellsNumber form.Full n number text = (number < 256 ^ n) × (text ≡ big_bytes n number)
+
+-- how many bytes of data a form has
+abbrev pub form_len : Form → ℕ → ℕ
+form_len form.Zero n = 0
+form_len form.One n = 0
+form_len form.OneByte n = 1
+form_len form.OneSigned n = 1
+form_len form.Full n = n
+
+-- the size in front of variable-width data [1.2.2]
+abbrev pub size_len : SizeWidth → ℕ
+size_len size.One = 1
+size_len size.Four = 4
+
+-- the data of variable width: its size, then as many bytes [1.2.2]
+abbrev pub SpellsOctets : SizeWidth → List ℕ → List ℕ → Type 0
+SpellsOctets s octets text = (length octets < 256 ^ size_len s) × (text ≡ big_bytes (size_len s) (length octets) ++ octets)
+
+-- the numbers of a kind: a boolean's byte is 0 or 1, a char is a Unicode scalar value [1.6.2, 1.6.16]
+abbrev pub IsNumberOf : Kind → ℕ → Type 0
+IsNumberOf kind.Boolean n = n < 2
+IsNumberOf kind.Char n = IsScalar n
+IsNumberOf _ n = Unit {0}
+
+-- the bytes of a kind: a string's are UTF-8, a symbol's are ASCII [1.6.20, 1.6.21]
+abbrev pub AreOctetsOf : Kind → List ℕ → Type 0
+AreOctetsOf kind.String octets = IsUtf8 octets
+AreOctetsOf kind.Symbol octets = IsAscii octets
+AreOctetsOf _ octets = Unit {0}
+
+-- The bytes spell the value: a code of its kind, then data that stands for it.
+unfoldable pub Spells : Tree → List ℕ → Type 0
+Spells (Number k n) bytes =
+    (code : ℕ) × (f : Form) × (text : List ℕ) × (find_code code ≡ Some (Fixed k f)) × (bytes ≡ code ∷ text)
+    × SpellsNumber f (width k) n text × IsNumberOf k n
+Spells (Octets k octets) bytes =
+    (code : ℕ) × (s : SizeWidth) × (text : List ℕ) × (find_code code ≡ Some (Variable k s)) × (bytes ≡ code ∷ text)
+    × SpellsOctets s octets text × AreOctetsOf k octets

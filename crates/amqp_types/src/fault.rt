@@ -1,0 +1,51 @@
+//! Why bytes spell no value.
+
+ghost use Rattle.std.specs.Prelude.{◌≡◌};
+ghost use Rattle.amqp_types.specs.declared.fault.ReadFault.TheVariants.{NoMemory};
+
+use std::alloc::{AllocError, AllocFailed};
+
+/// The first fault from the left, with its place: bytes from the first byte of the outermost value.
+#[derive(Clone, Copy, Debug, PartialEq, Eq)]
+pub enum ReadFault {
+    /// The input ends inside a part; the place is its length.
+    Truncated(usize),
+    /// A code that no constructor has, at the code.
+    UnknownCode(usize),
+    /// A size that its parts do not fit, at the size field.
+    BadSize(usize),
+    /// A map with an odd count, at the count field.
+    BadCount(usize),
+    /// A string that is not UTF-8, at the first byte after its longest valid front.
+    BadText(usize),
+    /// A symbol with a byte at or above 0x80, at that byte.
+    BadSymbol(usize),
+    /// A char that is no Unicode scalar value, at the first of its four bytes.
+    BadChar(usize),
+    /// A boolean's byte other than 0 and 1, at that byte.
+    BadBoolean(usize),
+    /// A key that its map has already, at the later key's constructor.
+    DuplicateKey(usize),
+    /// A container deeper than the limit, at its constructor.
+    TooDeep(usize),
+    /// More nodes than the limit, where they are charged.
+    TooManyNodes(usize),
+    /// Memory for the value was refused. This has no place.
+    NoMemory,
+}
+
+impl From<AllocError> for ReadFault {
+    ghost from_gives = { λ _ e. e ≡ NoMemory };
+
+    fn from(_e: AllocError) -> ReadFault {
+        ReadFault::NoMemory
+    }
+}
+
+impl<T: Drop> From<AllocFailed<T>> for ReadFault {
+    ghost from_gives = { λ _ e. e ≡ NoMemory };
+
+    fn from(_e: AllocFailed<T>) -> ReadFault {
+        ReadFault::NoMemory
+    }
+}

@@ -1,0 +1,51 @@
+//! The kinds of values.
+
+ghost use Rattle.std.specs.Prelude.{◌≡◌};
+ghost use Rattle.amqp_types.specs.Kinds.{width, is_partial};
+
+/// The kind of a value: a primitive type of AMQP. [1.6]
+#[derive(Clone, Copy, Debug, PartialEq, Eq)]
+pub enum Kind {
+    Null,
+    Boolean,
+    Ubyte,
+    Ushort,
+    Uint,
+    Ulong,
+    Byte,
+    Short,
+    Int,
+    Long,
+    Float,
+    Double,
+    Decimal32,
+    Decimal64,
+    Decimal128,
+    Char,
+    Timestamp,
+    Uuid,
+    Binary,
+    String,
+    Symbol,
+}
+
+/// The bytes of the full form of a fixed-width kind; 0 for a kind of variable width.
+pub(crate) fn width(kind: Kind) -> usize
+    ensures { result ≡ width kind }
+{
+    match kind {
+        Kind::Null | Kind::Binary | Kind::String | Kind::Symbol => 0,
+        Kind::Boolean | Kind::Ubyte | Kind::Byte => 1,
+        Kind::Ushort | Kind::Short => 2,
+        Kind::Uint | Kind::Int | Kind::Float | Kind::Decimal32 | Kind::Char => 4,
+        Kind::Ulong | Kind::Long | Kind::Double | Kind::Decimal64 | Kind::Timestamp => 8,
+        Kind::Decimal128 | Kind::Uuid => 16,
+    }
+}
+
+/// Whether some full form of the kind stands for no number of it.
+pub(crate) fn is_partial(kind: Kind) -> bool
+    ensures { result ≡ is_partial kind }
+{
+    matches!(kind, Kind::Boolean | Kind::Char)
+}

@@ -1,0 +1,41 @@
+//! Symbols: names in ASCII.
+
+ghost use Rattle.std.specs.Prelude.{◌≡◌, ℕ, List, IsSome, IfSome, ◌↔◌, None, ◌⊎◌};
+ghost use Rattle.std.specs.Str.{IsAscii};
+
+use std::marker::Model;
+
+/// A symbol: a name of bytes below 0x80. [1.6.21]
+#[derive(Debug, Drop)]
+pub struct Symbol {
+    octets: Vec<u8>,
+}
+
+impl Model for Symbol {
+    ghost Value = { List ℕ };
+
+    ghost view = { λ s. s.octets.items };
+
+    ghost invariant = { λ s. IsAscii s.octets.items };
+}
+
+impl Symbol {
+    /// The symbol of these bytes, where each is below 0x80. Takes no memory.
+    pub fn new(octets: Vec<u8>) -> Option<Symbol>
+        ensures made { IfSome result (λ s. s ≡ octets.items) }
+        ensures ascii { IsSome result ↔ IsAscii octets.items }
+    {
+        if octets.is_ascii() {
+            Some(Symbol { octets })
+        } else {
+            None
+        }
+    }
+
+    pub fn as_bytes(&self) -> &[u8]
+        ensures octets { result.now ≡ self.now }
+        ensures ascii { IsAscii self.now }
+    {
+        &self.octets
+    }
+}

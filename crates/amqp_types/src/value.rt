@@ -1,0 +1,32 @@
+//! Values in hand.
+
+use crate::symbol::Symbol;
+
+/// A value of AMQP, read or to be written. [1.1; 1.6]
+///
+/// Floats and decimals are the bytes of their full form: no arithmetic is done on them.
+#[derive(Debug, Drop)]
+pub enum Value {
+    Null,
+    Boolean(bool),
+    Ubyte(u8),
+    Ushort(u16),
+    Uint(u32),
+    Ulong(u64),
+    Byte(i8),
+    Short(i16),
+    Int(i32),
+    Long(i64),
+    Float([u8; 4]),
+    Double([u8; 8]),
+    Decimal32([u8; 4]),
+    Decimal64([u8; 8]),
+    Decimal128([u8; 16]),
+    Char(char),
+    /// Milliseconds since the beginning of 1970, UTC.
+    Timestamp(i64),
+    Uuid([u8; 16]),
+    Binary(Vec<u8>),
+    String(String),
+    Symbol(Symbol),
+}

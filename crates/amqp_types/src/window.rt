@@ -1,0 +1,58 @@
+//! The bytes in hand, with what it means that they end.
+
+use crate::fault::ReadFault;
+use byteorder::{BigEndian, ByteOrder};
+
+/// A part that reaches past the bytes is the fault `short`; they end at the place `end`.
+#[derive(Clone, Copy)]
+pub struct Window {
+    pub short: ReadFault,
+    pub end: usize,
+}
+
+impl Window {
+    ghost use Rattle.std.specs.Prelude.{◌≡◌, ◌+◌, ◌≤◌, ◌<◌, ◌^◌, length, IfOk};
+    ghost use Rattle.amqp_types.specs.Reading.{Is, outermost, place, octets_at, big_at};
+
+    pub fn of(bytes: &[u8]) -> Window
+        ensures { result ≡ outermost bytes.now }
+    {
+        Window {
+            short: ReadFault::Truncated(bytes.len()),
+            end: bytes.len(),
+        }
+    }
+
+    /// Where the bytes that are left begin.
+    pub fn place(self, bytes: &[u8]) -> usize
+        requires { length bytes.now ≤ self.end }
+        ensures { result ≡ place self bytes.now }
+    {
+        self.end - bytes.len()
+    }
+
+    /// The next `n` bytes, and those behind them.
+    pub fn octets(self, n: usize, bytes: &[u8]) -> Result<(&[u8], &[u8]), ReadFault>
+        ensures read { Is (λ x. (x.0.now, x.1.now)) result (octets_at self n bytes.now) }
+        ensures parts { IfOk result (λ x. (length x.0.now ≡ n) × (length x.1.now + n ≡ length bytes.now)) }
+    {
+        if bytes.len() < n {
+            return Err(self.short);
+        }
+        Ok(bytes.split_at(n))
+    }
+
+    /// The number in the next `n` bytes, big-endian.
+    pub fn big(self, n: usize, bytes: &[u8]) -> Result<(u64, &[u8]), ReadFault>
+        requires some { 1 ≤ n }
+        requires eight { n ≤ 8 }
+        ensures read { Is (λ x. (x.0, x.1.now)) result (big_at self n bytes.now) }
+        ensures fits { IfOk result (λ x. x.0 < 256 ^ n) }
+        ensures rest { IfOk result (λ x. length x.1.now + n ≡ length bytes.now) }
+    {
+        if bytes.len() < n {
+            return Err(self.short);
+        }
+        Ok((BigEndian::read_uint(bytes, n), &bytes[n..]))
+    }
+}
