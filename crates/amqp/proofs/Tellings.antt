@@ -7,7 +7,7 @@ use Rattle.std.specs.List.{flat_map}
 use Rattle.amqp_frame.specs.declared.units.Stage.{Stage}
 use Rattle.amqp_frame.specs.declared.units.Stage.TheVariants.{Header, Frames, Refused, Faulty}
 use Rattle.amqp_frame.specs.Units.{StreamUnit, bytes_of, IsUnit, IsRest, IsReading, Units, due_after}
-use Rattle.amqp_frame.specs.Splits.{SplitterState, Waits, IsOne, IsHeld, IsOver, IsFull, IsEmptied}
+use Rattle.amqp_frame.specs.Splits.{SplitterState, Waits, IsOne, IsHeld, IsOver, TakesNothing, IsEmptied}
 use Rattle.amqp_frame.proofs.Readings.{each_is_read}
 use Rattle.amqp.specs.declared.scan.TheConstants.{MAX_FRAME}
 use Rattle.amqp.specs.declared.scanned.Scanned.{Scanned}
@@ -61,7 +61,7 @@ tells_unit input place taken old now new item t w goes =
     }
 
 -- where no unit waits none stood at the place
-pub rest_stands : (input : List ℕ) (place taken : ℕ) (old now : SplitterState) → Took input place taken old now → IsHeld now.limit now.stage now.filled → (taken < length (take (length input - place) (drop place input)) → IsFull now) → ((u : StreamUnit) → Waits now u → ⊥) → IsRest MAX_FRAME old.stage (drop place input)
+pub rest_stands : (input : List ℕ) (place taken : ℕ) (old now : SplitterState) → Took input place taken old now → IsHeld now.limit now.stage now.filled → (taken < length (take (length input - place) (drop place input)) → TakesNothing now) → ((u : StreamUnit) → Waits now u → ⊥) → IsRest MAX_FRAME old.stage (drop place input)
 rest_stands input place taken old now t held all none =
     let due : IsOver now.stage → ⊥ = λ over. t.ready.due (subst IsOver t.stage over) in
     let no_one : IsOne now.limit now.stage now.filled → ⊥ = λ one. none one.unit one.stands in

@@ -1,5 +1,6 @@
 -- What is told of a stream: an entry for each of its units, up to the first fault (AMQP 1.0, part 2, sections 2.2 and 2.3).
-use Rattle.std.specs.Prelude.{◌≡◌, ℕ, ◌+◌, ◌*◌, ◌==◌, Bool, true, false, List, [], ◌∷◌, length, map, Option, Some, None, option_map, Ok, Err, if◌then◌else◌}
+use Rattle.std.specs.Prelude.{◌≡◌, ℕ, ◌+◌, ◌*◌, ◌==◌, Bool, true, false, List, [], ◌∷◌, length, map, Option, Some, None, option_map, Ok, Err, if◌then◌else◌, IsTrue, ◌↔◌}
+use Rattle.std.specs.List.{list_any}
 use Rattle.std.specs.Str.{bytes_eq}
 use Rattle.amqp_frame.specs.declared.units.TheConstants.{HEADER}
 use Rattle.amqp_frame.specs.Units.{StreamUnit, HeaderUnit, FrameUnit, FaultUnit, Units, bytes_of, offset_of, channel_of, body_of}
@@ -86,3 +87,10 @@ pub record TellsOf (stream : List ℕ) (found : List Scanned) : Type 0 where
   pub rest : List ℕ
   pub reading : Units MAX_FRAME stream units rest
   pub told : map entry_of found ≡ until_fault (unit_entries 0 units rest)
+
+-- the answer is true exactly if no entry of this stream's units, nor of the rest behind them, is a fault
+pub record IsClean (stream : List ℕ) (answer : Bool) : Type 0 where
+  pub units : List StreamUnit
+  pub rest : List ℕ
+  pub reading : Units MAX_FRAME stream units rest
+  pub faultless : IsTrue answer ↔ (list_any is_fault (unit_entries 0 units rest) ≡ false)

@@ -1,7 +1,9 @@
 //! `amqp dump`: the header and the frames of one direction of a connection, printed as lines.
 
-ghost use Rattle.std.specs.Prelude.{◌≡◌, ◌≢◌, ◌↔◌, ◌<◌, ◌≤◌, length, IsTrue, OnOk, Err};
-ghost use Rattle.amqp_frame.specs.Devices.{has_failed, has_ended};
+ghost use Rattle.std.specs.Prelude.{◌≡◌, ◌≢◌, ◌↔◌, ℕ, ◌-◌, ◌^◌, ◌<◌, ◌≤◌, List, false, length, IsTrue, IfOk, OnOk, Err};
+ghost use Rattle.std.specs.Io.KnownBytes.{IsAtEnd, Consumes};
+ghost use Rattle.amqp_frame.specs.Devices.{device_inner, has_failed, has_ended, reads_left};
+ghost use Rattle.amqp.specs.Entries.{IsClean};
 ghost use Rattle.amqp.specs.declared.dump.DumpFault.TheVariants.{NoMemory};
 
 use crate::lines::write_line;
@@ -53,6 +55,10 @@ pub fn dump<R: Read + Drop, W: Write + Drop>(
     ensures read { (result ≡ Err DumpFault.Read) ↔ IsTrue (has_failed reader.new) }
     ensures write { (result ≡ Err DumpFault.Write) ↔ IsTrue (has_failed writer.new) }
     ensures ended { OnOk result (IsTrue (has_ended reader.new)) }
+
+    // The answer is of all the bytes that the reader gave, and a reader that was not yet asked gave all that it had.
+    ensures answer { IfOk result (λ b. (input : List ℕ) × Consumes (R.remaining (device_inner reader.old)) (R.remaining (device_inner reader.new)) input × IsClean input b) }
+    ensures whole { has_ended reader.old ≡ false → reads_left reader.old ≡ 2 ^ 64 - 1 → OnOk result (IsAtEnd (R.remaining (device_inner reader.new))) }
 {
     let input = read_all(alloc, reader)?;
     print_units(alloc, &input, writer)
@@ -64,6 +70,8 @@ fn read_all<R: Read + Drop>(alloc: Global, reader: &mut Device<R>) -> Result<Vec
     ensures read { (result ≡ Err DumpFault.Read) ↔ IsTrue (has_failed reader.new) }
     ensures write { result ≢ Err DumpFault.Write }
     ensures ended { OnOk result (IsTrue (has_ended reader.new)) }
+    ensures bytes { IfOk result (λ input. Consumes (R.remaining (device_inner reader.old)) (R.remaining (device_inner reader.new)) input.items) }
+    ensures whole { has_ended reader.old ≡ false → reads_left reader.old ≡ 2 ^ 64 - 1 → OnOk result (IsAtEnd (R.remaining (device_inner reader.new))) }
 {
     let mut input = Vec::new(alloc);
     let mut piece = vec![in alloc; 0u8; PIECE]?;
@@ -86,11 +94,11 @@ fn print_units<W: Write + Drop>(
     requires { ¬ (IsTrue (has_failed writer.old)) }
     ensures read { result ≢ Err DumpFault.Read }
     ensures write { (result ≡ Err DumpFault.Write) ↔ IsTrue (has_failed writer.new) }
+    ensures answer { IfOk result (IsClean input.now) }
 {
     let mut splitter = Splitter::new(alloc, MAX_FRAME)?;
     let mut lines = String::with_capacity(alloc, PIECE)?;
     let mut at = 0;
-    let mut is_clean = true;
     while let Some(item) = next_unit(alloc, &mut splitter, input, &mut at)? {
         write_line(alloc, &mut lines, &item)?;
         if lines.len() >= PIECE {
@@ -98,12 +106,12 @@ fn print_units<W: Write + Drop>(
             lines.clear();
         }
         if item.is_fault() {
-            is_clean = false;
-            break;
+            write_out(&lines, writer)?;
+            return Ok(false);
         }
     }
     write_out(&lines, writer)?;
-    Ok(is_clean)
+    Ok(true)
 }
 
 /// Writes all of the text.

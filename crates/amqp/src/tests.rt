@@ -30,7 +30,7 @@ fn behind_header(alloc: Global, bytes: &[u8]) -> Result<Vec<u8>, AllocError> {
 #[test]
 fn prints_a_line_for_each_frame(rt: HostRuntime) -> Result<(), Fail> {
     let alloc = rt.alloc();
-    let cases: [(&[u8], &[u8]); 8] = [
+    let cases: [(&[u8], &[u8]); 10] = [
         (
             b"\x00\x00\x00\x0a\x02\x00\x00\x03\x56\x01",
             b"8 size=10 channel=3 value true payload=0\n",
@@ -48,6 +48,8 @@ fn prints_a_line_for_each_frame(rt: HostRuntime) -> Result<(), Fail> {
             b"8 size=13 channel=0 value float:3f800000 payload=0\n",
         ),
         (b"\x00\x00\x00\x08\x01\x00\x00\x00", b"fault: 8 BadOffset\n"),
+        (b"\x00\x00\x00\x20\x01\x00\x00\x00", b"fault: 8 BadOffset\n"),
+        (b"\x00\x00\x00\x20\x02\x01\x00\x00", b"fault: 8 BadType\n"),
         (b"\x00\x00\x00", b"fault: 8 Cut\n"),
         (
             b"\x00\x00\x00\x08\x02\x00\x00\x00\x00\x00\x00\x0b\x02\x00\x00\x00\x56\x02\x40",

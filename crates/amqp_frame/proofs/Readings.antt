@@ -3,7 +3,7 @@ use Rattle.std.proofs.Common.{◌≡◌, ℕ, zero, suc, ◌+◌, ◌<◌, ◌�
 use Rattle.std.specs.List.{flat_map}
 use Rattle.std.proofs.lemmas.List.{length-append, append_assoc, append-nil}
 use Rattle.amqp_frame.specs.Units.{StreamUnit, bytes_of, IsUnit, IsRest, IsReading, Units, due_after}
-use Rattle.amqp_frame.specs.Splits.{SplitterState, Waits, IsOne, IsHeld, IsOver, IsFull, WentBy}
+use Rattle.amqp_frame.specs.Splits.{SplitterState, Waits, IsOne, IsHeld, IsOver, TakesNothing, WentBy}
 use Rattle.amqp_frame.specs.declared.units.Stage.{Stage}
 use Rattle.amqp_frame.specs.declared.units.Stage.TheVariants.{Header, Frames, Refused, Faulty}
 use Rattle.amqp_frame.proofs.Fronts.{HasFront, front, frame_length, header_exact, one_front}
@@ -104,7 +104,7 @@ went_on s us taken more r w = record {
 }
 
 -- what a splitter that took all it could makes of all bytes, taken or not
-pub reading_ends : (s : SplitterState) (us : List StreamUnit) (taken more : List ℕ) → IsHeld s.limit s.stage s.filled → ((u : StreamUnit) → Waits s u → ⊥) → (0 < length more → IsFull s) → WentBy s us taken → Units s.limit (taken ++ more) us (s.filled ++ more)
+pub reading_ends : (s : SplitterState) (us : List StreamUnit) (taken more : List ℕ) → IsHeld s.limit s.stage s.filled → ((u : StreamUnit) → Waits s u → ⊥) → (0 < length more → TakesNothing s) → WentBy s us taken → Units s.limit (taken ++ more) us (s.filled ++ more)
 reading_ends s us taken [] held none full w =
     went_on s us taken [] (rw append-nil (held_rest s.limit s.stage s.filled held (λ o. none o.unit o.stands))) w
 reading_ends s us taken (x ∷ more) held none full w =

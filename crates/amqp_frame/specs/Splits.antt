@@ -67,8 +67,8 @@ abbrev pub Waits : SplitterState → StreamUnit → Type 0
 Waits s u = Stands s.limit s.stage s.filled u
 
 -- a unit waits, or nothing is taken any more
-abbrev pub IsFull : SplitterState → Type 0
-IsFull s = IsOne s.limit s.stage s.filled ⊎ IsOver s.stage
+abbrev pub TakesNothing : SplitterState → Type 0
+TakesNothing s = IsOne s.limit s.stage s.filled ⊎ IsOver s.stage
 
 -- nothing but the reserved bytes may differ
 pub record IsUnchanged (old new : SplitterState) : Type 0 where

@@ -1,7 +1,7 @@
 //! Facts of streams alone, whoever cuts them. The calls do nothing: their contracts are the laws.
 ghost use Rattle.std.specs.Prelude.{◌≡◌, ℕ, ◌<◌, ◌≤◌, List, ◌∷◌, [], ◌++◌, length};
 ghost use Rattle.amqp_frame.specs.Units.{StreamUnit, bytes_of, IsUnit, IsReading, Units, due_after};
-ghost use Rattle.amqp_frame.specs.Splits.{SplitterState, Waits, IsHeld, IsFull, IsOver, WentBy};
+ghost use Rattle.amqp_frame.specs.Splits.{SplitterState, Waits, IsHeld, TakesNothing, IsOver, WentBy};
 ghost use Rattle.amqp_frame.specs.declared.units.Stage.{Stage};
 
 /// No unit begins another.
@@ -27,7 +27,7 @@ pub fn one_reading()
 /// Where no unit waits and the splitter took all that it takes, the units that went by are those
 /// of the whole stream, and what it holds is the rest, with whatever it did not take.
 pub fn reading_ends()
-    ensures { (s : SplitterState) (us : List StreamUnit) (taken more : List ℕ) → IsHeld s.limit s.stage s.filled → ((u : StreamUnit) → Waits s u → ⊥) → (0 < length more → IsFull s) → WentBy s us taken → Units s.limit (taken ++ more) us (s.filled ++ more) }
+    ensures { (s : SplitterState) (us : List StreamUnit) (taken more : List ℕ) → IsHeld s.limit s.stage s.filled → ((u : StreamUnit) → Waits s u → ⊥) → (0 < length more → TakesNothing s) → WentBy s us taken → Units s.limit (taken ++ more) us (s.filled ++ more) }
 {}
 
 /// Where the last unit waits, a header that is refused or a fault, it ends the units of the whole

@@ -1,7 +1,7 @@
 //! Cutting a stream into its units.
 ghost use Rattle.std.specs.Prelude.{◌≡◌, ℕ, ◌+◌, ◌*◌, ◌⊎◌, ◌<◌, ◌≤◌, ◌++◌, [], ◌∷◌, List, length, take, IfOk, IfSome, IfNone, IsTrue, ◌↔◌, vec_capacity};
 ghost use Rattle.amqp_frame.specs.Units.{StreamUnit, HeaderUnit, IsRest, due_after, offset_of, channel_of, body_of};
-ghost use Rattle.amqp_frame.specs.Splits.{IsHeld, IsWanted, IsOver, IsFull, IsOne, Waits, IsUnchanged, IsEmptied, IsFrameAnswer, IsNext, WentBy};
+ghost use Rattle.amqp_frame.specs.Splits.{IsHeld, IsWanted, IsOver, TakesNothing, IsOne, Waits, IsUnchanged, IsEmptied, IsFrameAnswer, IsNext, WentBy};
 
 use crate::units::{Frame, FrameFault, HEADER, Progress, Stage, progress_of};
 use byteorder::{BigEndian, ByteOrder};
@@ -54,9 +54,9 @@ impl<A: Allocator + Copy> Splitter<A> {
         ensures filled { self.new.filled ≡ self.old.filled ++ take result piece.now }
 
         // It stops only where a unit waits or nothing is taken, and takes nothing there.
-        ensures all { result < length piece.now → IsFull self.new }
-        ensures full { IsFull self.old → result ≡ 0 }
-        ensures some { result ≡ 0 → 0 < length piece.now → IsFull self.old }
+        ensures all { result < length piece.now → TakesNothing self.new }
+        ensures full { TakesNothing self.old → result ≡ 0 }
+        ensures some { result ≡ 0 → 0 < length piece.now → TakesNothing self.old }
 
         // What is held is less than a unit or one unit, and was less before the last byte.
         ensures held { IsHeld self.new.limit self.new.stage self.new.filled }
@@ -131,6 +131,7 @@ impl<A: Allocator + Copy> Splitter<A> {
         ensures none { IfNone result (self.old.filled ≡ []) }
         ensures goes { (u : StreamUnit) → Waits self.old u → IsEmptied self.old self.new (due_after u) }
         ensures rest { (IsOne self.old.limit self.old.stage self.old.filled → ⊥) → IsEmptied self.old self.new self.old.stage }
+        ensures held { IsHeld self.new.limit self.new.stage self.new.filled }
     {
         let len = self.len();
         self.drop_frame();

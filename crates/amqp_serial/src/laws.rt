@@ -1,6 +1,6 @@
 //! Laws of sequence numbers, over the definitions alone. Each function does nothing: its contract is the law.
 
-ghost use Rattle.std.specs.Prelude.{ℕ, ◌≡◌, ◌↔◌, ◌^◌, ◌<◌};
+ghost use Rattle.std.specs.Prelude.{ℕ, ◌≡◌, ◌↔◌, ◌^◌, ◌<◌, ◌≤◌};
 ghost use Rattle.amqp_serial.specs.Numbers.{sum_of, distance_of, IsBefore, IsInRange, IsAddition, IsWithin};
 
 use crate::Serial;
@@ -29,8 +29,8 @@ pub fn before_is_an_addition(a: Serial, b: Serial)
 {}
 
 /// A range holds the numbers that lie 0 to `distance` steps after its first one, and none where its last
-/// is behind its first.
+/// is behind its first: 2147483648 steps or more after it.
 pub fn range_is_counted(first: Serial, last: Serial, x: Serial)
     ensures counted { distance_of first.0 last.0 < 2 ^ 31 → (IsInRange first.0 last.0 x.0 ↔ IsWithin first.0 (distance_of first.0 last.0) x.0) }
-    ensures behind { IsBefore last.0 first.0 → IsInRange first.0 last.0 x.0 → ⊥ }
+    ensures behind { 2 ^ 31 ≤ distance_of first.0 last.0 → IsInRange first.0 last.0 x.0 → ⊥ }
 {}

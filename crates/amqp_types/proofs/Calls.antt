@@ -53,7 +53,7 @@ pub skip_misread : (bytes : List ℕ) (r : Result ℕ ReadFault) → IsBytes byt
 skip_misread bytes (Ok n) fits is = tt
 skip_misread bytes (Err e) fits is = value_misread (outermost bytes) bytes e fits (after_err (value_of bytes) e is)
 
-again : (bytes : List ℕ) (t : Tree) (text rest : List ℕ) → Spells t text → bytes ≡ text ++ rest → value_of bytes ≡ Ok (t, rest)
+pub again : (bytes : List ℕ) (t : Tree) (text rest : List ℕ) → Spells t text → bytes ≡ text ++ rest → value_of bytes ≡ Ok (t, rest)
 again bytes t text rest spelled is = ap (value_at (outermost bytes)) is ∙ value_again (outermost bytes) t text rest spelled
 
 pub skip_only : (bytes : List ℕ) (r : Result ℕ ReadFault) (t : Tree) (text rest : List ℕ) → IfOk r (λ n. n ≤ length bytes) → Is (λ n. drop n bytes) r (after (value_of bytes)) → Spells t text → bytes ≡ text ++ rest → r ≡ Ok (length text)
@@ -110,3 +110,12 @@ one_spelling t u a b x y first second same =
     let both = ok_is (t, x) (u, y) (sym (value_again w t a x first) ∙ ap (value_at w) same ∙ value_again w u b y second) in
     let rest : x ≡ y = ap (λ (p : Tree × List ℕ). p.1) both in
     (append_cancel_right a b y (subst (λ (r : List ℕ). a ++ r ≡ b ++ y) rest same), ap (λ (p : Tree × List ℕ). p.0) both)
+
+pub reading_found : (bytes rest : List ℕ) (t : Tree) → IsBytes bytes → value_of bytes ≡ Ok (t, rest) → (text : List ℕ) × Spells t text × (bytes ≡ text ++ rest)
+reading_found bytes rest t fits e = let s = value_sound (outermost bytes) bytes (t, rest) fits e in (s.0, s.2, s.1)
+
+pub reading_only : (t : Tree) (text rest : List ℕ) → Spells t text → value_of (text ++ rest) ≡ Ok (t, rest)
+reading_only t text rest spelled = again (text ++ rest) t text rest spelled refl
+
+pub reading_misread : (bytes : List ℕ) (fault : ReadFault) → IsBytes bytes → value_of bytes ≡ Err fault → Misread (outermost bytes) bytes fault
+reading_misread bytes fault fits e = value_misread (outermost bytes) bytes fault fits e

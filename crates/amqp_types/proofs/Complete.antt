@@ -23,12 +23,12 @@ use Rattle.amqp_types.specs.Trees.{Tree, Number, Octets}
 use Rattle.amqp_types.specs.Spelling.{sign_extended, size_len, SpellsNumber, SpellsOctets, IsNumberOf, AreOctetsOf, Spells}
 use Rattle.amqp_types.specs.Reading.{Read, ◌>>=◌, unless, place, number_fault, octets_fault, octets_at, big_at, form_at, number_at, sized_at, known, constructor_at, data_at, value_at, is_beyond_ascii}
 
-octets_again : (w : Window) (n : ℕ) (octets rest : List ℕ) → length octets ≡ n → octets_at w n (octets ++ rest) ≡ Ok (octets, rest)
+pub octets_again : (w : Window) (n : ℕ) (octets rest : List ℕ) → length octets ≡ n → octets_at w n (octets ++ rest) ≡ Ok (octets, rest)
 octets_again w n octets rest len =
     let long : ltb (length (octets ++ rest)) n ≡ false = le-ltb _ _ (omega (arith, length-append octets rest)) in
     rw (long, take_at octets rest n len, drop_at octets rest n len) refl
 
-big_again : (w : Window) (n x : ℕ) (rest : List ℕ) → x < 256 ^ n → big_at w n (big_bytes n x ++ rest) ≡ Ok (x, rest)
+pub big_again : (w : Window) (n x : ℕ) (rest : List ℕ) → x < 256 ^ n → big_at w n (big_bytes n x ++ rest) ≡ Ok (x, rest)
 big_again w n x rest lt =
     let len = length-bytes_high_first n x in
     let long : ltb (length (big_bytes n x ++ rest)) n ≡ false = le-ltb _ _ (omega (arith, length-append (big_bytes n x) rest)) in
@@ -39,7 +39,7 @@ byte_again w b rest lt =
     let one : b % 256 ≡ b = omega arith in
     subst (λ (x : ℕ). big_at w 1 (x ∷ rest) ≡ Ok (b, rest)) one (big_again w 1 b rest lt)
 
-form_again : (w : Window) (f : Form) (n x : ℕ) (text rest : List ℕ) → SpellsNumber f n x text → form_at w f n (text ++ rest) ≡ Ok (x, rest)
+pub form_again : (w : Window) (f : Form) (n x : ℕ) (text rest : List ℕ) → SpellsNumber f n x text → form_at w f n (text ++ rest) ≡ Ok (x, rest)
 unfolding form_at
 form_again w form.Zero n x text rest h = rw (h.1, h.0) refl
 form_again w form.One n x text rest h = rw (h.1, h.0) refl

@@ -5,3 +5,4 @@ pub mod Sound
 pub mod Complete
 pub mod Misreads
 pub mod Calls
+pub mod Exclusive

@@ -102,7 +102,7 @@ text_sound : (b : Bool) (at : ℕ) → cond b None (Some (BadText at)) ≡ None 
 text_sound true at e = refl
 text_sound false at e = absurd cc
 
-number_of_kind : (k : Kind) (at n : ℕ) → number_fault k at n ≡ None → IsNumberOf k n
+pub number_of_kind : (k : Kind) (at n : ℕ) → number_fault k at n ≡ None → IsNumberOf k n
 number_of_kind kind.Boolean at n e = ltb-true n 2 (boolean_sound (ltb n 2) at n e)
 number_of_kind kind.Char at n e = char_sound _ at e
 number_of_kind _ at n e = tt
@@ -134,7 +134,7 @@ IsAscii-from_position octets e i =
       | inr le ↦ rw (get_or_past octets i 0 le) (omega arith)
     ]
 
-octets_of_kind : (k : Kind) (at : ℕ) (octets : List ℕ) → octets_fault k at octets ≡ None → AreOctetsOf k octets
+pub octets_of_kind : (k : Kind) (at : ℕ) (octets : List ℕ) → octets_fault k at octets ≡ None → AreOctetsOf k octets
 octets_of_kind kind.String at octets e = IsUtf8-from_is_utf8 octets (text_sound _ _ e)
 octets_of_kind kind.Symbol at octets e = IsAscii-from_position octets (unmapped _ _ e)
 octets_of_kind _ at octets e = tt

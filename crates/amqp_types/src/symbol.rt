@@ -3,6 +3,7 @@
 ghost use Rattle.std.specs.Prelude.{◌≡◌, ℕ, List, IsSome, IfSome, ◌↔◌, None, ◌⊎◌};
 ghost use Rattle.std.specs.Str.{IsAscii};
 
+use std::alloc::Global;
 use std::marker::Model;
 
 /// A symbol: a name of bytes below 0x80. [1.6.21]
@@ -37,5 +38,12 @@ impl Symbol {
         ensures ascii { IsAscii self.now }
     {
         &self.octets
+    }
+
+    /// The bytes of the symbol, given back. Takes no memory.
+    pub fn into_bytes(self) -> Vec<u8>
+        ensures { result.items ≡ self }
+    {
+        self.octets
     }
 }

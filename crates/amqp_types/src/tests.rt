@@ -126,6 +126,9 @@ fn symbols_are_ascii(rt: HostRuntime) -> Result<(), Fail> {
     let name = Symbol::new([0x61, 0x7f].to_vec(rt.alloc())?).ok_or("ASCII")?;
     assert_eq!(rt; name.as_bytes(), [0x61, 0x7f].as_slice());
     assert!(rt; Symbol::new([0x61, 0x80].to_vec(rt.alloc())?).is_none());
+    assert_eq!(rt; name.into_bytes().as_slice(), [0x61, 0x7f].as_slice());
     laws::one_spelling();
+    laws::reading_is_exact();
+    laws::no_spelling_is_misread();
     Ok(())
 }

@@ -1,7 +1,7 @@
 use Rattle.std.proofs.Common.{◌≡◌, ℕ, ◌+◌, ◌-◌, ◌<◌, List, [], ◌∷◌, ◌++◌, length, take, drop, refl, sym, ap, ◌∙◌, subst, arith, length-append, length-drop}
 use Rattle.std.proofs.lemmas.List.{take-append-drop, length-take}
 use Rattle.amqp_frame.specs.Units.{StreamUnit, Units, due_after}
-use Rattle.amqp_frame.specs.Splits.{SplitterState, IsOne, IsHeld, IsFull, IsEmptied, WentBy}
+use Rattle.amqp_frame.specs.Splits.{SplitterState, IsOne, IsHeld, TakesNothing, IsEmptied, WentBy}
 use Rattle.amqp_frame.proofs.Fronts.{taken_more, length_rest}
 use Rattle.amqp_frame.proofs.Readings.{unit_length, reading_ends}
 use Rattle.amqp_frame.proofs.tests.count_units.Goals as goal
@@ -12,7 +12,7 @@ abbrev Counted : ℕ → List ℕ → ℕ → ℕ → Type 0
 Counted max input count behind =
     (us : List StreamUnit) × (rest : List ℕ) × Units max input us rest × (count ≡ length us) × (behind ≡ length rest)
 
-ends : (max : ℕ) (s : SplitterState) (us : List StreamUnit) (input : List ℕ) (at count : ℕ) → s.limit ≡ max → IsHeld s.limit s.stage s.filled → (IsOne s.limit s.stage s.filled → ⊥) → (0 < length (drop at input) → IsFull s) → WentBy s us (take at input) → count ≡ length us → Counted max input count (length s.filled + (length input - at))
+ends : (max : ℕ) (s : SplitterState) (us : List StreamUnit) (input : List ℕ) (at count : ℕ) → s.limit ≡ max → IsHeld s.limit s.stage s.filled → (IsOne s.limit s.stage s.filled → ⊥) → (0 < length (drop at input) → TakesNothing s) → WentBy s us (take at input) → count ≡ length us → Counted max input count (length s.filled + (length input - at))
 ends max s us input at count limit held none full went e =
     let all = reading_ends s us (take at input) (drop at input) held (λ u w. none (record { unit = u; stands = w })) full went in
     let reading : Units max input us (s.filled ++ drop at input) =
