@@ -1,5 +1,5 @@
 //! A reader or a writer that keeps its first failure.
-ghost use Rattle.std.specs.Prelude.{◌≡◌, ◌+◌, ◌-◌, ◌^◌, ◌<◌, ◌≤◌, ◌↔◌, true, false, length, take, IfOk, IsErr, IsTrue, MatchResult, Ok, OnErr, OnOk};
+ghost use Rattle.std.specs.Prelude.{◌≡◌, ◌+◌, ◌-◌, ◌^◌, ◌<◌, ◌≤◌, ◌↔◌, true, false, length, take, IfOk, IsErr, IsTrue, MatchResult, Err, Ok, OnErr, OnOk};
 ghost use Rattle.std.specs.Io.KnownBytes.{IsAtEnd, Consumes, Keeps, WriteAppends};
 ghost use Rattle.amqp_frame.specs.Devices.{device_inner, has_failed, has_ended, reads_left, reads_ahead};
 
@@ -47,11 +47,29 @@ impl<T> Device<T> {
 
     /// Marks it.
     fn fail(&mut self, error: io::Error) -> io::Result<usize>
-        ensures err { IsErr result }
+        ensures err { result ≡ Err error }
         ensures marked { self.new ≡ record self.old { failed = true } }
     {
         self.failed = true;
         Err(error)
+    }
+
+    /// Takes note of what its reader answered: an error marks it, and 0 is its end.
+    fn told(&mut self, answer: io::Result<usize>) -> io::Result<usize>
+        ensures same { result ≡ answer }
+        ensures marked { OnErr answer (self.new ≡ record self.old { failed = true }) }
+        ensures inner { device_inner self.new ≡ device_inner self.old }
+        ensures reads { reads_left self.new ≡ reads_left self.old }
+        ensures unmarked { OnOk answer (has_failed self.new ≡ has_failed self.old) }
+        ensures ended { IfOk answer (λ n. (n ≡ 0) ↔ IsTrue (has_ended self.new)) }
+    {
+        match answer {
+            Ok(count) => {
+                self.ended = count == 0;
+                Ok(count)
+            }
+            Err(error) => self.fail(error),
+        }
     }
 }
 
@@ -91,13 +109,8 @@ impl<R: Read> Device<R> {
             return Ok(0);
         }
         self.reads_left -= 1;
-        match self.inner.read(buf) {
-            Ok(count) => {
-                self.ended = count == 0;
-                Ok(count)
-            }
-            Err(error) => self.fail(error),
-        }
+        let answer = self.inner.read(buf);
+        self.told(answer)
     }
 }
 

@@ -33,6 +33,7 @@ impl Symbol {
         }
     }
 
+    /// The bytes of the symbol, each below 0x80.
     pub fn as_bytes(&self) -> &[u8]
         ensures octets { result.now ≡ self.now }
         ensures ascii { IsAscii self.now }
