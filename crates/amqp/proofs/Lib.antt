@@ -1,3 +1,2 @@
 pub mod Clean
-pub mod Places
 pub mod Tellings

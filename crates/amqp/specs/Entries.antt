@@ -4,12 +4,12 @@ use Rattle.std.specs.List.{list_any}
 use Rattle.std.specs.Str.{bytes_eq}
 use Rattle.amqp_frame.specs.declared.units.TheConstants.{HEADER}
 use Rattle.amqp_frame.specs.Units.{StreamUnit, HeaderUnit, FrameUnit, FaultUnit, Units, bytes_of, offset_of, channel_of, body_of}
-use Rattle.amqp_types.specs.declared.fault.ReadFault.{ReadFault}
-use Rattle.amqp_types.specs.declared.fault.ReadFault.TheVariants.{Truncated, UnknownCode, BadSize, BadCount, BadText, BadSymbol, BadChar, BadBoolean, DuplicateKey, TooDeep, TooManyNodes, NoMemory}
 use Rattle.amqp_types.specs.Trees.{Tree}
 use Rattle.amqp_types.specs.Values.{view}
-use Rattle.amqp_types.specs.Reading.{Read, value_of}
-use Rattle.amqp.specs.declared.scan.TheConstants.{MAX_FRAME}
+use Rattle.amqp_types.specs.Reading.{Read}
+use Rattle.amqp_types.specs.Decoding.{decoded}
+use Rattle.amqp_types.specs.Places.{place_of}
+use Rattle.amqp.specs.declared.scan.TheConstants.{MAX_FRAME, LIMITS}
 use Rattle.amqp.specs.declared.scanned.Scanned.{Scanned}
 use Rattle.amqp.specs.declared.scanned.Scanned.TheVariants as scanned
 use Rattle.amqp.specs.declared.scanned.StreamFault.{StreamFault}
@@ -27,21 +27,6 @@ entry_of scanned.Header = HeaderEntry
 entry_of (scanned.Frame frame) = FrameEntry frame.place frame.size frame.channel (option_map view frame.value) frame.payload
 entry_of (scanned.Fault place fault) = FaultEntry place fault
 
--- the place of a fault in what was read
-abbrev pub place_of : ReadFault → ℕ
-place_of (Truncated place) = place
-place_of (UnknownCode place) = place
-place_of (BadSize place) = place
-place_of (BadCount place) = place
-place_of (BadText place) = place
-place_of (BadSymbol place) = place
-place_of (BadChar place) = place
-place_of (BadBoolean place) = place
-place_of (DuplicateKey place) = place
-place_of (TooDeep place) = place
-place_of (TooManyNodes place) = place
-place_of NoMemory = 0
-
 -- the entry of a frame by what its body, which begins at a place in the frame, is read as: the value and the payload behind it, or the fault there
 abbrev pub read_entry : (place size channel start : ℕ) → Read Tree → Entry
 read_entry place size channel start (Ok read) = FrameEntry place size channel (Some read.0) (length read.1)
@@ -49,7 +34,7 @@ read_entry place size channel start (Err fault) = FaultEntry (place + start + pl
 
 -- the entry of a frame by its body: where there is none it has no value
 abbrev pub body_entry : (place size channel start : ℕ) → List ℕ → Entry
-body_entry place size channel start body = if length body == 0 then FrameEntry place size channel None 0 else read_entry place size channel start (value_of body)
+body_entry place size channel start body = if length body == 0 then FrameEntry place size channel None 0 else read_entry place size channel start (decoded LIMITS.depth LIMITS.nodes body)
 
 -- the entry of the eight bytes in the header's place
 abbrev pub header_entry : ℕ → List ℕ → Entry

@@ -3,11 +3,12 @@
 ghost use Rattle.std.specs.Prelude.{◌≡◌, ◌≢◌, ◌↔◌, ℕ, ◌-◌, ◌^◌, ◌<◌, ◌≤◌, List, false, length, IsTrue, IfOk, OnOk, Err};
 ghost use Rattle.std.specs.Io.KnownBytes.{IsAtEnd, Consumes};
 ghost use Rattle.amqp_frame.specs.Devices.{device_inner, has_failed, has_ended, reads_left};
-ghost use Rattle.amqp.specs.Entries.{IsClean};
+ghost use Rattle.amqp.specs.Entries.{entry_of, is_fault, IsClean};
 ghost use Rattle.amqp.specs.declared.dump.DumpFault.TheVariants.{NoMemory};
 
 use crate::lines::write_line;
 use crate::scan::{MAX_FRAME, next_unit};
+use crate::scanned::Scanned;
 use amqp_frame::{Device, Splitter};
 use std::alloc::{AllocError, Global};
 use std::io::{Read, Write};
@@ -100,18 +101,35 @@ fn print_units<W: Write + Drop>(
     let mut lines = String::with_capacity(alloc, PIECE)?;
     let mut at = 0;
     while let Some(item) = next_unit(alloc, &mut splitter, input, &mut at)? {
-        write_line(alloc, &mut lines, &item)?;
-        if lines.len() >= PIECE {
-            write_out(&lines, writer)?;
-            lines.clear();
-        }
-        if item.is_fault() {
-            write_out(&lines, writer)?;
+        let is_fault = print_unit(alloc, item, &mut lines, writer)?;
+        if is_fault {
             return Ok(false);
         }
     }
     write_out(&lines, writer)?;
     Ok(true)
+}
+
+/// Appends the line of a unit to those that wait, and writes them where they are many or the last is a
+/// fault. Says whether it is one.
+fn print_unit<W: Write + Drop>(
+    alloc: Global,
+    item: Scanned,
+    lines: &mut String,
+    writer: &mut Device<W>,
+) -> Result<bool, DumpFault>
+    requires { ¬ (IsTrue (has_failed writer.old)) }
+    ensures read { result ≢ Err DumpFault.Read }
+    ensures write { (result ≡ Err DumpFault.Write) ↔ IsTrue (has_failed writer.new) }
+    ensures fault { IfOk result (λ b. b ≡ is_fault (entry_of item)) }
+{
+    write_line(alloc, lines, &item)?;
+    let is_fault = item.is_fault();
+    if is_fault || lines.len() >= PIECE {
+        write_out(lines, writer)?;
+        lines.clear();
+    }
+    Ok(is_fault)
 }
 
 /// Writes all of the text.

@@ -1,5 +1,8 @@
 //! Runs the command that the command line asks for.
 
+ghost use Rattle.std.specs.Prelude.{◌≡◌};
+ghost use Rattle.amqp.specs.declared.run.Fault.TheVariants.{NoMemory};
+
 use crate::command::{Order, command_line, order_of};
 use crate::dump::{DumpFault, dump};
 use amqp_frame::Device;
@@ -25,6 +28,8 @@ enum Fault {
 }
 
 impl From<AllocError> for Fault {
+    ghost from_gives = { λ _ e. e ≡ NoMemory };
+
     fn from(_e: AllocError) -> Fault {
         Fault::NoMemory
     }

@@ -4,19 +4,26 @@
 ghost use Rattle.std.specs.Prelude.{◌≡◌, ◌≢◌, ℕ, ◌+◌, ◌-◌, ◌^◌, ◌<◌, ◌≤◌, [], ◌∷◌, length, drop, IfOk, OnOk, MatchOption};
 ghost use Rattle.std.specs.Str.{bytes_eq};
 ghost use Rattle.amqp_frame.specs.Splits.{IsOver};
-ghost use Rattle.amqp.specs.Entries.{entry_of, header_entry, body_entry, read_entry, rest_entries, place_of, TellsOf};
+ghost use Rattle.amqp_types.specs.Places.{place_of};
+ghost use Rattle.amqp.specs.Entries.{entry_of, header_entry, body_entry, read_entry, rest_entries, TellsOf};
 ghost use Rattle.amqp.specs.Steps.{IsWaiting, IsReady, IsNext, GoesOn};
 
 use crate::scanned::{Scanned, ScannedFrame, StreamFault};
 use amqp_frame::{Frame, HEADER, Splitter};
-use amqp_types::{ReadFault, decode};
+use amqp_types::{Limits, ReadFault, decode};
 use std::alloc::{AllocError, Global};
 
 /// The largest frame that is read, in bytes.
 pub const MAX_FRAME: usize = 1048576;
 
-/// The units of `input`, in order, read with frames of at most [`MAX_FRAME`] bytes. The first fault is the
-/// last item.
+/// How much of the value at the front of a body is read.
+pub const LIMITS: Limits = Limits {
+    depth: 32,
+    nodes: 65536,
+};
+
+/// The units of `input`, in order, read with frames of at most [`MAX_FRAME`] bytes and values within
+/// [`LIMITS`]: 32 levels of depth and 65536 nodes. The first fault is the last item.
 pub fn scan(alloc: Global, input: &[u8]) -> Result<Vec<Scanned>, AllocError>
     ensures { IfOk result (λ found. TellsOf input.now found.items) }
 {
@@ -107,7 +114,7 @@ fn told_frame(
             payload: 0,
         }));
     }
-    match decode(alloc, frame.body) {
+    match decode(alloc, frame.body, LIMITS) {
         Ok((value, length)) => Ok(Scanned::Frame(ScannedFrame {
             place,
             size,

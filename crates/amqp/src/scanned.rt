@@ -40,7 +40,8 @@ pub enum StreamFault {
     Cut,
     /// A frame that is none.
     Frame(FrameFault),
-    /// A body whose front spells no value. The place in the fault counts from the body's first byte.
+    /// A body whose front spells no value, or none within the limits. The place in the fault counts from
+    /// the first byte of the body.
     Value(ReadFault),
 }
 

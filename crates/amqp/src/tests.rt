@@ -1,12 +1,13 @@
 use crate::dump::{DumpFault, dump};
-use crate::scan::scan;
+use crate::scan::{LIMITS, scan};
 use crate::scanned::Scanned;
 use crate::text::write_value;
 use amqp_frame::{Device, HEADER};
-use amqp_types::{Symbol, Value};
+use amqp_types::{Symbol, Value, decode};
 use std::alloc::{AllocError, Global};
 use std::io;
 use std::io::{Read, Write};
+use std::process::Abort;
 use std::test::Fail;
 
 /// What `dump` prints of these bytes.
@@ -25,6 +26,15 @@ fn behind_header(alloc: Global, bytes: &[u8]) -> Result<Vec<u8>, AllocError> {
     let mut stream = Vec::from_slice(alloc, HEADER.as_slice())?;
     stream.extend_from_slice(bytes)?;
     Ok(stream)
+}
+
+/// Asserts that the header and these bytes are printed as the header's line and these lines.
+fn assert_printed(rt: &impl Abort, alloc: Global, frames: &[u8], lines: &[u8]) -> Result<(), Fail> {
+    let mut wanted = Vec::from_slice(alloc, b"header id=0 version=1.0.0\n")?;
+    wanted.extend_from_slice(lines)?;
+    let stream = behind_header(alloc, frames)?;
+    assert_eq!(rt; dumped(alloc, &stream)?, wanted, "{frames:?}");
+    Ok(())
 }
 
 #[test]
@@ -58,10 +68,7 @@ fn prints_a_line_for_each_frame(rt: HostRuntime) -> Result<(), Fail> {
         (b"", b""),
     ];
     for (frames, lines) in cases {
-        let mut wanted = Vec::from_slice(alloc, b"header id=0 version=1.0.0\n")?;
-        wanted.extend_from_slice(lines)?;
-        let stream = behind_header(alloc, frames)?;
-        assert_eq!(rt; dumped(alloc, &stream)?, wanted, "{frames:?}");
+        assert_printed(&rt, alloc, frames, lines)?;
     }
     for stream in [
         b"".as_slice(),
@@ -72,6 +79,35 @@ fn prints_a_line_for_each_frame(rt: HostRuntime) -> Result<(), Fail> {
         assert_eq!(rt; printed.as_slice(), b"fault: 0 Header\n".as_slice());
     }
     Ok(())
+}
+
+#[test]
+fn prints_bodies_that_hold_others(rt: HostRuntime) -> Result<(), Fail> {
+    let cases: [(&[u8], &[u8]); 4] = [
+        (
+            b"\x00\x00\x00\x0c\x02\x00\x00\x00\x00\x53\x10\x45",
+            b"8 size=12 channel=0 value @ulong:16([]) payload=0\n",
+        ),
+        (
+            b"\x00\x00\x00\x11\x02\x00\x00\x00\x00\x53\x10\xc0\x04\x01\xa1\x02\x61",
+            b"fault: 20 BadSize\n",
+        ),
+        (
+            b"\x00\x00\x00\x23\x02\x00\x00\x00\x00\x53\x10\xc0\x16\x0a\xa1\x01\x61\
+              \x40\x40\x40\x40\x40\x40\x40\x40\xf0\x00\x00\x00\x05\xff\xff\xff\xff\x40",
+            b"fault: 38 TooManyNodes\n",
+        ),
+        (
+            b"\x00\x00\x00\x10\x02\x00\x00\x00\xc1\x06\x04\x43\x40\x52\x00\x40",
+            b"fault: 21 DuplicateKey\n",
+        ),
+    ];
+    for (frames, lines) in cases {
+        assert_printed(&rt, rt.alloc(), frames, lines)?;
+    }
+    let mut deep = Vec::from_slice(rt.alloc(), b"\x00\x00\x00\x30\x02\x00\x00\x00")?;
+    deep.extend_from_slice(&[0; 40])?;
+    assert_printed(&rt, rt.alloc(), &deep, b"fault: 48 TooDeep\n")
 }
 
 #[test]
@@ -139,6 +175,83 @@ fn writes_each_kind_of_value(rt: HostRuntime) -> Result<(), Fail> {
         let mut text = String::new(alloc);
         write_value(alloc, &mut text, &value)?;
         assert_eq!(rt; text.as_str(), wanted);
+    }
+    Ok(())
+}
+
+/// Asserts that these bytes are a value with this text.
+fn assert_text(rt: &impl Abort, alloc: Global, bytes: &[u8], wanted: &str) -> Result<(), Fail> {
+    let (value, _) = decode(alloc, bytes, LIMITS)?;
+    let mut text = String::new(alloc);
+    write_value(alloc, &mut text, &value)?;
+    assert_eq!(rt; text.as_str(), wanted);
+    Ok(())
+}
+
+#[test]
+fn writes_values_that_hold_others(rt: HostRuntime) -> Result<(), Fail> {
+    let cases: [(&[u8], &str); 10] = [
+        (b"\x45", "[]"),
+        (b"\xc0\x03\x02\x43\x41", "[uint:0, true]"),
+        (b"\xc0\x03\x02\x45\x45", "[[], []]"),
+        (b"\xc1\x01\x00", "{}"),
+        (
+            b"\xc1\x09\x04\xa3\x01\x61\x43\xa3\x01\x62\x40",
+            "{symbol:\"a\"=uint:0, symbol:\"b\"=null}",
+        ),
+        (
+            b"\xe0\x0a\x02\x70\x00\x00\x00\x01\x00\x00\x00\x02",
+            "array:uint[uint:1, uint:2]",
+        ),
+        (
+            b"\xe0\x07\x01\x00\x53\x24\xc0\x01\x00",
+            "array:@ulong:36 list[[]]",
+        ),
+        (
+            b"\xe0\x09\x00\x00\x53\x24\x00\xa3\x01\x61\x56",
+            "array:@ulong:36 @symbol:\"a\" boolean[]",
+        ),
+        (b"\x00\x53\x24\x45", "@ulong:36([])"),
+        (b"\x00\x44\x00\x53\x01\x42", "@ulong:0(@ulong:1(false))"),
+    ];
+    for (bytes, text) in cases {
+        assert_text(&rt, rt.alloc(), bytes, text)?;
+    }
+    Ok(())
+}
+
+#[test]
+fn writes_the_name_of_each_kind_of_items(rt: HostRuntime) -> Result<(), Fail> {
+    let alloc = rt.alloc();
+    let kinds = [
+        (0x40, "null"),
+        (0x56, "boolean"),
+        (0x50, "ubyte"),
+        (0x60, "ushort"),
+        (0x70, "uint"),
+        (0x80, "ulong"),
+        (0x51, "byte"),
+        (0x61, "short"),
+        (0x71, "int"),
+        (0x81, "long"),
+        (0x72, "float"),
+        (0x82, "double"),
+        (0x74, "decimal32"),
+        (0x84, "decimal64"),
+        (0x94, "decimal128"),
+        (0x73, "char"),
+        (0x83, "timestamp"),
+        (0x98, "uuid"),
+        (0xa0, "binary"),
+        (0xb1, "string"),
+        (0xa3, "symbol"),
+        (0xd0, "list"),
+        (0xc1, "map"),
+        (0xf0, "array"),
+    ];
+    for (code, name) in kinds {
+        let wanted = format!(in alloc; "array:{name}[]")?;
+        assert_text(&rt, alloc, &[0xe0, 2, 0, code], &wanted)?;
     }
     Ok(())
 }

@@ -1,17 +1,20 @@
 //! The text of values, as `dump` prints it.
 
-use amqp_types::Value;
+use amqp_types::{Kind, Value};
 use std::alloc::{AllocError, Global};
 use std::fmt::Write;
 use uuid::Uuid;
 
-/// Appends the text of `value`: the name of its kind, a colon and its content; null, true and false have
-/// no name.
+/// Appends the text of `value`.
 ///
-/// Numbers are decimal, floats, decimals and binaries are lower-case hex, a char is eight hex digits, a
-/// uuid has its hyphenated form, and strings and symbols stand in quotes.
+/// A value that holds no others is the name of its kind, a colon and its content: numbers are decimal,
+/// floats, decimals and binaries are lower-case hex, a char is eight hex digits, a uuid has its hyphenated
+/// form, and strings and symbols stand in quotes. Null, true and false have no name. A list is `[a, b]`, a
+/// map `{k=v, k=v}`, an array `array:KIND[a, b]` with `@D ` before KIND for each descriptor D, outermost
+/// first, and a described value `@D(V)`.
 ///
 /// Where memory is refused, a beginning of the text may stand in `out`.
+#[cycle(text)]
 pub fn write_value(alloc: Global, out: &mut String, value: &Value) -> Result<(), AllocError> {
     match value {
         Value::Null => write!(out, "null"),
@@ -35,6 +38,117 @@ pub fn write_value(alloc: Global, out: &mut String, value: &Value) -> Result<(),
         Value::Uuid(bytes) => write!(out, "uuid:{}", Uuid::from_bytes(*bytes).hyphenated()),
         Value::String(text) => write_quoted(out, "string", text.as_bytes()),
         Value::Symbol(symbol) => write_quoted(out, "symbol", symbol.as_bytes()),
+        Value::List(items) => write_items(alloc, out, items),
+        Value::Map(entries) => write_entries(alloc, out, entries),
+        Value::Array {
+            descriptors,
+            kind,
+            items,
+        } => {
+            write_element(alloc, out, descriptors, *kind)?;
+            write_items(alloc, out, items)
+        }
+        Value::Described(descriptor, described) => {
+            write_descriptor(alloc, out, descriptor)?;
+            write_described(alloc, out, described)
+        }
+    }
+}
+
+/// Appends `[a, b]`.
+#[cycle(text)]
+fn write_items(alloc: Global, out: &mut String, items: &Vec<Value>) -> Result<(), AllocError> {
+    out.push('[')?;
+    let mut is_first = true;
+    for item in items {
+        if !is_first {
+            write!(out, ", ")?;
+        }
+        is_first = false;
+        write_value(alloc, out, item)?;
+    }
+    out.push(']')
+}
+
+/// Appends `{k=v, k=v}`.
+#[cycle(text)]
+fn write_entries(
+    alloc: Global,
+    out: &mut String,
+    entries: &Vec<(Value, Value)>,
+) -> Result<(), AllocError> {
+    out.push('{')?;
+    let mut is_first = true;
+    for (key, value) in entries {
+        if !is_first {
+            write!(out, ", ")?;
+        }
+        is_first = false;
+        write_value(alloc, out, key)?;
+        out.push('=')?;
+        write_value(alloc, out, value)?;
+    }
+    out.push('}')
+}
+
+/// Appends `array:`, `@D ` for each descriptor, and the name of the items' kind.
+#[cycle(text)]
+fn write_element(
+    alloc: Global,
+    out: &mut String,
+    descriptors: &Vec<Value>,
+    kind: Kind,
+) -> Result<(), AllocError> {
+    write!(out, "array:")?;
+    for descriptor in descriptors {
+        write_descriptor(alloc, out, descriptor)?;
+        out.push(' ')?;
+    }
+    write!(out, "{}", name_of(kind))
+}
+
+/// Appends `@D`.
+#[cycle(text)]
+fn write_descriptor(alloc: Global, out: &mut String, descriptor: &Value) -> Result<(), AllocError> {
+    out.push('@')?;
+    write_value(alloc, out, descriptor)
+}
+
+/// Appends `(V)`.
+#[cycle(text)]
+fn write_described(alloc: Global, out: &mut String, described: &Value) -> Result<(), AllocError> {
+    out.push('(')?;
+    write_value(alloc, out, described)?;
+    out.push(')')
+}
+
+/// The name of a kind, as it is printed.
+fn name_of(kind: Kind) -> &'static str {
+    match kind {
+        Kind::Null => "null",
+        Kind::Boolean => "boolean",
+        Kind::Ubyte => "ubyte",
+        Kind::Ushort => "ushort",
+        Kind::Uint => "uint",
+        Kind::Ulong => "ulong",
+        Kind::Byte => "byte",
+        Kind::Short => "short",
+        Kind::Int => "int",
+        Kind::Long => "long",
+        Kind::Float => "float",
+        Kind::Double => "double",
+        Kind::Decimal32 => "decimal32",
+        Kind::Decimal64 => "decimal64",
+        Kind::Decimal128 => "decimal128",
+        Kind::Char => "char",
+        Kind::Timestamp => "timestamp",
+        Kind::Uuid => "uuid",
+        Kind::Binary => "binary",
+        Kind::String => "string",
+        Kind::Symbol => "symbol",
+        Kind::List => "list",
+        Kind::Map => "map",
+        Kind::Array => "array",
     }
 }
 

@@ -1,27 +1,22 @@
 -- What is spelled is read, whatever follows.
-use Rattle.std.proofs.Common.{◌≡◌, ℕ, zero, suc, ◌+◌, ◌*◌, ◌^◌, ◌%◌, ◌<◌, ◌≤◌, Bool, true, false, cond, ltb, List, [], ◌∷◌, ◌++◌, length, get_or, take, drop, Option, Some, None, Result, Ok, Err, refl, sym, ap, subst, ◌∙◌, append_assoc, arith, inl, inr}
-use Rattle.std.specs.Str.{IsUtf8, IsAscii, is_utf8}
-use Rattle.std.specs.Option.{option_map}
+use Rattle.std.proofs.Common.{◌≡◌, ℕ, ◌^◌, ◌%◌, ◌<◌, false, ltb, List, ◌∷◌, ◌++◌, length, None, Ok, refl, ap, subst, ◌∙◌, append_assoc, arith}
+use Rattle.std.specs.Str.{IsAscii}
 use Rattle.std.specs.List.{position, position_or_len}
 use Rattle.std.proofs.lemmas.Bool.{le-ltb, lt-ltb, lt-leb}
 use Rattle.std.proofs.lemmas.List.{take_at, drop_at, length-append}
 use Rattle.std.proofs.lemmas.List.Sums.{position_or_len_is}
 use Rattle.std.proofs.lemmas.Str.{is_utf8-from_IsUtf8}
-use Rattle.byteorder.specs.Endian.{big_bytes, big_number}
+use Rattle.byteorder.specs.Endian.{big_bytes}
 use Rattle.byteorder.specs.Numbers.{big_number-reads_back, length-bytes_high_first}
 use Rattle.amqp_types.specs.declared.kind.Kind.{Kind}
 use Rattle.amqp_types.specs.declared.kind.Kind.TheVariants as kind
 use Rattle.amqp_types.specs.declared.code.Form.{Form}
 use Rattle.amqp_types.specs.declared.code.Form.TheVariants as form
 use Rattle.amqp_types.specs.declared.code.SizeWidth.{SizeWidth}
-use Rattle.amqp_types.specs.declared.fault.ReadFault.{ReadFault}
-use Rattle.amqp_types.specs.declared.fault.ReadFault.TheVariants.{BadText, BadSymbol, BadChar, BadBoolean}
 use Rattle.amqp_types.specs.declared.window.Window.{Window}
-use Rattle.amqp_types.specs.Codes.{find_code}
 use Rattle.amqp_types.specs.Kinds.{width}
-use Rattle.amqp_types.specs.Trees.{Tree, Number, Octets}
-use Rattle.amqp_types.specs.Spelling.{sign_extended, size_len, SpellsNumber, SpellsOctets, IsNumberOf, AreOctetsOf, Spells}
-use Rattle.amqp_types.specs.Reading.{Read, ◌>>=◌, unless, place, number_fault, octets_fault, octets_at, big_at, form_at, number_at, sized_at, known, constructor_at, data_at, value_at, is_beyond_ascii}
+use Rattle.amqp_types.specs.Spelling.{size_len, SpellsNumber, SpellsOctets, IsNumberOf, AreOctetsOf}
+use Rattle.amqp_types.specs.Reading.{place, number_fault, octets_fault, octets_at, big_at, form_at, number_at, sized_at, is_beyond_ascii}
 
 pub octets_again : (w : Window) (n : ℕ) (octets rest : List ℕ) → length octets ≡ n → octets_at w n (octets ++ rest) ≡ Ok (octets, rest)
 octets_again w n octets rest len =
@@ -52,7 +47,7 @@ no_number_fault kind.Boolean at n h = rw (lt-ltb n 2 h) refl
 no_number_fault kind.Char at n h = rw h refl
 no_number_fault _ at n h = refl
 
-number_again : (w : Window) (k : Kind) (f : Form) (n : ℕ) (text rest : List ℕ) → SpellsNumber f (width k) n text → IsNumberOf k n → number_at w k f (text ++ rest) ≡ Ok (n, rest)
+pub number_again : (w : Window) (k : Kind) (f : Form) (n : ℕ) (text rest : List ℕ) → SpellsNumber f (width k) n text → IsNumberOf k n → number_at w k f (text ++ rest) ≡ Ok (n, rest)
 unfolding number_at
 number_again w k f n text rest h of_kind = rw (form_again w f (width k) n text rest h, no_number_fault k (place w (text ++ rest)) n of_kind) refl
 
@@ -66,13 +61,8 @@ no_octets_fault kind.String at octets h = rw (is_utf8-from_IsUtf8 octets h) refl
 no_octets_fault kind.Symbol at octets h = rw (all_ascii octets h) refl
 no_octets_fault _ at octets h = refl
 
-sized_again : (w : Window) (k : Kind) (s : SizeWidth) (octets text rest : List ℕ) → SpellsOctets s octets text → AreOctetsOf k octets → sized_at w k s (text ++ rest) ≡ Ok (octets, rest)
+pub sized_again : (w : Window) (k : Kind) (s : SizeWidth) (octets text rest : List ℕ) → SpellsOctets s octets text → AreOctetsOf k octets → sized_at w k s (text ++ rest) ≡ Ok (octets, rest)
 unfolding sized_at
 sized_again w k s octets text rest h of_kind =
     let regrouped : text ++ rest ≡ big_bytes (size_len s) (length octets) ++ (octets ++ rest) = ap (λ (t : List ℕ). t ++ rest) h.1 ∙ append_assoc (big_bytes (size_len s) (length octets)) octets rest in
     rw (regrouped, big_again w (size_len s) (length octets) (octets ++ rest) h.0, octets_again w (length octets) octets rest refl, no_octets_fault k (place w (octets ++ rest)) octets of_kind) refl
-
-pub value_again : (w : Window) (t : Tree) (text rest : List ℕ) → Spells t text → value_at w (text ++ rest) ≡ Ok (t, rest)
-unfolding value_at data_at constructor_at Spells
-value_again w (Number k n) text rest h = rw (h.4, h.3, number_again w k h.1 n h.2 rest h.5 h.6) refl
-value_again w (Octets k octets) text rest h = rw (h.4, h.3, sized_again w k h.1 octets h.2 rest h.5 h.6) refl

@@ -1,5 +1,5 @@
 -- What one byte holds, any byte or more hold.
-use Rattle.std.proofs.Common.{◌≡◌, ℕ, ◌^◌, ◌<◌, ◌≤◌, arith}
+use Rattle.std.proofs.Common.{ℕ, ◌^◌, ◌≤◌, arith}
 use Rattle.std.proofs.Math.Nat.{pow-le-pow_right}
 
 pub pow_of_one : (n : ℕ) → 1 ≤ n → 256 ≤ 256 ^ n

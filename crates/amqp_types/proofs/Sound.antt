@@ -1,6 +1,6 @@
 -- What is read is spelled by the bytes in front of the rest.
-use Rattle.std.proofs.Common.{◌≡◌, ℕ, zero, suc, ◌+◌, ◌^◌, ◌%◌, ◌<◌, ◌≤◌, Bool, true, false, cond, ltb, List, [], ◌∷◌, ◌++◌, length, get_or, take, drop, Option, Some, None, Result, Ok, Err, refl, sym, ap, subst, ◌∙◌, append_assoc, arith, inl, inr}
-use Rattle.std.specs.Str.{IsUtf8, IsAscii, is_utf8}
+use Rattle.std.proofs.Common.{◌≡◌, ℕ, ◌^◌, ◌%◌, ◌<◌, ◌≤◌, Bool, true, false, cond, ltb, List, [], ◌∷◌, ◌++◌, length, take, drop, Option, Some, None, Result, Ok, Err, refl, sym, ap, subst, ◌∙◌, append_assoc, arith, inl, inr}
+use Rattle.std.specs.Str.{IsAscii}
 use Rattle.std.proofs.lemmas.Bool.{ltb-false, ltb-true, leb-false, cases_lt}
 use Rattle.std.specs.Option.{option_map}
 use Rattle.std.specs.List.{position, position_or_len}
@@ -14,17 +14,13 @@ use Rattle.amqp_types.specs.declared.kind.Kind.TheVariants as kind
 use Rattle.amqp_types.specs.declared.code.Form.{Form}
 use Rattle.amqp_types.specs.declared.code.Form.TheVariants as form
 use Rattle.amqp_types.specs.declared.code.SizeWidth.{SizeWidth}
-use Rattle.amqp_types.specs.declared.code.Constructor.{Constructor}
-use Rattle.amqp_types.specs.declared.code.Constructor.TheVariants.{Fixed, Variable}
 use Rattle.amqp_types.specs.declared.fault.ReadFault.{ReadFault}
-use Rattle.amqp_types.specs.declared.fault.ReadFault.TheVariants.{BadText, BadSymbol, BadChar, BadBoolean}
+use Rattle.amqp_types.specs.declared.fault.ReadFault.TheVariants.{BadText, BadChar, BadBoolean}
 use Rattle.amqp_types.specs.declared.window.Window.{Window}
-use Rattle.amqp_types.specs.Codes.{find_code}
 use Rattle.amqp_types.specs.Kinds.{width}
-use Rattle.amqp_types.specs.Trees.{Tree, Number, Octets}
-use Rattle.amqp_types.specs.Spelling.{sign_extended, size_len, SpellsNumber, SpellsOctets, IsNumberOf, AreOctetsOf, Spells}
-use Rattle.amqp_types.specs.Reading.{Read, ◌>>=◌, unless, place, number_fault, octets_fault, octets_at, big_at, form_at, number_at, sized_at, known, constructor_at, data_at, value_at, is_beyond_ascii}
-use Rattle.amqp_types.proofs.Octets.{IsBytes, IsBytes-drop, IsBytes-take, IsBytes-rest, big_bytes-big_number}
+use Rattle.amqp_types.specs.Spelling.{sign_extended, size_len, SpellsNumber, SpellsOctets, IsNumberOf, AreOctetsOf}
+use Rattle.amqp_types.specs.Reading.{◌>>=◌, unless, place, number_fault, octets_fault, octets_at, big_at, form_at, number_at, sized_at, is_beyond_ascii}
+use Rattle.amqp_types.proofs.Octets.{IsBytes, IsBytes-drop, IsBytes-take, big_bytes-big_number}
 
 -- the value of a step that did not fail
 pub bind_ok : {A B : Type 0} (r : Result A ReadFault) (f : A → Result B ReadFault) (y : B) → (r >>= f) ≡ Ok y → (x : A) × (r ≡ Ok x) × (f x ≡ Ok y)
@@ -102,12 +98,12 @@ text_sound : (b : Bool) (at : ℕ) → cond b None (Some (BadText at)) ≡ None 
 text_sound true at e = refl
 text_sound false at e = absurd cc
 
-pub number_of_kind : (k : Kind) (at n : ℕ) → number_fault k at n ≡ None → IsNumberOf k n
+number_of_kind : (k : Kind) (at n : ℕ) → number_fault k at n ≡ None → IsNumberOf k n
 number_of_kind kind.Boolean at n e = ltb-true n 2 (boolean_sound (ltb n 2) at n e)
 number_of_kind kind.Char at n e = char_sound _ at e
 number_of_kind _ at n e = tt
 
-number_sound : (w : Window) (k : Kind) (f : Form) (bytes : List ℕ) (x : ℕ × List ℕ) → IsBytes bytes → number_at w k f bytes ≡ Ok x
+pub number_sound : (w : Window) (k : Kind) (f : Form) (bytes : List ℕ) (x : ℕ × List ℕ) → IsBytes bytes → number_at w k f bytes ≡ Ok x
     → (text : List ℕ) × Takes bytes text x.1 × SpellsNumber f (width k) x.0 text × IsNumberOf k x.0
 unfolding number_at
 number_sound w k f bytes x fits e =
@@ -134,12 +130,12 @@ IsAscii-from_position octets e i =
       | inr le ↦ rw (get_or_past octets i 0 le) (omega arith)
     ]
 
-pub octets_of_kind : (k : Kind) (at : ℕ) (octets : List ℕ) → octets_fault k at octets ≡ None → AreOctetsOf k octets
+octets_of_kind : (k : Kind) (at : ℕ) (octets : List ℕ) → octets_fault k at octets ≡ None → AreOctetsOf k octets
 octets_of_kind kind.String at octets e = IsUtf8-from_is_utf8 octets (text_sound _ _ e)
 octets_of_kind kind.Symbol at octets e = IsAscii-from_position octets (unmapped _ _ e)
 octets_of_kind _ at octets e = tt
 
-sized_sound : (w : Window) (k : Kind) (s : SizeWidth) (bytes : List ℕ) (x : List ℕ × List ℕ) → IsBytes bytes → sized_at w k s bytes ≡ Ok x
+pub sized_sound : (w : Window) (k : Kind) (s : SizeWidth) (bytes : List ℕ) (x : List ℕ × List ℕ) → IsBytes bytes → sized_at w k s bytes ≡ Ok x
     → (text : List ℕ) × Takes bytes text x.1 × SpellsOctets s x.0 text × AreOctetsOf k x.0
 unfolding sized_at
 sized_sound w k s bytes x fits e =
@@ -151,35 +147,3 @@ sized_sound w k s bytes x fits e =
     let both = Takes-then bytes (big_bytes (size_len s) a.0.0) a.0.1 b.0.0 b.0.1 t0.0 t1.0 in
     subst (λ (p : List ℕ × List ℕ). (text : List ℕ) × Takes bytes text p.1 × SpellsOctets s p.0 text × AreOctetsOf k p.0) u.1
     (big_bytes (size_len s) a.0.0 ++ b.0.0, both, (omega (arith, t0.1, t1.1), ap (λ (n : ℕ). big_bytes (size_len s) n ++ b.0.0) (sym t1.1)), octets_of_kind k (place w a.0.1) b.0.0 u.0)
-
-known_sound : (w : Window) (code : ℕ) (rest : List ℕ) (o : Option Constructor) (x : Constructor × List ℕ) → known w code rest o ≡ Ok x → (rest ≡ x.1) × (o ≡ Some x.0)
-known_sound w code rest None x e = absurd cc
-known_sound w code rest (Some c) x e = let p = ok_is (c, rest) x e in (ap (λ (y : Constructor × List ℕ). y.1) p, ap (λ (y : Constructor × List ℕ). Some y.0) p)
-
-constructor_sound : (w : Window) (bytes : List ℕ) (x : Constructor × List ℕ) → constructor_at w bytes ≡ Ok x → (code : ℕ) × (bytes ≡ code ∷ x.1) × (find_code code ≡ Some x.0)
-unfolding constructor_at
-constructor_sound w [] x e = absurd cc
-constructor_sound w (code ∷ rest) x e = let k = known_sound w code rest (find_code code) x e in (code, ap (λ (r : List ℕ). code ∷ r) k.0, k.1)
-
-data_sound : (w : Window) (c : Constructor) (code : ℕ) (bytes : List ℕ) (x : Tree × List ℕ) → find_code code ≡ Some c → IsBytes bytes → data_at w c bytes ≡ Ok x
-    → (text : List ℕ) × Takes bytes text x.1 × Spells x.0 (code ∷ text)
-unfolding data_at Spells
-data_sound w (Fixed k f) code bytes x is fits e =
-    let b = bind_ok (number_at w k f bytes) (λ n. Ok (Number k n.0, n.1)) x e in
-    let t = number_sound w k f bytes b.0 fits b.1 in
-    subst (λ (p : Tree × List ℕ). (text : List ℕ) × Takes bytes text p.1 × Spells p.0 (code ∷ text)) (ok_is (Number k b.0.0, b.0.1) x b.2)
-    (t.0, t.1, (code, f, t.0, is, refl, t.2, t.3))
-data_sound w (Variable k s) code bytes x is fits e =
-    let b = bind_ok (sized_at w k s bytes) (λ octets. Ok (Octets k octets.0, octets.1)) x e in
-    let t = sized_sound w k s bytes b.0 fits b.1 in
-    subst (λ (p : Tree × List ℕ). (text : List ℕ) × Takes bytes text p.1 × Spells p.0 (code ∷ text)) (ok_is (Octets k b.0.0, b.0.1) x b.2)
-    (t.0, t.1, (code, s, t.0, is, refl, t.2, t.3))
-
-pub value_sound : (w : Window) (bytes : List ℕ) (x : Tree × List ℕ) → IsBytes bytes → value_at w bytes ≡ Ok x → (text : List ℕ) × (bytes ≡ text ++ x.1) × Spells x.0 text
-unfolding value_at
-value_sound w bytes x fits e =
-    let c = bind_ok (constructor_at w bytes) (λ c. data_at w c.0 c.1) x e in
-    let t = constructor_sound w bytes c.0 c.1 in
-    let rest_fits : IsBytes c.0.1 = λ i. subst (λ (b : List ℕ). get_or b (suc i) 0 < 256) t.1 (fits (suc i)) in
-    let d = data_sound w c.0.0 t.0 c.0.1 x t.2 rest_fits c.2 in
-    (t.0 ∷ d.0, t.1 ∙ ap (λ (r : List ℕ). t.0 ∷ r) d.1.parts, d.2)

@@ -1,13 +1,14 @@
 -- The codes of the constructors. [1.2; 1.6]
-use Rattle.std.specs.Prelude.{◌≡◌, ◌≢◌, ℕ, ◌==◌, ◌<◌, ◌≤◌, List, [], ◌∷◌, Option, Some, None}
+use Rattle.std.specs.Prelude.{◌≡◌, ◌≢◌, ℕ, false, ◌==◌, ◌<◌, ◌≤◌, List, [], ◌∷◌, Option, None}
 use Rattle.std.specs.Map.{lookup}
+use Rattle.amqp_types.specs.declared.kind.Kind.{Kind}
 use Rattle.amqp_types.specs.declared.kind.Kind.TheVariants as kind
 use Rattle.amqp_types.specs.declared.code.Constructor.{Constructor}
-use Rattle.amqp_types.specs.declared.code.Constructor.TheVariants.{Fixed, Variable}
+use Rattle.amqp_types.specs.declared.code.Constructor.TheVariants.{Fixed, Variable, EmptyList, ListIn, MapIn, ArrayIn}
 use Rattle.amqp_types.specs.declared.code.Form.{Form}
 use Rattle.amqp_types.specs.declared.code.Form.TheVariants as form
 use Rattle.amqp_types.specs.declared.code.SizeWidth.TheVariants as size
-use Rattle.amqp_types.specs.Kinds.{fixed_width, width}
+use Rattle.amqp_types.specs.Kinds.{fixed_width, width, is_container}
 
 -- each code with the kind that it makes, and the form of the data behind it
 abbrev pub constructors : List (ℕ × Constructor)
@@ -44,6 +45,13 @@ constructors =
     (0xb1, Variable kind.String size.Four) ∷
     (0xa3, Variable kind.Symbol size.One) ∷
     (0xb3, Variable kind.Symbol size.Four) ∷
+    (0x45, EmptyList) ∷
+    (0xc0, ListIn size.One) ∷
+    (0xd0, ListIn size.Four) ∷
+    (0xc1, MapIn size.One) ∷
+    (0xd1, MapIn size.Four) ∷
+    (0xe0, ArrayIn size.One) ∷
+    (0xf0, ArrayIn size.Four) ∷
     []
 
 -- the constructor that a code stands for
@@ -59,4 +67,17 @@ HasRoom _ n = 1 ≤ n
 -- what every row of the table has: a kind of fixed width with room for the form, or one of variable width
 abbrev pub IsSound : Constructor → Type 0
 IsSound (Fixed k f) = (fixed_width k ≢ None) × HasRoom f (width k) × (8 < width k → f ≡ form.Full)
-IsSound (Variable k s) = fixed_width k ≡ None
+IsSound (Variable k s) = (fixed_width k ≡ None) × (is_container k ≡ false)
+IsSound EmptyList = Unit {0}
+IsSound (ListIn s) = Unit {0}
+IsSound (MapIn s) = Unit {0}
+IsSound (ArrayIn s) = Unit {0}
+
+-- the kind that a constructor makes
+abbrev pub kind_of : Constructor → Kind
+kind_of (Fixed k f) = k
+kind_of (Variable k s) = k
+kind_of EmptyList = kind.List
+kind_of (ListIn s) = kind.List
+kind_of (MapIn s) = kind.Map
+kind_of (ArrayIn s) = kind.Array

@@ -27,6 +27,9 @@ fixed_width kind.Uuid = Some 16
 fixed_width kind.Binary = None
 fixed_width kind.String = None
 fixed_width kind.Symbol = None
+fixed_width kind.List = None
+fixed_width kind.Map = None
+fixed_width kind.Array = None
 
 abbrev pub width : Kind → ℕ
 width kind = unwrap_or (fixed_width kind) 0
@@ -36,3 +39,10 @@ abbrev pub is_partial : Kind → Bool
 is_partial kind.Boolean = true
 is_partial kind.Char = true
 is_partial _ = false
+
+-- whether values of the kind hold others
+abbrev pub is_container : Kind → Bool
+is_container kind.List = true
+is_container kind.Map = true
+is_container kind.Array = true
+is_container _ = false

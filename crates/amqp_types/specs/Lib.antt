@@ -2,6 +2,14 @@ pub mod Kinds
 pub mod Codes
 pub mod Trees
 pub mod Spelling
+pub mod Values
+pub mod Images
 pub mod Reading
 pub mod Misreading
-pub mod Values
+pub mod Skipping
+pub mod Decoding
+pub mod Places
+pub mod Canonical
+pub mod Shapes
+pub mod Parts
+pub mod Lawful

@@ -1,5 +1,5 @@
 -- Which bytes spell a value, by cases on the value. [1.2]
-use Rattle.std.specs.Prelude.{◌≡◌, ◌≢◌, ℕ, ◌+◌, ◌-◌, ◌*◌, ◌^◌, ◌<◌, nat_lt, if◌then◌else◌, List, [], ◌∷◌, ◌++◌, length, Some}
+use Rattle.std.specs.Prelude.{◌≡◌, ℕ, ◌⊎◌, ◌+◌, ◌-◌, ◌^◌, ◌<◌, nat_lt, if◌then◌else◌, List, [], ◌∷◌, ◌++◌, length, Some}
 use Rattle.std.specs.Char.{IsScalar}
 use Rattle.std.specs.Str.{IsUtf8, IsAscii}
 use Rattle.byteorder.specs.Endian.{big_bytes}
@@ -9,10 +9,11 @@ use Rattle.amqp_types.specs.declared.code.Form.{Form}
 use Rattle.amqp_types.specs.declared.code.Form.TheVariants as form
 use Rattle.amqp_types.specs.declared.code.SizeWidth.{SizeWidth}
 use Rattle.amqp_types.specs.declared.code.SizeWidth.TheVariants as size
-use Rattle.amqp_types.specs.declared.code.Constructor.TheVariants.{Fixed, Variable}
+use Rattle.amqp_types.specs.declared.code.Constructor.{Constructor}
+use Rattle.amqp_types.specs.declared.code.Constructor.TheVariants.{Fixed, Variable, EmptyList, ListIn, MapIn, ArrayIn}
 use Rattle.amqp_types.specs.Kinds.{width}
-use Rattle.amqp_types.specs.Codes.{find_code}
-use Rattle.amqp_types.specs.Trees.{Tree, Number, Octets}
+use Rattle.amqp_types.specs.Codes.{find_code, kind_of}
+use Rattle.amqp_types.specs.Trees.{Tree, Number, Octets, ListOf, MapOf, ArrayOf, Described, Trees, none, more, Pairs, no_pair, pair, count_of, pair_count}
 
 -- one signed byte, in two's complement of n bytes
 abbrev pub sign_extended : ℕ → ℕ → ℕ
@@ -55,11 +56,54 @@ AreOctetsOf kind.String octets = IsUtf8 octets
 AreOctetsOf kind.Symbol octets = IsAscii octets
 AreOctetsOf _ octets = Unit {0}
 
+-- a size, a count, and the spellings of the parts: the size counts the count and the parts [1.2.3]
+abbrev pub SpellsBlock : SizeWidth → ℕ → List ℕ → List ℕ → Type 0
+SpellsBlock s count parts text =
+    (count < 256 ^ size_len s) × (size_len s + length parts < 256 ^ size_len s)
+    × (text ≡ big_bytes (size_len s) (size_len s + length parts) ++ (big_bytes (size_len s) count ++ parts))
+
 -- The bytes spell the value: a code of its kind, then data that stands for it.
-unfoldable pub Spells : Tree → List ℕ → Type 0
-Spells (Number k n) bytes =
-    (code : ℕ) × (f : Form) × (text : List ℕ) × (find_code code ≡ Some (Fixed k f)) × (bytes ≡ code ∷ text)
-    × SpellsNumber f (width k) n text × IsNumberOf k n
-Spells (Octets k octets) bytes =
-    (code : ℕ) × (s : SizeWidth) × (text : List ℕ) × (find_code code ≡ Some (Variable k s)) × (bytes ≡ code ∷ text)
-    × SpellsOctets s octets text × AreOctetsOf k octets
+unfoldable mutual
+  pub Spells : Tree → List ℕ → Type 0
+  Spells (Number k n) bytes =
+      (code : ℕ) × (f : Form) × (text : List ℕ) × (find_code code ≡ Some (Fixed k f)) × (bytes ≡ code ∷ text)
+      × SpellsNumber f (width k) n text × IsNumberOf k n
+  Spells (Octets k octets) bytes =
+      (code : ℕ) × (s : SizeWidth) × (text : List ℕ) × (find_code code ≡ Some (Variable k s)) × (bytes ≡ code ∷ text)
+      × SpellsOctets s octets text × AreOctetsOf k octets
+  -- a list: nothing behind the code of the empty one, or a block of its items [1.6.22]
+  Spells (ListOf ts) bytes =
+      ((code : ℕ) × (find_code code ≡ Some EmptyList) × (bytes ≡ code ∷ []) × (ts ≡ none))
+      ⊎ ((code : ℕ) × (s : SizeWidth) × (parts text : List ℕ) × (find_code code ≡ Some (ListIn s)) × (bytes ≡ code ∷ text)
+      × SpellsBlock s (count_of ts) parts text × SpellAll ts parts)
+  -- a map: a block of its keys and values in turn [1.6.23]
+  Spells (MapOf ps) bytes =
+      (code : ℕ) × (s : SizeWidth) × (parts text : List ℕ) × (find_code code ≡ Some (MapIn s)) × (bytes ≡ code ∷ text)
+      × SpellsBlock s (pair_count ps) parts text × SpellPairs ps parts
+  -- an array: a block of one element constructor and its items' data [1.2.4, 1.6.24]
+  Spells (ArrayOf ds k ts) bytes =
+      (code : ℕ) × (s : SizeWidth) × (element : ℕ) × (c : Constructor) × (head parts text : List ℕ) × (find_code code ≡ Some (ArrayIn s))
+      × (bytes ≡ code ∷ text) × SpellsBlock s (count_of ts) (head ++ element ∷ parts) text
+      × SpellDescriptors ds head × (find_code element ≡ Some c) × (kind_of c ≡ k) × SpellItems element ts parts
+  -- a described value: 00, its descriptor, and the value itself [1.2]
+  Spells (Described d t) bytes = (first second : List ℕ) × (bytes ≡ 0 ∷ (first ++ second)) × Spells d first × Spells t second
+
+  -- the spellings of these values, joined
+  pub SpellAll : Trees → List ℕ → Type 0
+  SpellAll none bytes = bytes ≡ []
+  SpellAll (more t ts) bytes = (first others : List ℕ) × (bytes ≡ first ++ others) × Spells t first × SpellAll ts others
+
+  -- 00 and a descriptor, for each
+  pub SpellDescriptors : Trees → List ℕ → Type 0
+  SpellDescriptors none bytes = bytes ≡ []
+  SpellDescriptors (more d ds) bytes = (first others : List ℕ) × (bytes ≡ 0 ∷ (first ++ others)) × Spells d first × SpellDescriptors ds others
+
+  -- data that spell the items, each behind the element constructor
+  pub SpellItems : ℕ → Trees → List ℕ → Type 0
+  SpellItems element none bytes = bytes ≡ []
+  SpellItems element (more t ts) bytes = (first others : List ℕ) × (bytes ≡ first ++ others) × Spells t (element ∷ first) × SpellItems element ts others
+
+  pub SpellPairs : Pairs → List ℕ → Type 0
+  SpellPairs no_pair bytes = bytes ≡ []
+  SpellPairs (pair k v ps) bytes =
+      (first second others : List ℕ) × (bytes ≡ first ++ (second ++ others)) × Spells k first × Spells v second × SpellPairs ps others

@@ -1,7 +1,7 @@
 //! The codes of the constructors.
 
 ghost use Rattle.std.specs.Prelude.{◌≡◌};
-ghost use Rattle.amqp_types.specs.Codes.{find_code};
+ghost use Rattle.amqp_types.specs.Codes.{find_code, kind_of};
 
 use crate::kind::Kind;
 
@@ -32,6 +32,10 @@ pub enum SizeWidth {
 pub enum Constructor {
     Fixed(Kind, Form),
     Variable(Kind, SizeWidth),
+    EmptyList,
+    ListIn(SizeWidth),
+    MapIn(SizeWidth),
+    ArrayIn(SizeWidth),
 }
 
 /// The constructor of a code, where it has one.
@@ -44,6 +48,7 @@ pub fn find_code(code: u8) -> Option<Constructor>
         0x42 => Constructor::Fixed(Kind::Boolean, Form::Zero),
         0x43 => Constructor::Fixed(Kind::Uint, Form::Zero),
         0x44 => Constructor::Fixed(Kind::Ulong, Form::Zero),
+        0x45 => Constructor::EmptyList,
         0x50 => Constructor::Fixed(Kind::Ubyte, Form::Full),
         0x51 => Constructor::Fixed(Kind::Byte, Form::Full),
         0x52 => Constructor::Fixed(Kind::Uint, Form::OneByte),
@@ -71,7 +76,25 @@ pub fn find_code(code: u8) -> Option<Constructor>
         0xb0 => Constructor::Variable(Kind::Binary, SizeWidth::Four),
         0xb1 => Constructor::Variable(Kind::String, SizeWidth::Four),
         0xb3 => Constructor::Variable(Kind::Symbol, SizeWidth::Four),
+        0xc0 => Constructor::ListIn(SizeWidth::One),
+        0xd0 => Constructor::ListIn(SizeWidth::Four),
+        0xc1 => Constructor::MapIn(SizeWidth::One),
+        0xd1 => Constructor::MapIn(SizeWidth::Four),
+        0xe0 => Constructor::ArrayIn(SizeWidth::One),
+        0xf0 => Constructor::ArrayIn(SizeWidth::Four),
         _ => return None,
     };
     Some(constructor)
+}
+
+/// The kind that a constructor makes.
+pub(crate) fn kind_of(constructor: Constructor) -> Kind
+    ensures { result ≡ kind_of constructor }
+{
+    match constructor {
+        Constructor::Fixed(kind, _) | Constructor::Variable(kind, _) => kind,
+        Constructor::EmptyList | Constructor::ListIn(_) => Kind::List,
+        Constructor::MapIn(_) => Kind::Map,
+        Constructor::ArrayIn(_) => Kind::Array,
+    }
 }

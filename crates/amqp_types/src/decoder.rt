@@ -1,160 +1,385 @@
-//! Reading a value.
+//! Reading a value and keeping it.
 
-ghost use Rattle.std.specs.Prelude.{◌≡◌, ◌≢◌, ◌⊎◌, ℕ, ◌^◌, ◌<◌, ◌≤◌, List, ◌++◌, length, take, drop, IfOk, IfErr, None, Ok};
-ghost use Rattle.byteorder.specs.Endian.{big_number};
-ghost use Rattle.amqp_types.specs.Kinds.{fixed_width, width};
-ghost use Rattle.amqp_types.specs.Codes.{IsSound};
-ghost use Rattle.amqp_types.specs.Spelling.{IsNumberOf, AreOctetsOf, Spells};
-ghost use Rattle.amqp_types.specs.Trees.{Tree, Number, Octets};
-ghost use Rattle.amqp_types.specs.Values.{view};
-ghost use Rattle.amqp_types.specs.Misreading.{Misread};
-ghost use Rattle.amqp_types.specs.Reading.{Is, Gives, outermost, number_at, big_at, sized_at, data_at, value_at, value_of};
+ghost use Rattle.std.specs.Prelude.{◌≡◌, ◌⊎◌, ℕ, ◌+◌, ◌≤◌, List, ◌++◌, length, take, drop, IfOk, IfErr, Some, Ok};
+ghost use Rattle.amqp_types.specs.Codes.{IsSound, kind_of};
+ghost use Rattle.amqp_types.specs.Values.{view, views, pair_views};
+ghost use Rattle.amqp_types.specs.Reading.{Is, Gives, charge, item_by, described_at, value_by, trees_at, pairs_at, head_at, list_at, map_at, array_at, level_by, inside, outermost};
+ghost use Rattle.amqp_types.specs.Misreading.{AValue, Misread};
+ghost use Rattle.amqp_types.specs.Decoding.{decoded};
+ghost use Rattle.amqp_types.specs.Places.{place_of};
+ghost use Rattle.amqp_types.specs.Trees.{Tree, IsLawful, depth_of, nodes_of};
+ghost use Rattle.amqp_types.specs.Trees as trees;
+ghost use Rattle.amqp_types.specs.Spelling.{Spells};
 
-use crate::code::{Constructor, Form};
+use crate::block::{block_at, count_at, ended};
+use crate::code::{Constructor, SizeWidth, kind_of};
 use crate::fault::ReadFault;
-use crate::kind::Kind;
-use crate::scalar::{constructor_at, number_at, sized_at};
-use crate::symbol::Symbol;
+use crate::keys::Keys;
+use crate::limits::Limits;
+use crate::scalar::{allowed, size_len, sized_at};
+use crate::scalar_value::{fixed_value, octets_value};
+use crate::skipper::{may_hold, one_less};
 use crate::value::Value;
 use crate::window::Window;
 use std::alloc::Global;
 
-/// The value that a number of the kind is.
-fn number_value(kind: Kind, number: u64) -> Value
-    requires fixed { fixed_width kind ≢ None }
-    requires some { 1 ≤ width kind }
-    requires eight { width kind ≤ 8 }
-    requires fits { number < 256 ^ width kind }
-    requires of_kind { IsNumberOf kind number }
-    ensures { view result ≡ Number kind number }
-{
-    match kind {
-        Kind::Boolean => Value::Boolean(number == 1),
-        Kind::Ubyte => Value::Ubyte(number as u8),
-        Kind::Ushort => Value::Ushort(number as u16),
-        Kind::Uint => Value::Uint(number as u32),
-        Kind::Ulong => Value::Ulong(number),
-        Kind::Byte => Value::Byte((number as u8).cast_signed()),
-        Kind::Short => Value::Short((number as u16).cast_signed()),
-        Kind::Int => Value::Int((number as u32).cast_signed()),
-        Kind::Long => Value::Long(number.cast_signed()),
-        Kind::Float => Value::Float((number as u32).to_be_bytes()),
-        Kind::Double => Value::Double(number.to_be_bytes()),
-        Kind::Decimal32 => Value::Decimal32((number as u32).to_be_bytes()),
-        Kind::Decimal64 => Value::Decimal64(number.to_be_bytes()),
-        Kind::Char => Value::Char(char::from_u32(number as u32).unwrap()),
-        Kind::Timestamp => Value::Timestamp(number.cast_signed()),
-        _ => unreachable!(),
-    }
-}
-
-/// The next sixteen bytes.
-fn sixteen(w: Window, bytes: &[u8]) -> Result<([u8; 16], &[u8]), ReadFault>
-    ensures { Is (λ x. (big_number 16 x.0, x.1.now)) result (big_at w 16 bytes.now) }
-{
-    let (front, rest) = w.octets(16, bytes)?;
-    let mut octets = [0u8; 16];
-    octets.copy_from_slice(front);
-    Ok((octets, rest))
-}
-
-#[tactic(auto, unfolding(crate::specs::Reading::data_at, crate::specs::Reading::number_at, crate::specs::Reading::form_at))]
-fn fixed_value(w: Window, kind: Kind, form: Form, bytes: &[u8]) -> Result<(Value, &[u8]), ReadFault>
-    requires within { length bytes.now ≤ w.end }
-    requires sound { IsSound (Constructor.Fixed kind form) }
-    ensures { Is (λ x. (view x.0, x.1.now)) result (data_at w (Constructor.Fixed kind form) bytes.now) }
-{
-    match kind {
-        Kind::Null => Ok((Value::Null, bytes)),
-        Kind::Decimal128 => {
-            let (octets, rest) = sixteen(w, bytes)?;
-            Ok((Value::Decimal128(octets), rest))
-        }
-        Kind::Uuid => {
-            let (octets, rest) = sixteen(w, bytes)?;
-            Ok((Value::Uuid(octets), rest))
-        }
-        _ => {
-            let (number, rest) = number_at(w, kind, form, bytes)?;
-            Ok((number_value(kind, number), rest))
-        }
-    }
-}
-
-/// The value that bytes of the kind are.
-fn octets_value(alloc: Global, kind: Kind, octets: &[u8]) -> Result<Value, ReadFault>
-    requires variable { fixed_width kind ≡ None }
-    requires of_kind { AreOctetsOf kind octets.now }
-    ensures ok { IfOk result (λ v. view v ≡ Octets kind octets.now) }
-    ensures err { IfErr result (λ e. e ≡ ReadFault.NoMemory) }
-{
-    let copy = Vec::from_slice(alloc, octets)?;
-    match kind {
-        Kind::Binary => Ok(Value::Binary(copy)),
-        Kind::String => match String::from_utf8(copy) {
-            Ok(text) => Ok(Value::String(text)),
-            Err(_) => unreachable!(),
-        },
-        Kind::Symbol => match Symbol::new(copy) {
-            Some(name) => Ok(Value::Symbol(name)),
-            None => unreachable!(),
-        },
-        _ => unreachable!(),
-    }
-}
-
-/// The value behind a constructor.
-#[tactic(auto, unfolding(crate::specs::Reading::data_at))]
-fn data_value(
-    alloc: Global,
-    w: Window,
+/// An array's descriptors, outermost first, and its element constructor.
+#[derive(Drop)]
+struct ArrayHead {
+    descriptors: Vec<Value>,
     constructor: Constructor,
+}
+
+fn array_value(head: ArrayHead, items: Vec<Value>) -> Value
+    ensures { view result ≡ trees.ArrayOf (views head.descriptors.items) (kind_of head.constructor) (views items.items) }
+{
+    Value::Array {
+        descriptors: head.descriptors,
+        kind: kind_of(head.constructor),
+        items,
+    }
+}
+
+/// The nodes that are left where so many are charged at the place.
+fn charge(nodes: usize, count: usize, at: usize) -> Result<usize, ReadFault>
+    ensures { Is (λ left. Some left) result (charge (Some nodes) count at) }
+{
+    if nodes < count {
+        return Err(ReadFault::TooManyNodes(at));
+    }
+    Ok(nodes - count)
+}
+
+/// The value at the front, the nodes left and the bytes behind it. It is charged `due` nodes.
+#[tactic(auto, unfolding(crate::specs::Reading::value_by))]
+#[cycle(read)]
+fn read_value(
+    alloc: Global,
+    depth: usize,
+    w: Window,
+    due: usize,
+    nodes: usize,
     bytes: &[u8],
-) -> Result<(Value, &[u8]), ReadFault>
+) -> Result<(Value, usize, &[u8]), ReadFault>
+    requires within { length bytes.now ≤ w.end }
+    requires due { due ≤ 1 }
+    ensures read { Gives (λ x. (view x.0, Some x.1, x.2.now)) result (value_by (inside depth) w due (Some nodes) bytes.now) }
+    ensures rest { IfOk result (λ x. length x.2.now ≤ length bytes.now) }
+{
+    let Some((code, rest)) = bytes.split_first() else {
+        return Err(w.short);
+    };
+    if *code == 0 {
+        return read_described(alloc, depth, w.place(bytes), w, due, nodes, rest);
+    }
+    let constructor = allowed(w.place(bytes), *code, may_hold(depth))?;
+    let left = charge(nodes, due, w.place(bytes))?;
+    read_item(alloc, depth, constructor, w, left, rest)
+}
+
+/// A descriptor and what it describes; the `00` in front of them stands at `at`.
+#[tactic(auto, unfolding(crate::specs::Reading::described_at))]
+#[cycle(read)]
+fn read_described(
+    alloc: Global,
+    depth: usize,
+    at: usize,
+    w: Window,
+    due: usize,
+    nodes: usize,
+    bytes: &[u8],
+) -> Result<(Value, usize, &[u8]), ReadFault>
+    requires within { length bytes.now ≤ w.end }
+    requires due { due ≤ 1 }
+    ensures read { Gives (λ x. (view x.0, Some x.1, x.2.now)) result (described_at (inside depth) at w due (Some nodes) bytes.now) }
+    ensures rest { IfOk result (λ x. length x.2.now ≤ length bytes.now) }
+{
+    let Some(less) = one_less(depth) else {
+        return Err(ReadFault::TooDeep(at));
+    };
+    let left = charge(nodes, due + 2, at)?;
+    let (descriptor, left, rest) = read_value(alloc, less, w, 0, left, bytes)?;
+    let (described, left, rest) = read_value(alloc, less, w, 0, left, rest)?;
+    let value = Value::Described(Box::new(alloc, descriptor)?, Box::new(alloc, described)?);
+    Ok((value, left, rest))
+}
+
+/// The data of a constructor.
+#[tactic(auto, unfolding(crate::specs::Reading::item_by))]
+#[cycle(read)]
+fn read_item(
+    alloc: Global,
+    depth: usize,
+    constructor: Constructor,
+    w: Window,
+    nodes: usize,
+    bytes: &[u8],
+) -> Result<(Value, usize, &[u8]), ReadFault>
     requires within { length bytes.now ≤ w.end }
     requires sound { IsSound constructor }
-    ensures { Gives (λ x. (view x.0, x.1.now)) result (data_at w constructor bytes.now) }
+    ensures read { Gives (λ x. (view x.0, Some x.1, x.2.now)) result (item_by (inside depth) constructor w (Some nodes) bytes.now) }
+    ensures rest { IfOk result (λ x. length x.2.now ≤ length bytes.now) }
 {
     match constructor {
-        Constructor::Fixed(kind, form) => fixed_value(w, kind, form, bytes),
+        Constructor::Fixed(kind, form) => {
+            let (value, rest) = fixed_value(w, kind, form, bytes)?;
+            Ok((value, nodes, rest))
+        }
         Constructor::Variable(kind, size) => {
             let (octets, rest) = sized_at(w, kind, size, bytes)?;
-            Ok((octets_value(alloc, kind, octets)?, rest))
+            Ok((octets_value(alloc, kind, octets)?, nodes, rest))
         }
+        Constructor::EmptyList => Ok((Value::List(Vec::new(alloc)), nodes, bytes)),
+        Constructor::ListIn(size) => match one_less(depth) {
+            None => Err(w.short),
+            Some(less) => read_list(alloc, less, w, size, nodes, bytes),
+        },
+        Constructor::MapIn(size) => match one_less(depth) {
+            None => Err(w.short),
+            Some(less) => read_map(alloc, less, w, size, nodes, bytes),
+        },
+        Constructor::ArrayIn(size) => match one_less(depth) {
+            None => Err(w.short),
+            Some(less) => read_array(alloc, less, w, size, nodes, bytes),
+        },
     }
 }
 
-#[tactic(auto, unfolding(crate::specs::Reading::value_at))]
-fn read_value(alloc: Global, w: Window, bytes: &[u8]) -> Result<(Value, &[u8]), ReadFault>
+#[tactic(auto, unfolding(crate::specs::Reading::list_at))]
+#[cycle(read)]
+fn read_list(
+    alloc: Global,
+    depth: usize,
+    w: Window,
+    size: SizeWidth,
+    nodes: usize,
+    bytes: &[u8],
+) -> Result<(Value, usize, &[u8]), ReadFault>
     requires { length bytes.now ≤ w.end }
-    ensures { Gives (λ x. (view x.0, x.1.now)) result (value_at w bytes.now) }
+    ensures read { Gives (λ x. (view x.0, Some x.1, x.2.now)) result (list_at (level_by (inside depth)) w size (Some nodes) bytes.now) }
+    ensures rest { IfOk result (λ x. length x.2.now ≤ length bytes.now) }
 {
-    let (constructor, rest) = constructor_at(w, bytes)?;
-    data_value(alloc, w, constructor, rest)
+    let block = block_at(w, size, size_len(size), bytes)?;
+    let (count, front) = count_at(block.within, size, false, block.body)?;
+    let left = charge(nodes, count, block.within.place(block.body))?;
+    let (items, left, rest) = read_values(alloc, depth, count, block.within, left, front)?;
+    ended(block.within, rest)?;
+    Ok((Value::List(items), left, block.behind))
 }
 
-fn decode_front(alloc: Global, bytes: &[u8]) -> Result<(Value, usize), ReadFault>
-    ensures within { IfOk result (λ x. x.1 ≤ length bytes.now) }
-    ensures exact { Gives (λ x. (view x.0, drop x.1 bytes.now)) result (value_of bytes.now) }
+#[tactic(auto, unfolding(crate::specs::Reading::map_at))]
+#[cycle(read)]
+fn read_map(
+    alloc: Global,
+    depth: usize,
+    w: Window,
+    size: SizeWidth,
+    nodes: usize,
+    bytes: &[u8],
+) -> Result<(Value, usize, &[u8]), ReadFault>
+    requires { length bytes.now ≤ w.end }
+    ensures read { Gives (λ x. (view x.0, Some x.1, x.2.now)) result (map_at (level_by (inside depth)) w size (Some nodes) bytes.now) }
+    ensures rest { IfOk result (λ x. length x.2.now ≤ length bytes.now) }
 {
-    let (value, rest) = read_value(alloc, Window::of(bytes), bytes)?;
+    let block = block_at(w, size, size_len(size), bytes)?;
+    let (count, front) = count_at(block.within, size, true, block.body)?;
+    let left = charge(nodes, count, block.within.place(block.body))?;
+    let (entries, left, rest) = read_pairs(alloc, depth, count / 2, block.within, left, front)?;
+    ended(block.within, rest)?;
+    Ok((Value::Map(entries), left, block.behind))
+}
+
+#[tactic(auto, unfolding(crate::specs::Reading::array_at))]
+#[cycle(read)]
+fn read_array(
+    alloc: Global,
+    depth: usize,
+    w: Window,
+    size: SizeWidth,
+    nodes: usize,
+    bytes: &[u8],
+) -> Result<(Value, usize, &[u8]), ReadFault>
+    requires { length bytes.now ≤ w.end }
+    ensures read { Gives (λ x. (view x.0, Some x.1, x.2.now)) result (array_at (level_by (inside depth)) w size (Some nodes) bytes.now) }
+    ensures rest { IfOk result (λ x. length x.2.now ≤ length bytes.now) }
+{
+    let block = block_at(w, size, size_len(size) + 1, bytes)?;
+    let (count, front) = count_at(block.within, size, false, block.body)?;
+    let left = charge(nodes, count, block.within.place(block.body))?;
+    let (head, left, rest) = read_head(alloc, depth, block.within, left, front)?;
+    let (items, left, rest) = read_items(
+        alloc,
+        depth,
+        head.constructor,
+        count,
+        block.within,
+        left,
+        rest,
+    )?;
+    ended(block.within, rest)?;
+    Ok((array_value(head, items), left, block.behind))
+}
+
+/// So many values, one after the other.
+#[cycle(read)]
+fn read_values(
+    alloc: Global,
+    depth: usize,
+    count: usize,
+    w: Window,
+    nodes: usize,
+    bytes: &[u8],
+) -> Result<(Vec<Value>, usize, &[u8]), ReadFault>
+    requires { length bytes.now ≤ w.end }
+    ensures read { Gives (λ x. (views x.0.items, Some x.1, x.2.now)) result (trees_at (λ within. (level_by (inside depth)).value within 0) count w (Some nodes) bytes.now) }
+    ensures rest { IfOk result (λ x. length x.2.now ≤ length bytes.now) }
+{
+    let mut values = Vec::new(alloc);
+    let mut left = nodes;
+    let mut rest = bytes;
+    for _ in 0..count {
+        let (value, less, behind) = read_value(alloc, depth, w, 0, left, rest)?;
+        values.push(value)?;
+        left = less;
+        rest = behind;
+    }
+    Ok((values, left, rest))
+}
+
+/// The data of so many items, one after the other.
+#[cycle(read)]
+fn read_items(
+    alloc: Global,
+    depth: usize,
+    constructor: Constructor,
+    count: usize,
+    w: Window,
+    nodes: usize,
+    bytes: &[u8],
+) -> Result<(Vec<Value>, usize, &[u8]), ReadFault>
+    requires within { length bytes.now ≤ w.end }
+    requires sound { IsSound constructor }
+    ensures read { Gives (λ x. (views x.0.items, Some x.1, x.2.now)) result (trees_at ((level_by (inside depth)).item constructor) count w (Some nodes) bytes.now) }
+    ensures rest { IfOk result (λ x. length x.2.now ≤ length bytes.now) }
+{
+    let mut items = Vec::new(alloc);
+    let mut left = nodes;
+    let mut rest = bytes;
+    for _ in 0..count {
+        let (item, less, behind) = read_item(alloc, depth, constructor, w, left, rest)?;
+        items.push(item)?;
+        left = less;
+        rest = behind;
+    }
+    Ok((items, left, rest))
+}
+
+/// So many keys and values in turn. Equal keys are a fault at the later one.
+#[cycle(read)]
+fn read_pairs(
+    alloc: Global,
+    depth: usize,
+    count: usize,
+    w: Window,
+    nodes: usize,
+    bytes: &[u8],
+) -> Result<(Vec<(Value, Value)>, usize, &[u8]), ReadFault>
+    requires { length bytes.now ≤ w.end }
+    ensures read { Gives (λ x. (pair_views x.0.items, Some x.1, x.2.now)) result (pairs_at (level_by (inside depth)) trees.none count w (Some nodes) bytes.now) }
+    ensures rest { IfOk result (λ x. length x.2.now ≤ length bytes.now) }
+{
+    let mut entries = Vec::new(alloc);
+    let mut keys = Keys::new(alloc);
+    let mut left = nodes;
+    let mut rest = bytes;
+    for _ in 0..count {
+        let (key, less, behind) = read_value(alloc, depth, w, 0, left, rest)?;
+        if !keys.insert(alloc, &key)? {
+            return Err(ReadFault::DuplicateKey(w.place(rest)));
+        }
+        let (value, less, behind) = read_value(alloc, depth, w, 0, less, behind)?;
+        entries.push((key, value))?;
+        left = less;
+        rest = behind;
+    }
+    Ok((entries, left, rest))
+}
+
+/// An array's element constructor, and the descriptors in front of it.
+#[cycle(read)]
+fn read_head(
+    alloc: Global,
+    depth: usize,
+    w: Window,
+    nodes: usize,
+    bytes: &[u8],
+) -> Result<(ArrayHead, usize, &[u8]), ReadFault>
+    requires { length bytes.now ≤ w.end }
+    ensures read { Gives (λ x. (record { descriptors = views x.0.descriptors.items; constructor = x.0.constructor }, Some x.1, x.2.now)) result (head_at (length bytes.now) (level_by (inside depth)) w (Some nodes) bytes.now) }
+    ensures sound { IfOk result (λ x. IsSound x.0.constructor) }
+    ensures rest { IfOk result (λ x. length x.2.now ≤ length bytes.now) }
+{
+    let mut descriptors = Vec::new(alloc);
+    let mut left = nodes;
+    let mut rest = bytes;
+    for _ in 0..bytes.len() {
+        let Some((code, after)) = rest.split_first() else {
+            return Err(w.short);
+        };
+        if *code != 0 {
+            let constructor = allowed(w.place(rest), *code, may_hold(depth))?;
+            let head = ArrayHead {
+                descriptors,
+                constructor,
+            };
+            return Ok((head, left, after));
+        }
+        let paid = charge(left, 1, w.place(rest))?;
+        let (descriptor, less, behind) = read_value(alloc, depth, w, 0, paid, after)?;
+        descriptors.push(descriptor)?;
+        left = less;
+        rest = behind;
+    }
+    Err(w.short)
+}
+
+/// The value in front and its length, by the reading function.
+fn decode_front(alloc: Global, bytes: &[u8], limits: Limits) -> Result<(Value, usize), ReadFault>
+    ensures within { IfOk result (λ x. x.1 ≤ length bytes.now) }
+    ensures exact { Gives (λ x. (view x.0, drop x.1 bytes.now)) result (decoded limits.depth limits.nodes bytes.now) }
+{
+    let (value, _, rest) = read_value(
+        alloc,
+        limits.depth,
+        Window::of(bytes),
+        1,
+        limits.nodes,
+        bytes,
+    )?;
     Ok((value, bytes.len() - rest.len()))
 }
 
 /// The value that the bytes begin with, and its length in bytes. [1.2]
 ///
-/// Bytes may follow it. The value holds at most the bytes that it was read from. `NoMemory` is
-/// answered only where memory for the value was refused.
-pub fn decode(alloc: Global, bytes: &[u8]) -> Result<(Value, usize), ReadFault>
-    // What is read is spelled by exactly those bytes.
+/// Bytes may follow it. A fault is the first from the left; `NoMemory` is answered only where memory
+/// for the value, or for finding equal keys, was refused. Nothing is kept after a fault.
+///
+/// What is held is bounded by the limit of nodes and by the input: at most one `Value` for each node
+/// charged, doubled by the growth of vectors, and at most the input's bytes for the contents of
+/// binaries, strings and symbols. While a map is read, its keys are held once more in a form of their
+/// own to find equal ones: at most 19 bytes for each node in them, and their contents.
+pub fn decode(alloc: Global, bytes: &[u8], limits: Limits) -> Result<(Value, usize), ReadFault>
     ensures within { IfOk result (λ x. x.1 ≤ length bytes.now) }
-    ensures found { IfOk result (λ x. Spells (view x.0) (take x.1 bytes.now)) }
-    // Each value that is spelled there is read, unless memory is refused.
-    ensures only { (t : Tree) (text rest : List ℕ) → Spells t text → bytes.now ≡ text ++ rest
-        → Gives {Y = Tree × ℕ} (λ x. (view x.0, x.1)) result (Ok (t, length text)) }
+    // What is found is spelled there, lawful and within the limits.
+    ensures found { IfOk result (λ x. Spells (view x.0) (take x.1 bytes.now) × IsLawful (view x.0) × (depth_of (view x.0) ≤ limits.depth) × (nodes_of (view x.0) ≤ limits.nodes)) }
+    // Each lawful value within the limits that is spelled there is found, if its memory is there.
+    ensures only { (t : Tree) (text rest : List ℕ) → Spells t text → IsLawful t → depth_of t ≤ limits.depth → nodes_of t ≤ limits.nodes
+        → bytes.now ≡ text ++ rest → Gives {Y = Tree × ℕ} (λ x. (view x.0, x.1)) result (Ok (t, length text)) }
     // A fault is one that the bytes have, and it is the first.
-    ensures misread { IfErr result (λ e. (e ≡ ReadFault.NoMemory) ⊎ Misread (outermost bytes.now) bytes.now e) }
-    ensures exact { Gives (λ x. (view x.0, drop x.1 bytes.now)) result (value_of bytes.now) }
+    ensures misread { IfErr result (λ e. (e ≡ ReadFault.NoMemory) ⊎ Misread (AValue 1) limits.depth (outermost bytes.now) (Some limits.nodes) bytes.now e) }
+    ensures exact { Gives (λ x. (view x.0, drop x.1 bytes.now)) result (decoded limits.depth limits.nodes bytes.now) }
+    // A fault stands within the bytes.
+    ensures placed { IfErr result (λ e. place_of e ≤ length bytes.now) }
 {
-    decode_front(alloc, bytes)
+    decode_front(alloc, bytes, limits)
 }

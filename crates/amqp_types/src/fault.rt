@@ -8,11 +8,13 @@ use std::alloc::{AllocError, AllocFailed};
 /// The first fault from the left, with its place: bytes from the first byte of the outermost value.
 #[derive(Clone, Copy, Debug, PartialEq, Eq)]
 pub enum ReadFault {
-    /// The input ends inside a part; the place is its length.
+    /// The input ends inside a part that no list, map or array holds, or before the end that an outermost
+    /// size states; the place is its length.
     Truncated(usize),
     /// A code that no constructor has, at the code.
     UnknownCode(usize),
-    /// A size that its parts do not fit, at the size field.
+    /// A part, or the end that its size states, past the list, map or array around it, at that one's size
+    /// field; or bytes left over in one, or a size below that of a count, at its own.
     BadSize(usize),
     /// A map with an odd count, at the count field.
     BadCount(usize),
@@ -30,7 +32,7 @@ pub enum ReadFault {
     TooDeep(usize),
     /// More nodes than the limit, where they are charged.
     TooManyNodes(usize),
-    /// Memory for the value was refused. This has no place.
+    /// Memory for the value, or for finding equal keys, was refused. This has no place.
     NoMemory,
 }
 

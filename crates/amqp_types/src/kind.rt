@@ -27,6 +27,9 @@ pub enum Kind {
     Binary,
     String,
     Symbol,
+    List,
+    Map,
+    Array,
 }
 
 /// The bytes of the full form of a fixed-width kind; 0 for a kind of variable width.
@@ -35,6 +38,7 @@ pub(crate) fn width(kind: Kind) -> usize
 {
     match kind {
         Kind::Null | Kind::Binary | Kind::String | Kind::Symbol => 0,
+        Kind::List | Kind::Map | Kind::Array => 0,
         Kind::Boolean | Kind::Ubyte | Kind::Byte => 1,
         Kind::Ushort | Kind::Short => 2,
         Kind::Uint | Kind::Int | Kind::Float | Kind::Decimal32 | Kind::Char => 4,

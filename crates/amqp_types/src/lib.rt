@@ -1,28 +1,40 @@
-//! The type system of AMQP 1.0 (part 1): values, how bytes spell them, and reading them.
+//! The type system of AMQP 1.0 (part 1): values, how bytes spell them, reading and writing them.
 //!
-//! `decode` answers exactly the value that the front of the bytes spells, `skip` how many bytes that is,
-//! and either the first fault from the left with its place. `specs/Spelling.antt` says what a spelling
-//! is, by cases on the value; `specs/Reading.antt` is the reading function, faults and all;
-//! `specs/Misreading.antt` says what is wrong where there is a fault.
+//! `decode` answers exactly the value that the front of the bytes spells, within limits of depth and nodes;
+//! `skip` how many bytes that is, with no memory; either the first fault from the left with its place.
+//! `encode` appends the one canonical spelling of a value. `specs/Spelling.antt` says what a spelling is, by
+//! cases on the value, and `specs/Misreading.antt` what is wrong where there is none; `specs/Canonical.antt` which
+//! one is written; `specs/Reading.antt` is the reading function, faults and all.
 #![tactic(auto)]
 
+mod block;
+mod checks;
 mod code;
 mod decoder;
+mod encoder;
 mod fault;
+mod image;
+mod keys;
 mod kind;
 pub mod laws;
+mod limits;
+mod part;
 mod scalar;
+mod scalar_value;
+mod shape;
+mod shell;
 mod skipper;
 mod symbol;
 mod value;
 mod window;
+mod write_fault;
 
 pub use decoder::decode;
+pub use encoder::encode;
 pub use fault::ReadFault;
 pub use kind::Kind;
+pub use limits::Limits;
 pub use skipper::skip;
 pub use symbol::Symbol;
 pub use value::Value;
-
-#[cfg(test)]
-mod tests;
+pub use write_fault::WriteFault;

@@ -1,32 +1,38 @@
 //! Reading the data of values that hold no others.
 
-ghost use Rattle.std.specs.Prelude.{◌≡◌, ◌+◌, ◌≤◌, ◌<◌, ◌^◌, length, IfOk, IfSome, IfNone};
+ghost use Rattle.std.specs.Prelude.{◌≡◌, ℕ, List, ◌∷◌, ◌+◌, ◌≤◌, ◌<◌, ◌^◌, length, IfOk, IfSome, IfNone};
 ghost use Rattle.std.specs.List.{position};
 ghost use Rattle.std.specs.Str.{IsAscii};
-ghost use Rattle.amqp_types.specs.Codes.{IsSound};
-ghost use Rattle.amqp_types.specs.Kinds.{width};
+ghost use Rattle.amqp_types.specs.Codes.{IsSound, find_code, kind_of};
+ghost use Rattle.amqp_types.specs.Kinds.{width, is_container};
 ghost use Rattle.amqp_types.specs.Spelling.{sign_extended, size_len, IsNumberOf, AreOctetsOf};
-ghost use Rattle.amqp_types.specs.Reading.{Is, is_beyond_ascii, octets_fault, form_at, number_at, sized_at, constructor_at};
+ghost use Rattle.amqp_types.specs.Reading.{Is, is_beyond_ascii, octets_fault, form_at, number_at, sized_at, allowed};
 
 use crate::code::{Constructor, Form, SizeWidth, find_code};
 use crate::fault::ReadFault;
 use crate::kind::{Kind, width};
 use crate::window::Window;
 
-/// The constructor that the next byte is.
-#[tactic(auto, unfolding(crate::specs::Reading::constructor_at))]
-pub fn constructor_at(w: Window, bytes: &[u8]) -> Result<(Constructor, &[u8]), ReadFault>
-    requires { length bytes.now ≤ w.end }
-    ensures read { Is (λ x. (x.0, x.1.now)) result (constructor_at w bytes.now) }
-    ensures sound { IfOk result (λ x. IsSound x.0) }
-    ensures shorter { IfOk result (λ x. length x.1.now + 1 ≡ length bytes.now) }
+/// The constructor of a code at the place, where it may stand.
+pub fn allowed(at: usize, code: u8, holds: bool) -> Result<Constructor, ReadFault>
+    ensures read { Is (λ c. c) result (allowed at holds (find_code code)) }
+    ensures sound { IfOk result IsSound }
 {
-    let Some((code, rest)) = bytes.split_first() else {
-        return Err(w.short);
-    };
-    match find_code(*code) {
-        None => Err(ReadFault::UnknownCode(w.place(bytes))),
-        Some(constructor) => Ok((constructor, rest)),
+    match find_code(code) {
+        None => Err(ReadFault::UnknownCode(at)),
+        Some(constructor) if is_container(constructor) && !holds => Err(ReadFault::TooDeep(at)),
+        Some(constructor) => Ok(constructor),
+    }
+}
+
+/// Whether values of the constructor hold others.
+fn is_container(constructor: Constructor) -> bool
+    requires { IsSound constructor }
+    ensures { result ≡ is_container (kind_of constructor) }
+{
+    match constructor {
+        Constructor::Fixed(..) | Constructor::Variable(..) => false,
+        _ => true,
     }
 }
 
@@ -61,6 +67,7 @@ fn form_at(w: Window, form: Form, n: usize, bytes: &[u8]) -> Result<(u64, &[u8])
     requires eight { n ≤ 8 }
     ensures read { Is (λ x. (x.0, x.1.now)) result (form_at w form n bytes.now) }
     ensures fits { IfOk result (λ x. x.0 < 256 ^ n) }
+    ensures rest { IfOk result (λ x. length x.1.now ≤ length bytes.now) }
 {
     match form {
         Form::Zero => Ok((0, bytes)),
@@ -83,6 +90,7 @@ pub fn number_at(w: Window, kind: Kind, form: Form, bytes: &[u8]) -> Result<(u64
     ensures read { Is (λ x. (x.0, x.1.now)) result (number_at w kind form bytes.now) }
     ensures fits { IfOk result (λ x. x.0 < 256 ^ width kind) }
     ensures of_kind { IfOk result (λ x. IsNumberOf kind x.0) }
+    ensures rest { IfOk result (λ x. length x.1.now ≤ length bytes.now) }
 {
     let at = w.place(bytes);
     let (number, rest) = form_at(w, form, width(kind), bytes)?;
@@ -94,7 +102,7 @@ pub fn number_at(w: Window, kind: Kind, form: Form, bytes: &[u8]) -> Result<(u64
 }
 
 /// The bytes that the size field says.
-fn size_len(size: SizeWidth) -> usize
+pub fn size_len(size: SizeWidth) -> usize
     ensures { result ≡ size_len size }
 {
     match size {
@@ -157,6 +165,7 @@ pub fn sized_at(
     requires { length bytes.now ≤ w.end }
     ensures read { Is (λ x. (x.0.now, x.1.now)) result (sized_at w kind size bytes.now) }
     ensures of_kind { IfOk result (λ x. AreOctetsOf kind x.0.now) }
+    ensures rest { IfOk result (λ x. length x.1.now ≤ length bytes.now) }
 {
     let (len, rest) = w.big(size_len(size), bytes)?;
     let (octets, after) = w.octets(len as usize, rest)?;

@@ -1,16 +1,21 @@
 //! The length of a value, read without keeping it.
 
-ghost use Rattle.std.specs.Prelude.{◌≡◌, ℕ, ◌≤◌, List, ◌++◌, length, take, drop, IfOk, IfErr, Ok};
+ghost use Rattle.std.specs.Prelude.{◌≡◌, ℕ, ◌+◌, ◌≤◌, List, ◌++◌, length, take, drop, None, IfOk, IfErr, MatchOption, is_some, Some, Ok};
 ghost use Rattle.amqp_types.specs.Kinds.{width};
-ghost use Rattle.amqp_types.specs.Trees.{Tree};
-ghost use Rattle.amqp_types.specs.Spelling.{form_len, Spells};
-ghost use Rattle.amqp_types.specs.Misreading.{Misread};
-ghost use Rattle.amqp_types.specs.Reading.{Is, after, outermost, number_at, data_at, value_at, value_of};
+ghost use Rattle.amqp_types.specs.Codes.{IsSound};
+ghost use Rattle.amqp_types.specs.Spelling.{form_len};
+ghost use Rattle.amqp_types.specs.Reading.{Is, after, number_at, trees_at, head_at, list_at, map_at, array_at, item_by, described_at, value_by, level_by, inside, outermost, value_of};
+ghost use Rattle.amqp_types.specs.Trees.{Tree, depth_of};
+ghost use Rattle.amqp_types.specs.Spelling.{Spells};
+ghost use Rattle.amqp_types.specs.Misreading.{AValue, Misread};
+ghost use Rattle.amqp_types.specs.Places.{place_of, IsPlain};
+ghost use Rattle.amqp_types.specs.Skipping.{constructor_after, is_still, rest_of};
 
-use crate::code::{Constructor, Form};
+use crate::block::{block_at, count_at, ended};
+use crate::code::{Constructor, Form, SizeWidth};
 use crate::fault::ReadFault;
 use crate::kind::{Kind, is_partial, width};
-use crate::scalar::{constructor_at, number_at, sized_at};
+use crate::scalar::{allowed, number_at, size_len, sized_at};
 use crate::window::Window;
 
 /// How many bytes stand behind a fixed-width constructor.
@@ -25,8 +30,10 @@ fn form_len(kind: Kind, form: Form) -> usize
 }
 
 fn skip_number(w: Window, kind: Kind, form: Form, bytes: &[u8]) -> Result<&[u8], ReadFault>
-    requires { length bytes.now ≤ w.end }
-    ensures { Is (λ r. r.now) result (after (number_at w kind form bytes.now)) }
+    requires within { length bytes.now ≤ w.end }
+    requires sound { IsSound (Constructor.Fixed kind form) }
+    ensures read { Is (λ r. r.now) result (rest_of (number_at w kind form bytes.now)) }
+    ensures rest { IfOk result (λ r. length r.now ≤ length bytes.now) }
 {
     if is_partial(kind) {
         let (_, rest) = number_at(w, kind, form, bytes)?;
@@ -36,11 +43,79 @@ fn skip_number(w: Window, kind: Kind, form: Form, bytes: &[u8]) -> Result<&[u8],
     Ok(rest)
 }
 
-/// What is left behind the data of a constructor.
-#[tactic(auto, unfolding(crate::specs::Reading::data_at))]
-fn skip_data(w: Window, constructor: Constructor, bytes: &[u8]) -> Result<&[u8], ReadFault>
+/// Whether the constructor has no data behind it.
+fn is_still(constructor: Constructor) -> bool
+    ensures { result ≡ is_still constructor }
+{
+    match constructor {
+        Constructor::Fixed(kind, form) => form_len(kind, form) == 0,
+        Constructor::EmptyList => true,
+        _ => false,
+    }
+}
+
+/// Whether a container may stand where so many levels of depth are left.
+#[tactic(auto, using(crate::proofs::Levels::inside_zero, crate::proofs::Levels::inside_some))]
+pub fn may_hold(depth: usize) -> bool
+    ensures { result ≡ is_some (inside depth) }
+{
+    depth > 0
+}
+
+/// The depth that is left inside a container, where one may stand.
+#[tactic(auto, using(crate::proofs::Levels::inside_zero, crate::proofs::Levels::inside_more))]
+pub fn one_less(depth: usize) -> Option<usize>
+    ensures inside { MatchOption result (inside depth ≡ None) (λ less. inside depth ≡ Some (level_by (inside less))) }
+    ensures less { MatchOption result (depth ≡ 0) (λ less. less + 1 ≡ depth) }
+{
+    if depth == 0 { None } else { Some(depth - 1) }
+}
+
+#[tactic(auto, unfolding(crate::specs::Reading::value_by))]
+#[cycle(walk)]
+fn skip_value(depth: usize, w: Window, bytes: &[u8]) -> Result<&[u8], ReadFault>
     requires { length bytes.now ≤ w.end }
-    ensures { Is (λ r. r.now) result (after (data_at w constructor bytes.now)) }
+    ensures read { Is (λ r. r.now) result (after (value_by (inside depth) w 0 None bytes.now)) }
+    ensures rest { IfOk result (λ r. length r.now ≤ length bytes.now) }
+{
+    let Some((code, rest)) = bytes.split_first() else {
+        return Err(w.short);
+    };
+    if *code == 0 {
+        return skip_described(depth, w, w.place(bytes), rest);
+    }
+    let constructor = allowed(w.place(bytes), *code, may_hold(depth))?;
+    skip_item(depth, constructor, w, rest)
+}
+
+/// What is left behind a descriptor and what it describes; the `00` in front of them stands at `at`.
+#[tactic(auto, unfolding(crate::specs::Reading::described_at))]
+#[cycle(walk)]
+fn skip_described(depth: usize, w: Window, at: usize, bytes: &[u8]) -> Result<&[u8], ReadFault>
+    requires { length bytes.now ≤ w.end }
+    ensures read { Is (λ r. r.now) result (after (described_at (inside depth) at w 0 None bytes.now)) }
+    ensures rest { IfOk result (λ r. length r.now ≤ length bytes.now) }
+{
+    let Some(less) = one_less(depth) else {
+        return Err(ReadFault::TooDeep(at));
+    };
+    let rest = skip_value(less, w, bytes)?;
+    skip_value(less, w, rest)
+}
+
+/// What is left behind the data of a constructor.
+#[tactic(auto, unfolding(crate::specs::Reading::item_by))]
+#[cycle(walk)]
+fn skip_item(
+    depth: usize,
+    constructor: Constructor,
+    w: Window,
+    bytes: &[u8],
+) -> Result<&[u8], ReadFault>
+    requires within { length bytes.now ≤ w.end }
+    requires sound { IsSound constructor }
+    ensures read { Is (λ r. r.now) result (after (item_by (inside depth) constructor w None bytes.now)) }
+    ensures rest { IfOk result (λ r. length r.now ≤ length bytes.now) }
 {
     match constructor {
         Constructor::Fixed(kind, form) => skip_number(w, kind, form, bytes),
@@ -48,41 +123,150 @@ fn skip_data(w: Window, constructor: Constructor, bytes: &[u8]) -> Result<&[u8],
             let (_, rest) = sized_at(w, kind, size, bytes)?;
             Ok(rest)
         }
+        Constructor::EmptyList => Ok(bytes),
+        Constructor::ListIn(size) => match one_less(depth) {
+            None => Err(w.short),
+            Some(less) => skip_list(less, w, size, bytes),
+        },
+        Constructor::MapIn(size) => match one_less(depth) {
+            None => Err(w.short),
+            Some(less) => skip_map(less, w, size, bytes),
+        },
+        Constructor::ArrayIn(size) => match one_less(depth) {
+            None => Err(w.short),
+            Some(less) => skip_array(less, w, size, bytes),
+        },
     }
 }
 
-/// What is left behind the value at the front.
-#[tactic(auto, unfolding(crate::specs::Reading::value_at))]
-fn skip_value(w: Window, bytes: &[u8]) -> Result<&[u8], ReadFault>
+#[tactic(auto, unfolding(crate::specs::Reading::list_at))]
+#[cycle(walk)]
+fn skip_list(depth: usize, w: Window, size: SizeWidth, bytes: &[u8]) -> Result<&[u8], ReadFault>
     requires { length bytes.now ≤ w.end }
-    ensures { Is (λ r. r.now) result (after (value_at w bytes.now)) }
+    ensures read { Is (λ r. r.now) result (after (list_at (level_by (inside depth)) w size None bytes.now)) }
+    ensures rest { IfOk result (λ r. length r.now ≤ length bytes.now) }
 {
-    let (constructor, rest) = constructor_at(w, bytes)?;
-    skip_data(w, constructor, rest)
+    let block = block_at(w, size, size_len(size), bytes)?;
+    let (count, items) = count_at(block.within, size, false, block.body)?;
+    let rest = skip_values(depth, count, block.within, items)?;
+    ended(block.within, rest)?;
+    Ok(block.behind)
 }
 
-/// The length of the value at the front.
-fn skip_len(bytes: &[u8]) -> Result<usize, ReadFault>
-    ensures within { IfOk result (λ n. n ≤ length bytes.now) }
-    ensures exact { Is (λ n. drop n bytes.now) result (after (value_of bytes.now)) }
+#[tactic(auto, unfolding(crate::specs::Reading::map_at))]
+#[cycle(walk)]
+fn skip_map(depth: usize, w: Window, size: SizeWidth, bytes: &[u8]) -> Result<&[u8], ReadFault>
+    requires { length bytes.now ≤ w.end }
+    ensures read { Is (λ r. r.now) result (after (map_at (level_by (inside depth)) w size None bytes.now)) }
+    ensures rest { IfOk result (λ r. length r.now ≤ length bytes.now) }
 {
-    let rest = skip_value(Window::of(bytes), bytes)?;
+    let block = block_at(w, size, size_len(size), bytes)?;
+    let (count, entries) = count_at(block.within, size, true, block.body)?;
+    let rest = skip_values(depth, count, block.within, entries)?;
+    ended(block.within, rest)?;
+    Ok(block.behind)
+}
+
+#[tactic(auto, unfolding(crate::specs::Reading::array_at))]
+#[cycle(walk)]
+fn skip_array(depth: usize, w: Window, size: SizeWidth, bytes: &[u8]) -> Result<&[u8], ReadFault>
+    requires { length bytes.now ≤ w.end }
+    ensures read { Is (λ r. r.now) result (after (array_at (level_by (inside depth)) w size None bytes.now)) }
+    ensures rest { IfOk result (λ r. length r.now ≤ length bytes.now) }
+{
+    let block = block_at(w, size, size_len(size) + 1, bytes)?;
+    let (count, head) = count_at(block.within, size, false, block.body)?;
+    let (constructor, items) = skip_head(depth, block.within, head)?;
+    let rest = skip_items(depth, constructor, count, block.within, items)?;
+    ended(block.within, rest)?;
+    Ok(block.behind)
+}
+
+/// What is left behind so many values.
+#[cycle(walk)]
+fn skip_values(depth: usize, count: usize, w: Window, bytes: &[u8]) -> Result<&[u8], ReadFault>
+    requires { length bytes.now ≤ w.end }
+    ensures read { Is (λ r. r.now) result (after (trees_at (λ within. (level_by (inside depth)).value within 0) count w None bytes.now)) }
+    ensures rest { IfOk result (λ r. length r.now ≤ length bytes.now) }
+{
+    let mut rest = bytes;
+    for _ in 0..count {
+        rest = skip_value(depth, w, rest)?;
+    }
+    Ok(rest)
+}
+
+/// What is left behind the data of so many items. Those of width zero are not walked.
+#[cycle(walk)]
+fn skip_items(
+    depth: usize,
+    constructor: Constructor,
+    count: usize,
+    w: Window,
+    bytes: &[u8],
+) -> Result<&[u8], ReadFault>
+    requires within { length bytes.now ≤ w.end }
+    requires sound { IsSound constructor }
+    ensures read { Is (λ r. r.now) result (after (trees_at ((level_by (inside depth)).item constructor) count w None bytes.now)) }
+    ensures rest { IfOk result (λ r. length r.now ≤ length bytes.now) }
+{
+    if is_still(constructor) {
+        return Ok(bytes);
+    }
+    let mut rest = bytes;
+    for _ in 0..count {
+        rest = skip_item(depth, constructor, w, rest)?;
+    }
+    Ok(rest)
+}
+
+/// An array's element constructor, behind its descriptors.
+#[cycle(walk)]
+fn skip_head(depth: usize, w: Window, bytes: &[u8]) -> Result<(Constructor, &[u8]), ReadFault>
+    requires { length bytes.now ≤ w.end }
+    ensures read { Is (λ x. (x.0, x.1.now)) result (constructor_after (head_at (length bytes.now) (level_by (inside depth)) w None bytes.now)) }
+    ensures sound { IfOk result (λ x. IsSound x.0) }
+    ensures rest { IfOk result (λ x. length x.1.now ≤ length bytes.now) }
+{
+    let mut rest = bytes;
+    for _ in 0..bytes.len() {
+        let Some((code, after)) = rest.split_first() else {
+            return Err(w.short);
+        };
+        if *code != 0 {
+            return Ok((allowed(w.place(rest), *code, may_hold(depth))?, after));
+        }
+        rest = skip_value(depth, w, after)?;
+    }
+    Err(w.short)
+}
+
+/// The length of the value in front, by the reading function.
+fn skip_len(bytes: &[u8], depth: usize) -> Result<usize, ReadFault>
+    ensures within { IfOk result (λ n. n ≤ length bytes.now) }
+    ensures exact { Is (λ n. drop n bytes.now) result (after (value_of depth None bytes.now)) }
+{
+    let rest = skip_value(depth, Window::of(bytes), bytes)?;
     Ok(bytes.len() - rest.len())
 }
 
-/// The length of the value that the bytes begin with, in bytes. [1.2]
+/// The length of the value that the bytes begin with, in bytes, within a depth. [1.2]
 ///
-/// Bytes may follow it. Nothing is kept, and no memory is taken. Never answers `DuplicateKey`,
-/// `TooManyNodes` or `NoMemory`.
-pub fn skip(bytes: &[u8]) -> Result<usize, ReadFault>
-    // As many bytes spell some value.
+/// Bytes may follow it. Nothing is kept, no memory is taken, elements of width zero are not walked, and the
+/// depth of the stack is bounded by `depth`. Equal keys are not looked for and nodes are not counted: never
+/// answers `DuplicateKey`, `TooManyNodes` or `NoMemory`.
+pub fn skip(bytes: &[u8], depth: usize) -> Result<usize, ReadFault>
     ensures within { IfOk result (λ n. n ≤ length bytes.now) }
-    ensures found { IfOk result (λ n. (t : Tree) × Spells t (take n bytes.now)) }
-    // Each value that is spelled there is found.
-    ensures only { (t : Tree) (text rest : List ℕ) → Spells t text → bytes.now ≡ text ++ rest → result ≡ Ok (length text) }
+    // What is found is spelled there.
+    ensures found { IfOk result (λ n. (t : Tree) × Spells t (take n bytes.now) × (depth_of t ≤ depth)) }
+    // Each value within the depth that is spelled there is found.
+    ensures only { (t : Tree) (text rest : List ℕ) → Spells t text → depth_of t ≤ depth → bytes.now ≡ text ++ rest → result ≡ Ok (length text) }
     // A fault is one that the bytes have, and it is the first.
-    ensures misread { IfErr result (λ e. Misread (outermost bytes.now) bytes.now e) }
-    ensures exact { Is (λ n. drop n bytes.now) result (after (value_of bytes.now)) }
+    ensures misread { IfErr result (λ e. Misread (AValue 1) depth (outermost bytes.now) None bytes.now e) }
+    ensures exact { Is (λ n. drop n bytes.now) result (after (value_of depth None bytes.now)) }
+    // A fault stands within the bytes, and is of them alone.
+    ensures placed { IfErr result (λ e. place_of e ≤ length bytes.now) }
+    ensures plain { IfErr result (λ e. IsPlain e) }
 {
-    skip_len(bytes)
+    skip_len(bytes, depth)
 }

@@ -1,5 +1,6 @@
 //! Values in hand.
 
+use crate::kind::Kind;
 use crate::symbol::Symbol;
 
 /// A value of AMQP, read or to be written. [1.1; 1.6]
@@ -29,4 +30,15 @@ pub enum Value {
     Binary(Vec<u8>),
     String(String),
     Symbol(Symbol),
+    List(Vec<Value>),
+    /// Keys and values, in order. No two keys of a lawful map are equal.
+    Map(Vec<(Value, Value)>),
+    /// Items of one kind, each under the same descriptors, outermost first.
+    Array {
+        descriptors: Vec<Value>,
+        kind: Kind,
+        items: Vec<Value>,
+    },
+    /// A descriptor, and the value that it describes.
+    Described(Box<Value>, Box<Value>),
 }

@@ -1,4 +1,4 @@
-use Rattle.std.proofs.Common.{◌≡◌, sym, ◌∙◌, ap, rules, arith}
+use Rattle.std.proofs.Common.{sym, ◌∙◌, ap, rules, arith}
 use Rattle.std.proofs.lemmas.Grind.{common_steps}
 use Rattle.amqp_frame.specs.Splits.{SplitterState}
 use Rattle.amqp.proofs.Clean.{clean_none, clean_step, fault_step, clean_all}
@@ -15,47 +15,12 @@ loop-lines-init g c = record {
 pub returns-then-is_fault-clause-answer : goal.returns-then-is_fault-clause-answer
 returns-then-is_fault-clause-answer g c =
     fault_step c.args.input.now c.loop-lines.at c.loop-lines.splitter c.next_unit.new.at c.next_unit.new.splitter.stage c.in-Some.item c.in_ok-item.field-0
-    c.loop-lines.invariant.clean c.in-Some.is c.in_ok-item.ensures.item (sym c.is_fault.ensures ∙ c.if-is_fault.true)
-
-pub loop-lines-preserved-else-is_fault : goal.loop-lines-preserved-else-is_fault
-loop-lines-preserved-else-is_fault g c = record {
-  clean = clean_step c.args.input.now c.loop-lines.at c.loop-lines.splitter c.next_unit.new.at c.next_unit.new.splitter c.in-Some.item c.in_ok-item.field-0
-      c.loop-lines.invariant.clean c.in-Some.is c.in_ok-item.ensures.item c.in_ok-item.ensures.goes_on (sym c.is_fault.ensures ∙ c.if-is_fault.false);
-  unmarked = first_of (search rules, grind (arith, common_steps));
-}
-
-pub loop-lines-preserved-else-is_fault-2 : goal.loop-lines-preserved-else-is_fault-2
-loop-lines-preserved-else-is_fault-2 g c = record {
-  clean = clean_step c.args.input.now c.loop-lines.at c.loop-lines.splitter c.next_unit.new.at c.next_unit.new.splitter c.in-Some.item c.in_ok-item.field-0
-      c.loop-lines.invariant.clean c.in-Some.is c.in_ok-item.ensures.item c.in_ok-item.ensures.goes_on (sym c.is_fault.ensures ∙ c.if-is_fault.false);
-  unmarked = first_of (search rules, grind (arith, common_steps));
-}
-
-pub loop-lines-preserved-else-is_fault-3 : goal.loop-lines-preserved-else-is_fault-3
-loop-lines-preserved-else-is_fault-3 g c = record {
-  clean = clean_step c.args.input.now c.loop-lines.at c.loop-lines.splitter c.next_unit.new.at c.next_unit.new.splitter c.in-Some.item c.in_ok-item.field-0
-      c.loop-lines.invariant.clean c.in-Some.is c.in_ok-item.ensures.item c.in_ok-item.ensures.goes_on (sym c.is_fault.ensures ∙ c.if-is_fault.false);
-  unmarked = first_of (search rules, grind (arith, common_steps));
-}
-
-pub loop-lines-preserved-else-is_fault-4 : goal.loop-lines-preserved-else-is_fault-4
-loop-lines-preserved-else-is_fault-4 g c = record {
-  clean = clean_step c.args.input.now c.loop-lines.at c.loop-lines.splitter c.next_unit.new.at c.next_unit.new.splitter c.in-Some.item c.in_ok-item.field-0
-      c.loop-lines.invariant.clean c.in-Some.is c.in_ok-item.ensures.item c.in_ok-item.ensures.goes_on (sym c.is_fault.ensures ∙ c.if-is_fault.false);
-  unmarked = first_of (search rules, grind (arith, common_steps));
-}
-
-pub loop-lines-preserved-else-is_fault-5 : goal.loop-lines-preserved-else-is_fault-5
-loop-lines-preserved-else-is_fault-5 g c = record {
-  clean = clean_step c.args.input.now c.loop-lines.at c.loop-lines.splitter c.next_unit.new.at c.next_unit.new.splitter c.in-Some.item c.in_ok-item.field-0
-      c.loop-lines.invariant.clean c.in-Some.is c.in_ok-item.ensures.item c.in_ok-item.ensures.goes_on (sym c.is_fault.ensures ∙ c.if-is_fault.false);
-  unmarked = first_of (search rules, grind (arith, common_steps));
-}
+    c.loop-lines.invariant.clean c.in-Some.is c.in_ok-item.ensures.item (sym c.in_ok-is_fault.ensures.fault ∙ c.if-is_fault.true)
 
 pub loop-lines-preserved : goal.loop-lines-preserved
 loop-lines-preserved g c = record {
   clean = clean_step c.args.input.now c.loop-lines.at c.loop-lines.splitter c.next_unit.new.at c.next_unit.new.splitter c.in-Some.item c.in_ok-item.field-0
-      c.loop-lines.invariant.clean c.in-Some.is c.in_ok-item.ensures.item c.in_ok-item.ensures.goes_on (sym c.is_fault.ensures ∙ c.if-is_fault.false);
+      c.loop-lines.invariant.clean c.in-Some.is c.in_ok-item.ensures.item c.in_ok-item.ensures.goes_on (sym c.in_ok-is_fault.ensures.fault ∙ c.if-is_fault.false);
   unmarked = first_of (search rules, grind (arith, common_steps));
 }
 

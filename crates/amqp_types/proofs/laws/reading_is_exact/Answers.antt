@@ -1,11 +1,14 @@
-use Rattle.amqp_types.proofs.Calls.{reading_found, reading_only, reading_misread}
+use Rattle.amqp_types.proofs.Calls.{decoded_found, decoded_again, rest_found, rest_again}
 use Rattle.amqp_types.proofs.laws.reading_is_exact.Goals as goal
 
 pub returns-clause-found : goal.returns-clause-found
-returns-clause-found c = reading_found
+returns-clause-found c = decoded_found
 
 pub returns-clause-only : goal.returns-clause-only
-returns-clause-only c = reading_only
+returns-clause-only c = decoded_again
 
-pub returns-clause-misread : goal.returns-clause-misread
-returns-clause-misread c = reading_misread
+pub returns-clause-skip_found : goal.returns-clause-skip_found
+returns-clause-skip_found c = rest_found
+
+pub returns-clause-skip_only : goal.returns-clause-skip_only
+returns-clause-skip_only c = rest_again

@@ -1,17 +1,14 @@
-use Rattle.std.proofs.Common.{arith, ap, ◌∙◌, Ok, List, ℕ}
-use Rattle.amqp_types.specs.Reading.{value_of}
-use Rattle.amqp_types.proofs.Calls.{after_ok, front_of}
+use Rattle.std.proofs.Common.{arith, ap, ◌∙◌}
+use Rattle.std.proofs.lemmas.Result.{err_from_is_err_and}
+use Rattle.amqp_types.specs.Reading.{after, inside, outermost}
+use Rattle.amqp_types.proofs.Fronts.{due_free, skipped_is}
 use Rattle.amqp_types.proofs.skipper.skip_len.Goals as goal
-
-pub overflow_sub-result : goal.overflow_sub-result
-overflow_sub-result c =
-    let bytes = c.args.bytes.now in
-    let a = after_ok (value_of bytes) c.in_ok-rest.rest.now (rw c.of.ensures at c.in_ok-rest.ensures) in
-    (front_of bytes c.in_ok-rest.rest.now a.0 (λ i. omega (arith, c.type_inv.bytes i)) a.1).within
 
 pub returns-clause-exact : goal.returns-clause-exact
 returns-clause-exact c =
-    let bytes = c.args.bytes.now in
-    let a = after_ok (value_of bytes) c.in_ok-rest.rest.now (rw c.of.ensures at c.in_ok-rest.ensures) in
-    let f = front_of bytes c.in_ok-rest.rest.now a.0 (λ i. omega (arith, c.type_inv.bytes i)) a.1 in
-    (rw c.of.ensures at c.in_ok-rest.ensures) ∙ ap (λ (r : List ℕ). Ok r) f.rest_is
+    skipped_is c.args.depth c.args.bytes.now c.in_ok-rest.rest.now (λ i. omega (arith, c.type_inv.bytes i)) (rw c.of.ensures at c.in_ok-rest.ensures.read)
+
+pub returns-in_err-rest-clause-exact : goal.returns-in_err-rest-clause-exact
+returns-in_err-rest-clause-exact c =
+    let p = err_from_is_err_and c.from_residual.result c.from_residual.ensures.1 in
+    rw (p.1, p.2) (ap after (due_free (inside c.args.depth) (outermost c.args.bytes.now) c.args.bytes.now) ∙ rw c.of.ensures at c.in_err-rest.ensures.read)

@@ -1,0 +1,47 @@
+//! Keys of a map, among which equal ones are found.
+
+ghost use Rattle.std.specs.Prelude.{◌≡◌, ℕ, ◌<◌, ◌^◌, [], not, ◌||◌, List, length, map, IfOk, OnOk, OnErr};
+ghost use Rattle.std.specs.Str.{bytes_eq};
+ghost use Rattle.amqp_types.specs.Decoding.{is_among};
+ghost use Rattle.amqp_types.specs.Images.{image};
+ghost use Rattle.amqp_types.specs.Values.{view};
+
+use crate::image::put_image;
+use crate::value::Value;
+use std::alloc::{AllocError, Global};
+use std::collections::BTreeSet;
+use std::marker::Model;
+
+/// Keys, by their images: whether one is there is found in logarithmic time.
+#[derive(Drop)]
+pub(crate) struct Keys {
+    images: BTreeSet<Vec<u8>>,
+}
+
+impl Model for Keys {
+    ghost Value = { List (List ℕ) };
+
+    ghost view = { λ keys. map (λ key. key.items) keys.images.keys };
+}
+
+impl Keys {
+    pub(crate) fn new(alloc: Global) -> Keys
+        ensures { result ≡ [] }
+    {
+        Keys {
+            images: BTreeSet::new(alloc),
+        }
+    }
+
+    /// Puts a key among them, and says whether it is new there.
+    pub(crate) fn insert(&mut self, alloc: Global, key: &Value) -> Result<bool, AllocError>
+        ensures new { IfOk result (λ new. new ≡ not (is_among (image (view key.now)) self.old)) }
+        ensures ok { OnOk result ((octets : List ℕ) → is_among octets self.new ≡ (bytes_eq (image (view key.now)) octets || is_among octets self.old)) }
+        ensures short { OnOk result (length (image (view key.now)) < 2 ^ 64) }
+        ensures err { OnErr result (self.new ≡ self.old) }
+    {
+        let mut octets = Vec::new(alloc);
+        put_image(key, &mut octets)?;
+        Ok(self.images.insert(octets)?)
+    }
+}

@@ -1,0 +1,32 @@
+//! Times `skip` and `decode` of `amqp_types`, and tests that crate from outside: tables of spellings, of
+//! faults with their places, and of what is written.
+#![tactic(auto)]
+
+mod body;
+mod case;
+mod measure;
+mod order;
+
+use crate::order::order_of;
+use std::env;
+
+/// How the program is run.
+const USAGE: &str = "usage: codec_bench run [CASE] [ROUNDS]";
+
+/// Measures what the command line asks for, or says how to ask.
+fn main(rt: HostRuntime) -> Result<(), measure::Failure> {
+    let words: Vec<String> = env::args(&rt)?.collect(rt.alloc())?;
+    match order_of(&words) {
+        Some(order) => measure::run(&rt, rt.alloc(), order),
+        None => Ok(println!(rt; "{USAGE}")?),
+    }
+}
+
+#[cfg(test)]
+mod tests;
+#[cfg(test)]
+mod tests_faults;
+#[cfg(test)]
+mod tests_large;
+#[cfg(test)]
+mod tests_writing;

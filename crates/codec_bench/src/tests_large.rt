@@ -1,0 +1,108 @@
+//! Large values, and refused memory.
+
+use crate::body::map_of;
+use crate::tests::{bytes_of, fault_of, len_of, read};
+use crate::tests_writing::put;
+use amqp_types::{Limits, ReadFault, Value, WriteFault};
+use std::alloc::Global;
+use std::process::Abort;
+use std::test::Fail;
+
+/// Limits that no value here reaches.
+const AMPLE: Limits = Limits {
+    depth: 9,
+    nodes: 1_000_000,
+};
+
+/// Arrays of four billion items that have no data, their depth, and the place of the count.
+const STILL: [(&str, usize, usize); 10] = [
+    ("f0 00 00 00 05 ff ff ff ff 40", 1, 5),
+    ("f0 00 00 00 05 ff ff ff ff 41", 1, 5),
+    ("f0 00 00 00 05 ff ff ff ff 42", 1, 5),
+    ("f0 00 00 00 05 ff ff ff ff 43", 1, 5),
+    ("f0 00 00 00 05 ff ff ff ff 44", 1, 5),
+    ("f0 00 00 00 05 ff ff ff ff 45", 2, 5),
+    ("f0 00 00 00 07 ff ff ff ff 00 43 40", 1, 5),
+    ("c0 0b 01 f0 00 00 00 05 ff ff ff ff 45", 3, 8),
+    (
+        "f0 00 00 00 0e 00 00 00 01 f0 00 00 00 05 ff ff ff ff 40",
+        2,
+        14,
+    ),
+    (
+        "f0 00 00 00 0e 00 00 00 01 f0 00 00 00 05 ff ff ff ff 45",
+        3,
+        14,
+    ),
+];
+
+/// A spelling of a described map from a symbol to an array of strings, and from a list to a binary.
+const NESTED: [u8; 30] = [
+    0x00, 0x53, 0x24, 0xc1, 0x19, 0x04, 0xa3, 0x01, 0x61, 0xe0, 0x06, 0x02, 0xa1, 0x01, 0x62, 0x01,
+    0x63, 0xc0, 0x04, 0x02, 0x43, 0x52, 0x07, 0xa0, 0x05, 0x01, 0x02, 0x03, 0x04, 0x05,
+];
+
+#[test]
+fn items_without_data_are_not_walked(rt: HostRuntime) -> Result<(), Fail> {
+    for (hex, depth, place) in STILL {
+        let bytes = bytes_of(rt.alloc(), hex)?;
+        assert_eq!(rt; len_of(&bytes, depth), Ok(bytes.len()), "{hex}");
+        let fault = fault_of(rt.alloc(), &bytes, AMPLE);
+        assert_eq!(rt; fault, Some(ReadFault::TooManyNodes(place)), "{hex}");
+    }
+    Ok(())
+}
+
+fn entries(value: &Value) -> usize {
+    match value {
+        Value::Map(entries) => entries.len(),
+        _ => 0,
+    }
+}
+
+#[test]
+fn keys_of_a_large_map_are_compared(rt: HostRuntime) -> Result<(), Fail> {
+    let mut bytes = map_of(rt.alloc(), 32_768)?;
+    let (value, len) = read(rt.alloc(), &bytes, AMPLE)?;
+    assert_eq!(rt; len, bytes.len());
+    assert_eq!(rt; entries(&value), 32_768);
+    let exact = Limits {
+        depth: 1,
+        nodes: 65_536,
+    };
+    let fault = fault_of(rt.alloc(), &bytes, exact);
+    assert_eq!(rt; fault, Some(ReadFault::TooManyNodes(5)));
+    // The last key becomes the first one.
+    let last = len.checked_sub(6).ok_or("no entry")?;
+    bytes.truncate(last);
+    bytes.extend_from_slice(&[0x70, 0, 0, 0, 0, 0x40])?;
+    let fault = fault_of(rt.alloc(), &bytes, AMPLE);
+    assert_eq!(rt; fault, Some(ReadFault::DuplicateKey(last)));
+    assert_eq!(rt; len_of(&bytes, 1), Ok(len));
+    Ok(())
+}
+
+/// That the value is written whole, or nothing of it and only for want of memory.
+fn assert_whole_or_refused(rt: &impl Abort, alloc: Global, value: &Value) {
+    let mut out = Vec::new(alloc);
+    match put(value, &mut out) {
+        Ok(()) => assert_eq!(rt; out.as_slice(), NESTED.as_slice()),
+        Err(fault) => {
+            assert_eq!(rt; fault, WriteFault::NoMemory);
+            assert!(rt; out.is_empty());
+        }
+    }
+}
+
+/// To be run with each allocation refused in turn: the answers are right, or `NoMemory`.
+#[test]
+fn refused_memory_changes_no_answer(rt: HostRuntime) {
+    match read(rt.alloc(), &NESTED, AMPLE) {
+        Ok((value, len)) => {
+            assert_eq!(rt; len, NESTED.len());
+            assert_whole_or_refused(&rt, rt.alloc(), &value);
+        }
+        Err(fault) => assert_eq!(rt; fault, ReadFault::NoMemory),
+    }
+    assert_eq!(rt; len_of(&NESTED, AMPLE.depth), Ok(NESTED.len()));
+}
