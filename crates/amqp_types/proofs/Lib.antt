@@ -23,3 +23,6 @@ pub mod Apart
 pub mod Fitting
 pub mod Equals
 pub mod Agreeing
+pub mod Depths
+pub mod Peeks
+pub mod Puts

@@ -13,3 +13,4 @@ pub mod Canonical
 pub mod Shapes
 pub mod Parts
 pub mod Lawful
+pub mod Peeks

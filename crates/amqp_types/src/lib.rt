@@ -2,9 +2,11 @@
 //!
 //! `decode` answers exactly the value that the front of the bytes spells, within limits of depth and nodes;
 //! `skip` how many bytes that is, with no memory; either the first fault from the left with its place.
-//! `encode` appends the one canonical spelling of a value. `specs/Spelling.antt` says what a spelling is, by
-//! cases on the value, and `specs/Misreading.antt` what is wrong where there is none; `specs/Canonical.antt` which
-//! one is written; `specs/Reading.antt` is the reading function, faults and all.
+//! `encode` appends the one canonical spelling of a value. Without memory, `peek` answers the outermost case of
+//! a spelled value, its parts lent, and `put` writes a scalar into a buffer. `specs/Spelling.antt` says what a
+//! spelling is, by cases on the value, and `specs/Misreading.antt` what is wrong where there is none;
+//! `specs/Canonical.antt` which one is written; `specs/Reading.antt` is the reading function, faults and all;
+//! `specs/Peeks.antt` says what the outermost cases are.
 #![tactic(auto)]
 
 mod block;
@@ -19,6 +21,9 @@ mod kind;
 pub mod laws;
 mod limits;
 mod part;
+mod peeked;
+mod peeker;
+mod putter;
 mod scalar;
 mod scalar_value;
 mod shape;
@@ -34,6 +39,9 @@ pub use encoder::encode;
 pub use fault::ReadFault;
 pub use kind::Kind;
 pub use limits::Limits;
+pub use peeked::Peek;
+pub use peeker::peek;
+pub use putter::put;
 pub use skipper::skip;
 pub use symbol::Symbol;
 pub use value::Value;

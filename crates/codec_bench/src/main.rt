@@ -29,4 +29,6 @@ mod tests_faults;
 #[cfg(test)]
 mod tests_large;
 #[cfg(test)]
+mod tests_peeking;
+#[cfg(test)]
 mod tests_writing;

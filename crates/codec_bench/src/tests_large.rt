@@ -1,7 +1,7 @@
 //! Large values, and refused memory.
 
 use crate::body::map_of;
-use crate::tests::{bytes_of, fault_of, len_of, read};
+use crate::tests::{bytes_of, fault_of, len_of, number, read, triples};
 use crate::tests_writing::put;
 use amqp_types::{Limits, ReadFault, Value, WriteFault};
 use std::alloc::Global;
@@ -15,26 +15,18 @@ const AMPLE: Limits = Limits {
 };
 
 /// Arrays of four billion items that have no data, their depth, and the place of the count.
-const STILL: [(&str, usize, usize); 10] = [
-    ("f0 00 00 00 05 ff ff ff ff 40", 1, 5),
-    ("f0 00 00 00 05 ff ff ff ff 41", 1, 5),
-    ("f0 00 00 00 05 ff ff ff ff 42", 1, 5),
-    ("f0 00 00 00 05 ff ff ff ff 43", 1, 5),
-    ("f0 00 00 00 05 ff ff ff ff 44", 1, 5),
-    ("f0 00 00 00 05 ff ff ff ff 45", 2, 5),
-    ("f0 00 00 00 07 ff ff ff ff 00 43 40", 1, 5),
-    ("c0 0b 01 f0 00 00 00 05 ff ff ff ff 45", 3, 8),
-    (
-        "f0 00 00 00 0e 00 00 00 01 f0 00 00 00 05 ff ff ff ff 40",
-        2,
-        14,
-    ),
-    (
-        "f0 00 00 00 0e 00 00 00 01 f0 00 00 00 05 ff ff ff ff 45",
-        3,
-        14,
-    ),
-];
+const STILL: &str = "
+f0 00 00 00 05 ff ff ff ff 40 | 1 | 5
+f0 00 00 00 05 ff ff ff ff 41 | 1 | 5
+f0 00 00 00 05 ff ff ff ff 42 | 1 | 5
+f0 00 00 00 05 ff ff ff ff 43 | 1 | 5
+f0 00 00 00 05 ff ff ff ff 44 | 1 | 5
+f0 00 00 00 05 ff ff ff ff 45 | 2 | 5
+f0 00 00 00 07 ff ff ff ff 00 43 40 | 1 | 5
+c0 0b 01 f0 00 00 00 05 ff ff ff ff 45 | 3 | 8
+f0 00 00 00 0e 00 00 00 01 f0 00 00 00 05 ff ff ff ff 40 | 2 | 14
+f0 00 00 00 0e 00 00 00 01 f0 00 00 00 05 ff ff ff ff 45 | 3 | 14
+";
 
 /// A spelling of a described map from a symbol to an array of strings, and from a list to a binary.
 const NESTED: [u8; 30] = [
@@ -44,11 +36,12 @@ const NESTED: [u8; 30] = [
 
 #[test]
 fn items_without_data_are_not_walked(rt: HostRuntime) -> Result<(), Fail> {
-    for (hex, depth, place) in STILL {
+    for (hex, depth, place) in triples(rt.alloc(), STILL)? {
         let bytes = bytes_of(rt.alloc(), hex)?;
-        assert_eq!(rt; len_of(&bytes, depth), Ok(bytes.len()), "{hex}");
+        assert_eq!(rt; len_of(&bytes, number(depth)?), Ok(bytes.len()), "{hex}");
         let fault = fault_of(rt.alloc(), &bytes, AMPLE);
-        assert_eq!(rt; fault, Some(ReadFault::TooManyNodes(place)), "{hex}");
+        let wanted = ReadFault::TooManyNodes(number(place)?);
+        assert_eq!(rt; fault, Some(wanted), "{hex}");
     }
     Ok(())
 }
