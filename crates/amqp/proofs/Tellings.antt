@@ -119,7 +119,7 @@ until-fault entry entries h = rw h refl
 
 until-last : (entry : Entry) → until_fault (entry ∷ []) ≡ entry ∷ []
 until-last HeaderEntry = refl
-until-last (FrameEntry place size channel value payload) = refl
+until-last (FrameEntry place size channel value valid payload) = refl
 until-last (FaultEntry place fault) = refl
 
 map-push : (found : List Scanned) (item : Scanned) (entries : List Entry) → map entry_of (found ++ item ∷ []) ++ entries ≡ map entry_of found ++ (entry_of item ∷ entries)

@@ -1,9 +1,10 @@
 -- What is told of a stream: an entry for each of its units, up to the first fault (AMQP 1.0, part 2, sections 2.2 and 2.3).
-use Rattle.std.specs.Prelude.{◌≡◌, ℕ, ◌+◌, ◌*◌, ◌==◌, Bool, true, false, List, [], ◌∷◌, length, map, Option, Some, None, option_map, Ok, Err, if◌then◌else◌, IsTrue, ◌↔◌}
+use Rattle.std.specs.Prelude.{◌≡◌, ℕ, ◌+◌, ◌*◌, ◌==◌, Bool, true, false, List, [], ◌∷◌, length, map, Option, Some, None, option_map, is_some, Ok, Err, if◌then◌else◌, IsTrue, ◌↔◌}
 use Rattle.std.specs.List.{list_any}
 use Rattle.std.specs.Str.{bytes_eq}
 use Rattle.amqp_frame.specs.declared.units.TheConstants.{HEADER}
 use Rattle.amqp_frame.specs.Units.{StreamUnit, HeaderUnit, FrameUnit, FaultUnit, Units, bytes_of, offset_of, channel_of, body_of}
+use Rattle.amqp_perform.specs.Reading.{body_at}
 use Rattle.amqp_types.specs.Trees.{Tree}
 use Rattle.amqp_types.specs.Values.{view}
 use Rattle.amqp_types.specs.Reading.{Read}
@@ -15,26 +16,28 @@ use Rattle.amqp.specs.declared.scanned.Scanned.TheVariants as scanned
 use Rattle.amqp.specs.declared.scanned.StreamFault.{StreamFault}
 use Rattle.amqp.specs.declared.scanned.StreamFault.TheVariants as stream
 
--- What is told of a place: the header, a frame with its place, size, channel, value and payload's length, or a fault there.
+-- What is told of a place: the header, a frame with its place, size, channel, value, whether it is a valid performative, and
+-- payload's length, or a fault there.
 pub data Entry : Type 0 where
   HeaderEntry : Entry
-  FrameEntry : ℕ → ℕ → ℕ → Option Tree → ℕ → Entry
+  FrameEntry : ℕ → ℕ → ℕ → Option Tree → Bool → ℕ → Entry
   FaultEntry : ℕ → StreamFault → Entry
 
 -- the entry that a scanned unit stands for
 abbrev pub entry_of : Scanned → Entry
 entry_of scanned.Header = HeaderEntry
-entry_of (scanned.Frame frame) = FrameEntry frame.place frame.size frame.channel (option_map view frame.value) frame.payload
+entry_of (scanned.Frame frame) = FrameEntry frame.place frame.size frame.channel (option_map view frame.value) frame.is_performative frame.payload
 entry_of (scanned.Fault place fault) = FaultEntry place fault
 
--- the entry of a frame by what its body, which begins at a place in the frame, is read as: the value and the payload behind it, or the fault there
-abbrev pub read_entry : (place size channel start : ℕ) → Read Tree → Entry
-read_entry place size channel start (Ok read) = FrameEntry place size channel (Some read.0) (length read.1)
-read_entry place size channel start (Err fault) = FaultEntry (place + start + place_of fault) (stream.Value fault)
+-- the entry of a frame by what its body, which begins at a place in the frame, is read as: the value, whether the body is that of a
+-- performative, and the payload behind it, or the fault there
+abbrev pub read_entry : (place size channel start : ℕ) → Bool → Read Tree → Entry
+read_entry place size channel start valid (Ok read) = FrameEntry place size channel (Some read.0) valid (length read.1)
+read_entry place size channel start valid (Err fault) = FaultEntry (place + start + place_of fault) (stream.Value fault)
 
 -- the entry of a frame by its body: where there is none it has no value
 abbrev pub body_entry : (place size channel start : ℕ) → List ℕ → Entry
-body_entry place size channel start body = if length body == 0 then FrameEntry place size channel None 0 else read_entry place size channel start (decoded LIMITS.depth LIMITS.nodes body)
+body_entry place size channel start body = if length body == 0 then FrameEntry place size channel None false 0 else read_entry place size channel start (is_some (body_at body)) (decoded LIMITS.depth LIMITS.nodes body)
 
 -- the entry of the eight bytes in the header's place
 abbrev pub header_entry : ℕ → List ℕ → Entry
@@ -58,7 +61,7 @@ unit_entries place (u ∷ us) rest = unit_entry place u ∷ unit_entries (place 
 
 abbrev pub is_fault : Entry → Bool
 is_fault HeaderEntry = false
-is_fault (FrameEntry place size channel value payload) = false
+is_fault (FrameEntry place size channel value valid payload) = false
 is_fault (FaultEntry place fault) = true
 
 -- the entries up to the first fault

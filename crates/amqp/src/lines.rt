@@ -3,7 +3,8 @@
 use crate::scanned::{Scanned, ScannedFrame, StreamFault};
 use crate::text::write_value;
 use amqp_frame::FrameFault;
-use amqp_types::ReadFault;
+use amqp_perform::Descriptor;
+use amqp_types::{ReadFault, Value};
 use std::alloc::{AllocError, Global};
 use std::fmt::Write;
 
@@ -19,23 +20,71 @@ pub fn write_line(alloc: Global, out: &mut String, item: &Scanned) -> Result<(),
     out.push('\n')
 }
 
-/// Appends `PLACE size=N channel=C`, and then ` empty` or the value and the length of what follows it.
+/// Appends `PLACE size=N channel=C`, and then ` empty` or what the body says.
 fn write_frame(alloc: Global, out: &mut String, frame: &ScannedFrame) -> Result<(), AllocError> {
     let ScannedFrame {
         place,
         size,
         channel,
-        value,
-        payload,
+        ..
     } = frame;
     write!(out, "{place} size={size} channel={channel} ")?;
-    match value {
+    match &frame.value {
         None => write!(out, "empty"),
-        Some(value) => {
-            write!(out, "value ")?;
-            write_value(alloc, out, value)?;
-            write!(out, " payload={payload}")
-        }
+        Some(value) => write_body(alloc, out, value, frame),
+    }
+}
+
+/// Appends the value at the front of a body and the length of what follows it: a performative as its name and
+/// its list, with ` invalid` at the end where a field is, any other value behind `value`.
+fn write_body(
+    alloc: Global,
+    out: &mut String,
+    value: &Value,
+    frame: &ScannedFrame,
+) -> Result<(), AllocError> {
+    let performative = named_list(value);
+    let (name, shown) = performative.unwrap_or(("value", value));
+    write!(out, "{name} ")?;
+    write_value(alloc, out, shown)?;
+    write!(out, " payload={}", frame.payload)?;
+    if performative.is_some() && !frame.is_performative {
+        write!(out, " invalid")?;
+    }
+    Ok(())
+}
+
+/// The name of the performative that describes the value, and its list; none where it is no list, or is not
+/// described as a performative. [2.7]
+fn named_list(value: &Value) -> Option<(&'static str, &Value)> {
+    let (descriptor, list) = match value {
+        Value::Described(descriptor, list) => (descriptor, list),
+        _ => return None,
+    };
+    let list: &Value = list;
+    match list {
+        Value::List(_) => Some((performative_name(descriptor)?, list)),
+        _ => None,
+    }
+}
+
+fn performative_name(descriptor: &Value) -> Option<&'static str> {
+    let descriptor = match descriptor {
+        Value::Ulong(code) => Descriptor::of_code(*code)?,
+        Value::Symbol(symbol) => Descriptor::of_symbol(symbol.as_bytes())?,
+        _ => return None,
+    };
+    match descriptor {
+        Descriptor::Open => Some("open"),
+        Descriptor::Begin => Some("begin"),
+        Descriptor::Attach => Some("attach"),
+        Descriptor::Flow => Some("flow"),
+        Descriptor::Transfer => Some("transfer"),
+        Descriptor::Disposition => Some("disposition"),
+        Descriptor::Detach => Some("detach"),
+        Descriptor::End => Some("end"),
+        Descriptor::Close => Some("close"),
+        _ => None,
     }
 }
 

@@ -1,15 +1,17 @@
 //! The units of a stream: its header and its frames, each with its place and the value that its body
 //! begins with.
 
-ghost use Rattle.std.specs.Prelude.{◌≡◌, ◌≢◌, ℕ, ◌+◌, ◌-◌, ◌^◌, ◌<◌, ◌≤◌, [], ◌∷◌, length, drop, IfOk, OnOk, MatchOption};
+ghost use Rattle.std.specs.Prelude.{◌≡◌, ◌≢◌, ℕ, ◌+◌, ◌-◌, ◌^◌, ◌<◌, ◌≤◌, [], ◌∷◌, length, drop, is_some, IfOk, OnOk, MatchOption};
 ghost use Rattle.std.specs.Str.{bytes_eq};
 ghost use Rattle.amqp_frame.specs.Splits.{IsOver};
+ghost use Rattle.amqp_perform.specs.Reading.{body_at};
 ghost use Rattle.amqp_types.specs.Places.{place_of};
 ghost use Rattle.amqp.specs.Entries.{entry_of, header_entry, body_entry, read_entry, rest_entries, TellsOf};
 ghost use Rattle.amqp.specs.Steps.{IsWaiting, IsReady, IsNext, GoesOn};
 
 use crate::scanned::{Scanned, ScannedFrame, StreamFault};
 use amqp_frame::{Frame, HEADER, Splitter};
+use amqp_perform::read_body;
 use amqp_types::{Limits, ReadFault, decode};
 use std::alloc::{AllocError, Global};
 
@@ -111,6 +113,7 @@ fn told_frame(
             size,
             channel: frame.channel,
             value: None,
+            is_performative: false,
             payload: 0,
         }));
     }
@@ -120,6 +123,7 @@ fn told_frame(
             size,
             channel: frame.channel,
             value: Some(value),
+            is_performative: says_performative(frame.body),
             payload: frame.body.len() - length,
         })),
         Err(fault) => {
@@ -127,6 +131,16 @@ fn told_frame(
             let body = place + (size - frame.body.len());
             Ok(Scanned::Fault(body + inside, StreamFault::Value(fault)))
         }
+    }
+}
+
+/// Whether a body begins with a performative whose fields are valid. [2.7]
+fn says_performative(body: &[u8]) -> bool
+    ensures { result ≡ is_some (body_at body.now) }
+{
+    match read_body(body) {
+        Ok(_) => true,
+        Err(_) => false,
     }
 }
 

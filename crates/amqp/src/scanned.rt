@@ -27,6 +27,8 @@ pub struct ScannedFrame {
     pub channel: u16,
     /// The value at the front of the body; none where there is no body.
     pub value: Option<Value>,
+    /// Whether the body begins with a performative whose fields are valid. [2.7]
+    pub is_performative: bool,
     /// How many bytes follow the value.
     pub payload: usize,
 }

@@ -86,7 +86,7 @@ fn prints_bodies_that_hold_others(rt: HostRuntime) -> Result<(), Fail> {
     let cases: [(&[u8], &[u8]); 4] = [
         (
             b"\x00\x00\x00\x0c\x02\x00\x00\x00\x00\x53\x10\x45",
-            b"8 size=12 channel=0 value @ulong:16([]) payload=0\n",
+            b"8 size=12 channel=0 open [] payload=0 invalid\n",
         ),
         (
             b"\x00\x00\x00\x11\x02\x00\x00\x00\x00\x53\x10\xc0\x04\x01\xa1\x02\x61",
@@ -108,6 +108,53 @@ fn prints_bodies_that_hold_others(rt: HostRuntime) -> Result<(), Fail> {
     let mut deep = Vec::from_slice(rt.alloc(), b"\x00\x00\x00\x30\x02\x00\x00\x00")?;
     deep.extend_from_slice(&[0; 40])?;
     assert_printed(&rt, rt.alloc(), &deep, b"fault: 48 TooDeep\n")
+}
+
+#[test]
+fn names_performatives(rt: HostRuntime) -> Result<(), Fail> {
+    let cases: [(&[u8], &[u8]); 6] = [
+        (
+            b"\x00\x00\x00\x11\x02\x00\x00\x00\x00\x53\x10\xc0\x04\x01\xa1\x01\x61\
+              \x00\x00\x00\x14\x02\x00\x00\x00\x00\x53\x11\xc0\x07\x04\x40\x43\x52\x64\x52\x64\
+              \x00\x00\x00\x19\x02\x00\x00\x00\x00\x53\x14\xc0\x09\x06\x43\x43\xa0\x01\x74\x40\x40\x41abc",
+            b"8 size=17 channel=0 open [string:\"a\"] payload=0\n\
+              25 size=20 channel=0 begin [null, uint:0, uint:100, uint:100] payload=0\n\
+              45 size=25 channel=0 transfer [uint:0, uint:0, binary:74, null, null, true] payload=3\n",
+        ),
+        (
+            b"\x00\x00\x00\x20\x02\x00\x00\x00\x00\x53\x12\xc0\x13\x0a\xa1\x01l\x43\x42\x40\x40\
+              \x00\x53\x28\x45\x00\x53\x29\x45\x40\x40\x43",
+            b"8 size=32 channel=0 attach [string:\"l\", uint:0, false, null, null, @ulong:40([]), @ulong:41([]), null, null, uint:0] payload=0\n",
+        ),
+        (
+            b"\x00\x00\x00\x12\x02\x00\x00\x01\x00\x53\x13\xc0\x05\x04\x43\x43\x43\x43\
+              \x00\x00\x00\x10\x02\x00\x00\x00\x00\x53\x15\xc0\x03\x02\x41\x43\
+              \x00\x00\x00\x0f\x02\x00\x00\x00\x00\x53\x16\xc0\x02\x01\x43",
+            b"8 size=18 channel=1 flow [uint:0, uint:0, uint:0, uint:0] payload=0\n\
+              26 size=16 channel=0 disposition [true, uint:0] payload=0\n\
+              42 size=15 channel=0 detach [uint:0] payload=0\n",
+        ),
+        (
+            b"\x00\x00\x00\x0c\x02\x00\x00\x00\x00\x53\x17\x45\
+              \x00\x00\x00\x13\x02\x00\x00\x00\x00\x80\x00\x00\x00\x00\x00\x00\x00\x18\x45\
+              \x00\x00\x00\x1c\x02\x00\x00\x00\x00\xa3\x0famqp:close:list\x45\x07",
+            b"8 size=12 channel=0 end [] payload=0\n\
+              20 size=19 channel=0 close [] payload=0\n\
+              39 size=28 channel=0 close [] payload=1\n",
+        ),
+        (
+            b"\x00\x00\x00\x0e\x02\x00\x00\x00\x00\x53\x18\xa1\x01\x61",
+            b"8 size=14 channel=0 value @ulong:24(string:\"a\") payload=0\n",
+        ),
+        (
+            b"\x00\x00\x00\x10\x02\x00\x00\x00\x00\x53\x18\xc0\x03\x02\x40\x40",
+            b"8 size=16 channel=0 close [null, null] payload=0 invalid\n",
+        ),
+    ];
+    for (frames, lines) in cases {
+        assert_printed(&rt, rt.alloc(), frames, lines)?;
+    }
+    Ok(())
 }
 
 #[test]

@@ -20,12 +20,18 @@ const ATTACH: [u8; 24] = [
     0x45, 0x00, 0x53, 0x29, 0x45, 0x40, 0x40, 0x43,
 ];
 
+/// A receiver's disposition of one delivery: accepted and settled.
+const DISPOSITION: [u8; 14] = [
+    0x00, 0x53, 0x15, 0xc0, 0x09, 0x05, 0x41, 0x43, 0x40, 0x41, 0x00, 0x53, 0x24, 0x45,
+];
+
 /// The spelling of the value.
 pub fn spelling(alloc: Global, subject: Subject) -> Result<Vec<u8>, AllocError> {
     match subject {
         Subject::Transfer => Vec::from_slice(alloc, &TRANSFER),
         Subject::Flow => Vec::from_slice(alloc, &FLOW),
         Subject::Attach => Vec::from_slice(alloc, &ATTACH),
+        Subject::Disposition => Vec::from_slice(alloc, &DISPOSITION),
         Subject::List(count) => list_of(alloc, count),
         Subject::Map(count) => map_of(alloc, count),
     }

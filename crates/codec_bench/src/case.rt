@@ -5,14 +5,17 @@
 pub enum Call {
     Skip,
     Decode,
+    ReadBody,
+    WriteFrame,
 }
 
-/// The value that the call reads.
+/// The value that the call reads, or writes.
 #[derive(Clone, Copy)]
 pub enum Subject {
     Transfer,
     Flow,
     Attach,
+    Disposition,
     /// A list of so many small values.
     List(u16),
     /// A map of so many distinct keys to null.
@@ -38,7 +41,7 @@ const fn timed(name: &'static str, call: Call, subject: Subject, rounds: u32) ->
 }
 
 /// Every case, in the order in which they are measured.
-pub fn cases() -> [Case; 9] {
+pub fn cases() -> [Case; 15] {
     [
         timed("skip-transfer", Call::Skip, Subject::Transfer, 1_000_000),
         timed("decode-transfer", Call::Decode, Subject::Transfer, 200_000),
@@ -46,6 +49,32 @@ pub fn cases() -> [Case; 9] {
         timed("decode-flow", Call::Decode, Subject::Flow, 200_000),
         timed("skip-attach", Call::Skip, Subject::Attach, 1_000_000),
         timed("decode-attach", Call::Decode, Subject::Attach, 200_000),
+        timed(
+            "read-transfer",
+            Call::ReadBody,
+            Subject::Transfer,
+            1_000_000,
+        ),
+        timed("read-flow", Call::ReadBody, Subject::Flow, 1_000_000),
+        timed(
+            "read-disposition",
+            Call::ReadBody,
+            Subject::Disposition,
+            1_000_000,
+        ),
+        timed(
+            "write-transfer",
+            Call::WriteFrame,
+            Subject::Transfer,
+            1_000_000,
+        ),
+        timed("write-flow", Call::WriteFrame, Subject::Flow, 1_000_000),
+        timed(
+            "write-disposition",
+            Call::WriteFrame,
+            Subject::Disposition,
+            1_000_000,
+        ),
         timed("skip-list-10000", Call::Skip, Subject::List(10_000), 1_000),
         timed("skip-list-20000", Call::Skip, Subject::List(20_000), 1_000),
         timed("decode-map-32768", Call::Decode, Subject::Map(32_768), 10),

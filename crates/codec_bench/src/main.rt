@@ -1,5 +1,5 @@
-//! Times `skip` and `decode` of `amqp_types`, and tests that crate from outside: tables of spellings, of
-//! faults with their places, and of what is written.
+//! Times the calls of `amqp_types` and `amqp_perform`, and tests these crates from outside: tables of spellings,
+//! of faults with their places, of performatives, and of what is written.
 #![tactic(auto)]
 
 mod body;
@@ -30,5 +30,9 @@ mod tests_faults;
 mod tests_large;
 #[cfg(test)]
 mod tests_peeking;
+#[cfg(test)]
+mod tests_performatives;
+#[cfg(test)]
+mod tests_states;
 #[cfg(test)]
 mod tests_writing;

@@ -3,6 +3,7 @@
 use crate::body::spelling;
 use crate::case::{Call, Case, cases};
 use crate::order::Order;
+use amqp_perform::{BodyFault, read_body, write_frame};
 use amqp_types::{Limits, ReadFault, decode, skip};
 use std::alloc::{AllocError, AllocFailed, Global};
 use std::io;
@@ -22,6 +23,10 @@ pub enum Failure {
     Io(io::Error),
     /// A value was not read.
     Read(ReadFault),
+    /// A body was not read.
+    Body(BodyFault),
+    /// A frame did not fit.
+    Full,
 }
 
 impl From<io::Error> for Failure {
@@ -45,6 +50,12 @@ impl<T: Drop> From<AllocFailed<T>> for Failure {
 impl From<ReadFault> for Failure {
     fn from(fault: ReadFault) -> Failure {
         Failure::Read(fault)
+    }
+}
+
+impl From<BodyFault> for Failure {
+    fn from(fault: BodyFault) -> Failure {
+        Failure::Body(fault)
     }
 }
 
@@ -80,17 +91,20 @@ fn measure(
     // A byte behind the value, to be changed in each round.
     bytes.push(0)?;
     let start = Instant::now(rt)?;
-    let read = read_often(alloc, case.call, rounds, &mut bytes)?;
+    let moved = match case.call {
+        Call::WriteFrame => write_often(rounds, &bytes)?,
+        call => read_often(alloc, call, rounds, &mut bytes)?,
+    };
     let nanoseconds = start.elapsed(rt)?.as_nanos();
     let per_call = nanoseconds.checked_div(u128::from(rounds)).unwrap_or(0);
     let name = case.name;
-    println!(rt; "{name} rounds={rounds} bytes={len} read={read} ns={per_call}")?;
+    println!(rt; "{name} rounds={rounds} bytes={len} moved={moved} ns={per_call}")?;
     Ok(())
 }
 
 /// Reads the value so many times, and answers how many bytes were read together. The last byte changes
 /// in each round, so that no answer can be kept for the next one.
-fn read_often(alloc: Global, call: Call, rounds: u32, bytes: &mut [u8]) -> Result<u64, ReadFault> {
+fn read_often(alloc: Global, call: Call, rounds: u32, bytes: &mut [u8]) -> Result<u64, Failure> {
     let mut read: u64 = 0;
     for _ in 0..rounds {
         if let Some(last) = bytes.last_mut() {
@@ -101,12 +115,30 @@ fn read_often(alloc: Global, call: Call, rounds: u32, bytes: &mut [u8]) -> Resul
     Ok(read)
 }
 
-fn read_once(alloc: Global, call: Call, bytes: &[u8]) -> Result<usize, ReadFault> {
+fn read_once(alloc: Global, call: Call, bytes: &[u8]) -> Result<usize, Failure> {
     match call {
-        Call::Skip => skip(bytes, LIMITS.depth),
+        Call::Skip => Ok(skip(bytes, LIMITS.depth)?),
         Call::Decode => {
             let (_, len) = decode(alloc, bytes, LIMITS)?;
             Ok(len)
         }
+        Call::ReadBody | Call::WriteFrame => {
+            let (_, len) = read_body(bytes)?;
+            Ok(len)
+        }
     }
+}
+
+/// Writes the frame of the performative that the bytes spell so many times, each time on another channel, and
+/// answers how many bytes were written together.
+fn write_often(rounds: u32, bytes: &[u8]) -> Result<u64, Failure> {
+    let (performative, _) = read_body(bytes)?;
+    let mut out = [0; 64];
+    let mut written: u64 = 0;
+    for round in 0..rounds {
+        let channel = (round % 65536) as u16;
+        let len = write_frame(channel, &performative, &[], &mut out).ok_or(Failure::Full)?;
+        written = written.wrapping_add(len as u64);
+    }
+    Ok(written)
 }

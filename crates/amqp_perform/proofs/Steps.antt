@@ -1,0 +1,31 @@
+-- Steps of reading that lemmas speak of.
+use Rattle.std.proofs.Common.{ℕ, List, Option, Some}
+use Rattle.amqp_types.specs.declared.code.SizeWidth.{SizeWidth}
+use Rattle.amqp_types.specs.declared.code.SizeWidth.TheVariants as size
+use Rattle.amqp_perform.specs.Cells.{Cell, ◌>>=◌}
+use Rattle.amqp_perform.specs.Reading.{ListAt, byte_at, word_at, octets_at}
+
+-- as many bytes as a size says that was read in front of them
+abbrev pub behind_size : Option (ℕ × List ℕ) → Option (List ℕ × List ℕ)
+behind_size size = size >>= λ n. octets_at n.0 n.1
+
+abbrev pub with_rest : List ℕ → Cell → Option (Cell × List ℕ)
+with_rest rest c = Some (c, rest)
+
+abbrev pub with_left : ℕ → Cell × List ℕ → Option (Cell × ℕ × List ℕ)
+with_left left x = Some (x.0, left, x.1)
+
+-- the count in front of a block's items
+abbrev pub count_in : SizeWidth → List ℕ → Option (ℕ × List ℕ)
+count_in size.One bytes = byte_at bytes
+count_in size.Four bytes = word_at bytes
+
+abbrev pub list_of : List ℕ → ℕ × List ℕ → Option ListAt
+list_of rest count = Some (record { count = count.0; items = count.1; behind = rest })
+
+-- the list that a block is
+abbrev pub list_in : SizeWidth → Option (List ℕ × List ℕ) → Option ListAt
+list_in s block = block >>= λ x. count_in s x.0 >>= list_of x.1
+
+abbrev pub with_both : ℕ → List ℕ → Cell → Option (Cell × ℕ × List ℕ)
+with_both left rest c = Some (c, left, rest)

@@ -1,0 +1,62 @@
+-- Texts put into a buffer, one behind the other.
+use Rattle.std.proofs.Common.{◌≡◌, ℕ, ◌+◌, ◌<◌, ◌≤◌, List, ◌++◌, length, get_or, take, drop, sym, ap, subst, ◌∙◌, append_assoc, arith}
+use Rattle.std.proofs.Math.Seq.{take-append-add, drop-append-add, take-append_seam}
+use Rattle.std.specs.List.{concat}
+use Rattle.std.proofs.lemmas.List.{drop-drop, length-append, length-take-le, length-drop, take-append-drop, at_drop_more, at_drop_all}
+use Rattle.amqp_perform.specs.declared.field_text.FieldText.{FieldText}
+use Rattle.amqp_perform.specs.Frames.{Writes, field_spelling, field_spellings}
+
+-- the buffer keeps its length
+pub writes-length : (at : ℕ) (text old new : List ℕ) → at + length text ≤ length old → Writes at text old new → length new ≡ length old
+writes-length at text old new fits w =
+    ap length w ∙ length-append (take at old) (text ++ drop (at + length text) old)
+    ∙ omega (arith, length-take-le at old (omega arith), length-append text (drop (at + length text) old), length-drop (at + length text) old)
+
+front_at : (at : ℕ) (front a rest : List ℕ) → length front ≡ at → take (at + length a) (front ++ (a ++ rest)) ≡ front ++ a
+front_at at front a rest e =
+    ap (λ (n : ℕ). take (n + length a) (front ++ (a ++ rest))) (sym e) ∙ take-append-add front (a ++ rest) (length a) ∙ ap (λ (x : List ℕ). front ++ x) (take-append_seam a rest)
+
+behind_at : (at n : ℕ) (front a rest : List ℕ) → length front ≡ at → drop (at + length a + n) (front ++ (a ++ rest)) ≡ drop n rest
+behind_at at n front a rest e =
+    ap (λ (m : ℕ). drop m (front ++ (a ++ rest))) (omega (arith, e)) ∙ drop-append-add front (a ++ rest) (length a + n) ∙ drop-append-add a rest n
+
+-- what is put behind what was put is put with it
+pub writes-writes : (at : ℕ) (a b old mid new : List ℕ) → at + length a + length b ≤ length old → Writes at a old mid → Writes (at + length a) b mid new → Writes at (a ++ b) old new
+writes-writes at a b old mid new fits first second =
+    let front = take at old in
+    let rest = drop (at + length a) old in
+    let e : length front ≡ at = length-take-le at old (omega arith) in
+    second
+    ∙ ap (λ (m : List ℕ). take (at + length a) m ++ (b ++ drop (at + length a + length b) m)) first
+    ∙ ap (λ (x : List ℕ). x ++ (b ++ drop (at + length a + length b) (front ++ (a ++ rest)))) (front_at at front a rest e)
+    ∙ ap (λ (x : List ℕ). (front ++ a) ++ (b ++ x)) (behind_at at (length b) front a rest e ∙ drop-drop (length b) (at + length a) old)
+    ∙ append_assoc front a (b ++ drop (at + length a + length b) old)
+    ∙ ap (λ (x : List ℕ). front ++ x) (sym (append_assoc a b (drop (at + length a + length b) old)))
+    ∙ ap (λ (n : ℕ). front ++ ((a ++ b) ++ drop n old)) (omega (arith, length-append a b))
+
+-- ---- the spellings of values
+
+abbrev pub joined : List FieldText → List ℕ
+joined values = concat (field_spellings values)
+
+-- one more value is written: the others, once they are written, are written with all before them
+pub values_more : (values : List FieldText) (i : ℕ) (d : FieldText) (at end next : ℕ) (old out mid : List ℕ) → i < length values
+    → end + length (joined (drop i values)) ≡ at + length (joined values) → length out ≡ length old → at + length (joined values) ≤ length old
+    → next ≡ end + length (field_spelling (get_or values i d)) → Writes end (field_spelling (get_or values i d)) out mid
+    → ((new : List ℕ) → Writes end (joined (drop i values)) out new → Writes at (joined values) old new)
+    → (next + length (joined (drop (i + 1) values)) ≡ at + length (joined values)) × (length mid ≡ length old)
+    × ((new : List ℕ) → Writes next (joined (drop (i + 1) values)) mid new → Writes at (joined values) old new)
+values_more values i d at end next old out mid lt place same room behind w rest =
+    let text = field_spelling (get_or values i d) in
+    let others = joined (drop (i + 1) values) in
+    let parts : joined (drop i values) ≡ text ++ others = at_drop_more joined values i d lt in
+    let len : length (joined (drop i values)) ≡ length text + length others = ap length parts ∙ length-append text others in (
+      omega arith,
+      writes-length end text out mid (omega arith) w ∙ same,
+      λ new w2. rest new (subst (λ (t : List ℕ). Writes end t out new) (sym parts) (writes-writes end text others out mid new (omega arith) w (subst (λ (n : ℕ). Writes n others mid new) behind w2))),
+    )
+
+-- nothing is left to be written
+pub values_end : (values : List FieldText) (i at : ℕ) (out : List ℕ) → length values ≤ i → Writes at (joined (drop i values)) out out
+values_end values i at out le =
+    subst (λ (t : List ℕ). Writes at t out out) (sym (at_drop_all joined values i le)) (sym (take-append-drop at out) ∙ ap (λ (n : ℕ). take at out ++ drop n out) (omega arith))

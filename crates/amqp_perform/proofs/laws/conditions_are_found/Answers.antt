@@ -1,0 +1,8 @@
+use Rattle.amqp_perform.proofs.StateLaws.{condition_found, condition_again}
+use Rattle.amqp_perform.proofs.laws.conditions_are_found.Goals as goal
+
+pub returns-clause-first : goal.returns-clause-first
+returns-clause-first c = condition_found
+
+pub returns-clause-spelled : goal.returns-clause-spelled
+returns-clause-spelled c = condition_again

@@ -1,0 +1,8 @@
+use Rattle.amqp_perform.proofs.StateLaws.{outcome_found, outcome_again}
+use Rattle.amqp_perform.proofs.laws.outcomes_are_found.Goals as goal
+
+pub returns-clause-first : goal.returns-clause-first
+returns-clause-first c = outcome_found
+
+pub returns-clause-spelled : goal.returns-clause-spelled
+returns-clause-spelled c = outcome_again

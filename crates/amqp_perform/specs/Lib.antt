@@ -1,0 +1,11 @@
+pub mod Descriptors
+pub mod Tables
+pub mod Items
+pub mod Cells
+pub mod Performatives
+pub mod Bodies
+pub mod Reading
+pub mod Frames
+pub mod Conditions
+pub mod Outcomes
+pub mod Again

@@ -1,0 +1,71 @@
+//! Laws of bodies and of written frames: calls without effect, whose contracts are the laws.
+
+ghost use Rattle.std.specs.Prelude.{◌≡◌, ℕ, ◌^◌, ◌<◌, ◌≤◌, List, ◌++◌, length, slice_index, Some, None};
+ghost use Rattle.amqp_frame.specs.Units.{IsFrame, channel_of, body_of};
+ghost use Rattle.amqp_types.specs.Trees.{ListOf, depth_of};
+ghost use Rattle.amqp_perform.specs.declared.condition.Condition.{Condition};
+ghost use Rattle.amqp_perform.specs.declared.outcome.Outcome.{Outcome};
+ghost use Rattle.amqp_perform.specs.declared.performative.Performative.{Performative};
+ghost use Rattle.amqp_perform.specs.Again.{AreOfFields};
+ghost use Rattle.amqp_perform.specs.declared.descriptor.Descriptor.{Descriptor};
+ghost use Rattle.amqp_perform.specs.declared.descriptor.Descriptor.TheVariants.{Error};
+ghost use Rattle.amqp_perform.specs.Bodies.{BodyOf, Body, IsFaultOf};
+ghost use Rattle.amqp_perform.specs.Cells.{Cell};
+ghost use Rattle.amqp_perform.specs.Conditions.{condition_span, condition_of, condition_in};
+ghost use Rattle.amqp_perform.specs.Frames.{performative_text, written_cells, frame_of};
+ghost use Rattle.amqp_perform.specs.Items.{Item, trees_of, SpellsDescribed};
+ghost use Rattle.amqp_perform.specs.Outcomes.{outcome_span, outcome_of, outcome_in};
+ghost use Rattle.amqp_perform.specs.Performatives.{type_of};
+ghost use Rattle.amqp_perform.specs.Reading.{body_at, fault_of};
+ghost use Rattle.amqp_perform.specs.Tables.{Field, fields_of};
+
+/// Reading is the grammar's: a body is read as a performative and a payload exactly if it says them. [2.7]
+pub fn reading_is_exact()
+    ensures found { (bytes : List ℕ) (d : Descriptor) (cells : List Cell) (payload : List ℕ) → ((i : ℕ) → slice_index bytes i < 256)
+        → body_at bytes ≡ Some (d, cells, payload) → BodyOf bytes d cells payload }
+    ensures only { (bytes : List ℕ) (d : Descriptor) (cells : List Cell) (payload : List ℕ) → BodyOf bytes d cells payload
+        → body_at bytes ≡ Some (d, cells, payload) }
+{}
+
+/// Where no performative is read, the fault is one that the body has. [1.2]
+pub fn faults_are_exact()
+    ensures { (bytes : List ℕ) → ((i : ℕ) → slice_index bytes i < 256) → body_at bytes ≡ None → IsFaultOf bytes (fault_of bytes) }
+{}
+
+/// The body of a canonical frame says what was written: the performative with defaults in place of what was
+/// left out, and the payload behind it. [2.7]
+pub fn written_is_read()
+    ensures { (p : Performative) (fields : List Field) (payload : List ℕ) → fields_of (type_of p) ≡ Some fields → AreOfFields fields (written_cells p)
+        → length (performative_text p) < 2 ^ 32 → BodyOf (performative_text p ++ payload) (type_of p) (written_cells p) payload }
+{}
+
+/// A canonical frame is one frame of the stream, on its channel. [2.3.1]
+pub fn written_is_a_frame()
+    ensures { (channel max : ℕ) (p : Performative) (payload : List ℕ) → channel < 2 ^ 16 → length (frame_of channel p payload) < 2 ^ 32 → length (frame_of channel p payload) ≤ max
+        → IsFrame max (frame_of channel p payload) × (channel_of (frame_of channel p payload) ≡ channel) × (body_of (frame_of channel p payload) ≡ performative_text p ++ payload) }
+{}
+
+/// What is read may be written: each field of a body that is made of bytes meets what `written_is_read` asks of
+/// it, and so does what is written for a performative that was read. [2.7]
+pub fn what_is_read_may_be_written()
+    ensures cells { (bytes : List ℕ) (d : Descriptor) (fields : List Field) (cells : List Cell) (payload : List ℕ) → ((i : ℕ) → slice_index bytes i < 256)
+        → BodyOf bytes d cells payload → fields_of d ≡ Some fields → AreOfFields fields cells }
+    ensures performatives { (bytes : List ℕ) (p : Performative) (fields : List Field) (payload : List ℕ) → ((i : ℕ) → slice_index bytes i < 256)
+        → Body bytes p payload → fields_of (type_of p) ≡ Some fields → AreOfFields fields (written_cells p) }
+{}
+
+/// The condition of an error is the one that its first item names, whatever follows the error; and what is
+/// written for a condition is read as that condition. [2.8.14]
+pub fn conditions_are_found()
+    ensures first { (items : List Item) (text rest : List ℕ) → SpellsDescribed Error items text → depth_of (ListOf (trees_of items)) ≤ 31
+        → condition_of (text ++ rest) ≡ condition_in items }
+    ensures spelled { (condition : Condition) → condition_of (condition_span condition) ≡ condition }
+{}
+
+/// The outcome of a state is the one that it is described as, with its first two items as the flags, whatever
+/// follows the state; and what is written for an outcome is read as that outcome. [3.4]
+pub fn outcomes_are_found()
+    ensures first { (d : Descriptor) (items : List Item) (text rest : List ℕ) → SpellsDescribed d items text → depth_of (ListOf (trees_of items)) ≤ 31
+        → outcome_of (text ++ rest) ≡ outcome_in d items }
+    ensures spelled { (outcome : Outcome) → outcome_of (outcome_span outcome) ≡ Some outcome }
+{}

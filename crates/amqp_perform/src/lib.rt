@@ -1,0 +1,32 @@
+//! The performatives of AMQP 1.0 (part 2, section 2.7), read from the bodies of frames and written as frames,
+//! with the conditions of errors and the outcomes of deliveries.
+//!
+//! [`read_body`] lends the fields from the body; [`write_frame`] writes into bytes of the caller. Nothing here
+//! takes memory. `specs/Tables.antt` has the fields of each performative, `specs/Bodies.antt` what a body says,
+//! and `specs/Frames.antt` which frame is written.
+#![tactic(auto)]
+
+mod bytes;
+mod condition;
+mod cursor;
+mod descriptor;
+mod fault;
+mod field_text;
+mod fields;
+pub mod laws;
+mod modes;
+mod outcome;
+mod performative;
+mod reader;
+mod writer;
+
+pub use condition::Condition;
+pub use descriptor::Descriptor;
+pub use fault::BodyFault;
+pub use modes::{ReceiverSettleMode, Role, SenderSettleMode};
+pub use outcome::Outcome;
+pub use performative::{
+    Attach, Begin, Close, Detach, Disposition, End, Flow, Open, Performative, Transfer,
+};
+pub use reader::read_body;
+pub use writer::write_frame;

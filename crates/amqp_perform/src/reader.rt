@@ -1,0 +1,288 @@
+//! Performatives, read from the body of a frame. [2.7]
+//!
+//! Each function takes the fields of one performative in their order. A `?` refuses what is not of the field's
+//! type; a second one refuses an absent field, where it is mandatory.
+
+ghost use Rattle.std.specs.Prelude.{◌≡◌, ℕ, ◌≤◌, List, [], ◌∷◌, length, drop, None, Some, MatchOption, IfOk, IfErr, IsOkAnd};
+ghost use Rattle.amqp_perform.specs.declared.descriptor.Descriptor.{Descriptor};
+ghost use Rattle.amqp_perform.specs.Bodies.{Body, BodyOf, IsFaultOf};
+ghost use Rattle.amqp_perform.specs.Cells.{Cell, Whole};
+ghost use Rattle.amqp_perform.specs.Performatives.{span, flag, open_cells, begin_cells, attach_cells, flow_cells, transfer_cells, disposition_cells, detach_cells, end_cells, close_cells, type_of, performative_cells};
+ghost use Rattle.amqp_perform.specs.Reading.{TakesFrom, value_at, fields_at, IsPerformativeAt, body_at, fault_of, IsRead};
+ghost use Rattle.amqp_perform.specs.Tables.{uint_from, default, open_fields, begin_fields, attach_fields, flow_fields, transfer_fields, disposition_fields, detach_fields, end_fields, close_fields};
+
+use crate::descriptor::Descriptor;
+use crate::fault::BodyFault;
+use crate::fields::{DEPTH, Fields, described_list};
+use crate::modes::{ReceiverSettleMode, SenderSettleMode};
+use crate::performative::{
+    Attach, Begin, Close, Detach, Disposition, End, Flow, Open, Performative, Transfer,
+};
+use amqp_types::skip;
+
+/// The least that a max-frame-size may be. [2.7.1]
+const LEAST_FRAME_SIZE: u32 = 512;
+
+fn read_open<'a>(fields: &mut Fields<'a>) -> Option<Open<'a>>
+    ensures { TakesFrom open_cells (fields_at open_fields) fields.old fields.new result }
+{
+    let container_id = fields.text()??;
+    let hostname = fields.opaque()?;
+    let max_frame_size = read_frame_size(fields)?;
+    let channel_max = fields.ushort()?.unwrap_or(u16::MAX);
+    let idle_time_out = fields.opaque()?;
+    let outgoing_locales = fields.opaque()?;
+    let incoming_locales = fields.opaque()?;
+    let (offered_capabilities, desired_capabilities, properties) = read_capabilities(fields)?;
+    Some(Open {
+        container_id,
+        hostname,
+        max_frame_size,
+        channel_max,
+        idle_time_out,
+        outgoing_locales,
+        incoming_locales,
+        offered_capabilities,
+        desired_capabilities,
+        properties,
+    })
+}
+
+/// The capabilities and properties, with which an open, a begin and an attach end.
+fn read_capabilities<'a>(fields: &mut Fields<'a>) -> Option<(&'a [u8], &'a [u8], &'a [u8])>
+    ensures { TakesFrom (λ x. span x.0.now ∷ span x.1.now ∷ span x.2.now ∷ []) (fields_at (drop 7 open_fields)) fields.old fields.new result }
+{
+    let offered_capabilities = fields.opaque()?;
+    let desired_capabilities = fields.opaque()?;
+    let properties = fields.opaque()?;
+    Some((offered_capabilities, desired_capabilities, properties))
+}
+
+#[tactic(auto, using(crate::proofs::Leasts::frame_size_is))]
+fn read_frame_size(fields: &mut Fields<'_>) -> Option<u32>
+    ensures { TakesFrom Whole (value_at (uint_from 512) (default 4294967295)) fields.old fields.new result }
+{
+    let size = fields.uint()?.unwrap_or(u32::MAX);
+    if size < LEAST_FRAME_SIZE {
+        None
+    } else {
+        Some(size)
+    }
+}
+
+fn read_begin<'a>(fields: &mut Fields<'a>) -> Option<Begin<'a>>
+    ensures { TakesFrom begin_cells (fields_at begin_fields) fields.old fields.new result }
+{
+    let remote_channel = fields.ushort()?;
+    let next_outgoing_id = fields.uint()??;
+    let incoming_window = fields.uint()??;
+    let outgoing_window = fields.uint()??;
+    let handle_max = fields.uint()?.unwrap_or(u32::MAX);
+    let (offered_capabilities, desired_capabilities, properties) = read_capabilities(fields)?;
+    Some(Begin {
+        remote_channel,
+        next_outgoing_id,
+        incoming_window,
+        outgoing_window,
+        handle_max,
+        offered_capabilities,
+        desired_capabilities,
+        properties,
+    })
+}
+
+fn read_attach<'a>(fields: &mut Fields<'a>) -> Option<Attach<'a>>
+    ensures { TakesFrom attach_cells (fields_at attach_fields) fields.old fields.new result }
+{
+    let name = fields.text()??;
+    let handle = fields.uint()??;
+    let role = fields.role()??;
+    let snd_settle_mode = fields.sender_mode()?.unwrap_or(SenderSettleMode::Mixed);
+    let rcv_settle_mode = fields.receiver_mode()?.unwrap_or(ReceiverSettleMode::First);
+    let source = fields.opaque()?;
+    let target = fields.opaque()?;
+    let unsettled = fields.opaque()?;
+    let incomplete_unsettled = fields.opaque()?;
+    let initial_delivery_count = fields.uint()?;
+    let max_message_size = fields.opaque()?;
+    let (offered_capabilities, desired_capabilities, properties) = read_capabilities(fields)?;
+    Some(Attach {
+        name,
+        handle,
+        role,
+        snd_settle_mode,
+        rcv_settle_mode,
+        source,
+        target,
+        unsettled,
+        incomplete_unsettled,
+        initial_delivery_count,
+        max_message_size,
+        offered_capabilities,
+        desired_capabilities,
+        properties,
+    })
+}
+
+fn read_flow<'a>(fields: &mut Fields<'a>) -> Option<Flow<'a>>
+    ensures { TakesFrom flow_cells (fields_at flow_fields) fields.old fields.new result }
+{
+    Some(Flow {
+        next_incoming_id: fields.uint()?,
+        incoming_window: fields.uint()??,
+        next_outgoing_id: fields.uint()??,
+        outgoing_window: fields.uint()??,
+        handle: fields.uint()?,
+        delivery_count: fields.uint()?,
+        link_credit: fields.uint()?,
+        available: fields.uint()?,
+        drain: fields.flag()?,
+        echo: fields.flag()?,
+        properties: fields.opaque()?,
+    })
+}
+
+fn read_transfer<'a>(fields: &mut Fields<'a>) -> Option<Transfer<'a>>
+    ensures { TakesFrom transfer_cells (fields_at transfer_fields) fields.old fields.new result }
+{
+    let handle = fields.uint()??;
+    let delivery_id = fields.uint()?;
+    let delivery_tag = fields.binary()?;
+    let message_format = fields.uint()?;
+    let settled = fields.boolean()?;
+    let more = fields.flag()?;
+    let rcv_settle_mode = fields.receiver_mode()?;
+    let (state, resume, aborted, batchable) = read_transfer_state(fields)?;
+    Some(Transfer {
+        handle,
+        delivery_id,
+        delivery_tag,
+        message_format,
+        settled,
+        more,
+        rcv_settle_mode,
+        state,
+        resume,
+        aborted,
+        batchable,
+    })
+}
+
+/// The last fields of a transfer: its state, and whether it resumes, is aborted and may be batched.
+fn read_transfer_state<'a>(fields: &mut Fields<'a>) -> Option<(&'a [u8], bool, bool, &'a [u8])>
+    ensures { TakesFrom (λ x. span x.0.now ∷ flag x.1 ∷ flag x.2 ∷ span x.3.now ∷ []) (fields_at (drop 7 transfer_fields)) fields.old fields.new result }
+{
+    let state = fields.opaque()?;
+    let resume = fields.flag()?;
+    let aborted = fields.flag()?;
+    let batchable = fields.opaque()?;
+    Some((state, resume, aborted, batchable))
+}
+
+fn read_disposition<'a>(fields: &mut Fields<'a>) -> Option<Disposition<'a>>
+    ensures { TakesFrom disposition_cells (fields_at disposition_fields) fields.old fields.new result }
+{
+    Some(Disposition {
+        role: fields.role()??,
+        first: fields.uint()??,
+        last: fields.uint()?,
+        settled: fields.flag()?,
+        state: fields.opaque()?,
+        batchable: fields.opaque()?,
+    })
+}
+
+fn read_detach<'a>(fields: &mut Fields<'a>) -> Option<Detach<'a>>
+    ensures { TakesFrom detach_cells (fields_at detach_fields) fields.old fields.new result }
+{
+    Some(Detach {
+        handle: fields.uint()??,
+        closed: fields.flag()?,
+        error: fields.opaque()?,
+    })
+}
+
+fn read_end<'a>(fields: &mut Fields<'a>) -> Option<End<'a>>
+    ensures { TakesFrom end_cells (fields_at end_fields) fields.old fields.new result }
+{
+    Some(End {
+        error: fields.opaque()?,
+    })
+}
+
+fn read_close<'a>(fields: &mut Fields<'a>) -> Option<Close<'a>>
+    ensures { TakesFrom close_cells (fields_at close_fields) fields.old fields.new result }
+{
+    Some(Close {
+        error: fields.opaque()?,
+    })
+}
+
+#[tactic(auto, unfolding(crate::specs::Reading::performative_at))]
+fn read_performative<'a>(
+    descriptor: Descriptor,
+    fields: &mut Fields<'a>,
+) -> Option<Performative<'a>>
+    ensures { IsPerformativeAt descriptor fields.old.left fields.old.items.bytes.now result }
+{
+    let performative = match descriptor {
+        Descriptor::Open => Performative::Open(read_open(fields)?),
+        Descriptor::Begin => Performative::Begin(read_begin(fields)?),
+        Descriptor::Attach => Performative::Attach(read_attach(fields)?),
+        Descriptor::Flow => Performative::Flow(read_flow(fields)?),
+        Descriptor::Transfer => Performative::Transfer(read_transfer(fields)?),
+        Descriptor::Disposition => Performative::Disposition(read_disposition(fields)?),
+        Descriptor::Detach => Performative::Detach(read_detach(fields)?),
+        Descriptor::End => Performative::End(read_end(fields)?),
+        Descriptor::Close => Performative::Close(read_close(fields)?),
+        _ => return None,
+    };
+    if fields.ended() {
+        Some(performative)
+    } else {
+        None
+    }
+}
+
+/// The performative that a body begins with, and what follows it.
+#[tactic(auto, unfolding(crate::specs::Reading::body_at))]
+fn body_at(bytes: &[u8]) -> Option<(Performative<'_>, &[u8])>
+    ensures { MatchOption result (body_at bytes.now ≡ None) (λ x. body_at bytes.now ≡ Some (type_of x.0, performative_cells x.0, x.1.now)) }
+{
+    let mut list = described_list(bytes)?;
+    let performative = read_performative(list.descriptor, &mut list.fields)?;
+    Some((performative, list.rest))
+}
+
+/// The performative that a frame's body begins with, and how many bytes it takes; the payload follows. [2.7]
+///
+/// Any spelling of a field's type is read, and the descriptor may be the number or the symbol. Spans are lent
+/// from `bytes`; nothing is copied and no memory is taken. What is lent as a span is only known to be well
+/// spelled, equal keys in it are not looked for.
+pub fn read_body(bytes: &[u8]) -> Result<(Performative<'_>, usize), BodyFault>
+    ensures within { IfOk result (λ r. r.1 ≤ length bytes.now) }
+    // What is read is what the body says.
+    ensures found { IfOk result (λ r. Body bytes.now r.0 (drop r.1 bytes.now)) }
+    // Whatever a body says is read.
+    ensures only { (d : Descriptor) (cells : List Cell) (payload : List ℕ) → BodyOf bytes.now d cells payload
+        → IsOkAnd result (λ r. (type_of r.0 ≡ d) × (performative_cells r.0 ≡ cells) × (drop r.1 bytes.now ≡ payload)) }
+    // A fault is one that the body has.
+    ensures fault { IfErr result (IsFaultOf bytes.now) }
+    ensures exact { IsRead bytes.now result }
+{
+    match body_at(bytes) {
+        Some((performative, rest)) => Ok((performative, bytes.len() - rest.len())),
+        None => Err(fault_in(bytes)),
+    }
+}
+
+/// Why a body that begins with no performative does not.
+#[tactic(auto, unfolding(crate::specs::Reading::fault_of))]
+fn fault_in(bytes: &[u8]) -> BodyFault
+    ensures { result ≡ fault_of bytes.now }
+{
+    match skip(bytes, DEPTH) {
+        Ok(_) => BodyFault::InvalidField,
+        Err(fault) => BodyFault::Decode(fault),
+    }
+}
