@@ -1,9 +1,14 @@
-//! Credit of a link.
+//! One link that receives: its credit, its deliveries, and how their messages come together.
 #![tactic(auto)]
 
-mod credit;
+pub mod laws;
+mod link;
+mod message;
+mod open_deliveries;
+mod tag;
+mod transfer;
 
-pub use credit::Credit;
-
-#[cfg(test)]
-mod tests;
+pub use link::{Link, Taken, TooMuchCredit};
+pub use message::Message;
+pub use tag::{MAX_TAG, Tag};
+pub use transfer::{LinkFault, SettleMode, Step, Terms, Transfer};

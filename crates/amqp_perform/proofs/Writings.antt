@@ -34,6 +34,16 @@ writes-writes at a b old mid new fits first second =
     ∙ ap (λ (x : List ℕ). front ++ x) (sym (append_assoc a b (drop (at + length a + length b) old)))
     ∙ ap (λ (n : ℕ). front ++ ((a ++ b) ++ drop n old)) (omega (arith, length-append a b))
 
+-- four texts put one behind the other, from the front
+pub four_writes : (a b c d old s1 s2 s3 new : List ℕ) → 0 + length a + length b + length c + length d ≤ length old → Writes 0 a old s1 → Writes (0 + length a) b s1 s2
+    → Writes (0 + length a + length b) c s2 s3 → Writes (0 + length a + length b + length c) d s3 new → Writes 0 (a ++ (b ++ (c ++ d))) old new
+four_writes a b c d old s1 s2 s3 new fits w1 w2 w3 w4 =
+    let n1 : length s1 ≡ length old = writes-length 0 a old s1 (omega arith) w1 in
+    let n2 : length s2 ≡ length s1 = writes-length (0 + length a) b s1 s2 (omega (arith, n1)) w2 in
+    let last = writes-writes (0 + length a + length b) c d s2 s3 new (omega (arith, n1, n2)) w3 w4 in
+    let behind = writes-writes (0 + length a) b (c ++ d) s1 s2 new (omega (arith, n1, length-append c d)) w2 last in
+    writes-writes 0 a (b ++ (c ++ d)) old s1 new (omega (arith, length-append b (c ++ d), length-append c d)) w1 behind
+
 -- ---- the spellings of values
 
 abbrev pub joined : List FieldText → List ℕ

@@ -1,5 +1,7 @@
 //! What is measured.
 
+use bench_order::Named;
+
 /// The call that is timed.
 #[derive(Clone, Copy)]
 pub enum Call {
@@ -29,6 +31,12 @@ pub struct Case {
     pub call: Call,
     pub subject: Subject,
     pub rounds: u32,
+}
+
+impl Named for Case {
+    fn name(&self) -> &'static str {
+        self.name
+    }
 }
 
 const fn timed(name: &'static str, call: Call, subject: Subject, rounds: u32) -> Case {
@@ -79,9 +87,4 @@ pub fn cases() -> [Case; 15] {
         timed("skip-list-20000", Call::Skip, Subject::List(20_000), 1_000),
         timed("decode-map-32768", Call::Decode, Subject::Map(32_768), 10),
     ]
-}
-
-/// The case of this name.
-pub fn find_case(name: &str) -> Option<Case> {
-    cases().into_iter().find(|case| case.name == name)
 }

@@ -5,9 +5,9 @@
 mod body;
 mod case;
 mod measure;
-mod order;
 
-use crate::order::order_of;
+use crate::case::cases;
+use bench_order::order_of;
 use std::env;
 
 /// How the program is run.
@@ -16,7 +16,7 @@ const USAGE: &str = "usage: codec_bench run [CASE] [ROUNDS]";
 /// Measures what the command line asks for, or says how to ask.
 fn main(rt: HostRuntime) -> Result<(), measure::Failure> {
     let words: Vec<String> = env::args(&rt)?.collect(rt.alloc())?;
-    match order_of(&words) {
+    match order_of(&words, &cases()) {
         Some(order) => measure::run(&rt, rt.alloc(), order),
         None => Ok(println!(rt; "{USAGE}")?),
     }

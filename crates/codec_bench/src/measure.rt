@@ -2,9 +2,9 @@
 
 use crate::body::spelling;
 use crate::case::{Call, Case, cases};
-use crate::order::Order;
 use amqp_perform::{BodyFault, read_body, write_frame};
 use amqp_types::{Limits, ReadFault, decode, skip};
+use bench_order::Order;
 use std::alloc::{AllocError, AllocFailed, Global};
 use std::io;
 use std::rt::Clock;
@@ -60,7 +60,7 @@ impl From<BodyFault> for Failure {
 }
 
 /// Measures what is ordered, and prints a line for each case.
-pub fn run(rt: &(impl Print + Clock), alloc: Global, order: Order) -> Result<(), Failure> {
+pub fn run(rt: &(impl Print + Clock), alloc: Global, order: Order<Case>) -> Result<(), Failure> {
     match order.case {
         Some(case) => measure(rt, alloc, case, order.rounds),
         None => measure_all(rt, alloc, order.rounds),

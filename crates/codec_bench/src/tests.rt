@@ -225,6 +225,44 @@ pub fn shown(alloc: Global, value: &Value) -> Result<String, AllocError> {
     format!(in alloc; "{value:?}")
 }
 
+/// That the texts are equal. What fails is told by its row, here and below.
+pub fn assert_text(rt: &impl Abort, found: &str, wanted: &str, row: &str) {
+    assert_eq!(rt; found, wanted, "{row}");
+}
+
+/// That the bytes are equal.
+pub fn assert_bytes(rt: &impl Abort, found: &[u8], wanted: &[u8], row: &str) {
+    assert_eq!(rt; found, wanted, "{row}");
+}
+
+/// That the numbers are equal.
+pub fn assert_number(rt: &impl Abort, found: usize, wanted: usize, row: &str) {
+    assert_eq!(rt; found, wanted, "{row}");
+}
+
+/// That `skip` answers this.
+pub fn assert_skipped(
+    rt: &impl Abort,
+    bytes: &[u8],
+    depth: usize,
+    wanted: Result<usize, ReadFault>,
+    row: &str,
+) {
+    assert_eq!(rt; len_of(bytes, depth), wanted, "{row}");
+}
+
+/// That `decode` finds this fault, or none.
+pub fn assert_decoded(
+    rt: &impl Abort,
+    alloc: Global,
+    bytes: &[u8],
+    limits: Limits,
+    wanted: Option<ReadFault>,
+    row: &str,
+) {
+    assert_eq!(rt; fault_of(alloc, bytes, limits), wanted, "{row}");
+}
+
 /// That the bytes begin with the value of this text and length, for both calls.
 fn assert_read(
     rt: &impl Abort,
@@ -234,10 +272,9 @@ fn assert_read(
     len: usize,
 ) -> Result<(), Fail> {
     let (value, found) = read(alloc, bytes, LIMITS)?;
-    let shown = shown(alloc, &value)?;
-    assert_eq!(rt; shown.as_str(), text);
-    assert_eq!(rt; found, len, "{bytes:?}");
-    assert_eq!(rt; len_of(bytes, LIMITS.depth), Ok(len), "{bytes:?}");
+    assert_text(rt, &shown(alloc, &value)?, text, text);
+    assert_number(rt, found, len, text);
+    assert_skipped(rt, bytes, LIMITS.depth, Ok(len), text);
     Ok(())
 }
 
@@ -252,28 +289,52 @@ fn assert_row(
     assert_read(rt, alloc, &bytes_of(alloc, hex)?, text, number(len)?)
 }
 
-#[test]
-fn values_that_hold_no_others_are_read(rt: HostRuntime) -> Result<(), Fail> {
-    for (hex, text, len) in triples(rt.alloc(), SCALARS)? {
-        assert_row(&rt, rt.alloc(), hex, text, len)?;
+/// The same of each row of a table.
+fn assert_rows(rt: &impl Abort, alloc: Global, table: &str) -> Result<(), Fail> {
+    for (hex, text, len) in triples(alloc, table)? {
+        assert_row(rt, alloc, hex, text, len)?;
     }
     Ok(())
+}
+
+#[test]
+fn values_that_hold_no_others_are_read(rt: HostRuntime) -> Result<(), Fail> {
+    assert_rows(&rt, rt.alloc(), SCALARS)
 }
 
 #[test]
 fn values_that_hold_others_are_read(rt: HostRuntime) -> Result<(), Fail> {
-    for (hex, text, len) in triples(rt.alloc(), COMPOUNDS)? {
-        assert_row(&rt, rt.alloc(), hex, text, len)?;
-    }
-    Ok(())
+    assert_rows(&rt, rt.alloc(), COMPOUNDS)
 }
 
 #[test]
 fn arrays_are_read(rt: HostRuntime) -> Result<(), Fail> {
-    for (hex, text, len) in triples(rt.alloc(), ARRAYS)? {
-        assert_row(&rt, rt.alloc(), hex, text, len)?;
-    }
-    Ok(())
+    assert_rows(&rt, rt.alloc(), ARRAYS)
+}
+
+/// An array of two items, a constructor and their data, with sizes of one byte.
+fn narrow(alloc: Global, data: &[u8]) -> Result<Vec<u8>, Fail> {
+    let mut array = Vec::from_slice(alloc, &[0xe0, u8::try_from(data.len() + 1)?, 2])?;
+    array.extend_from_slice(data)?;
+    Ok(array)
+}
+
+/// The same with sizes of four bytes.
+fn wide(alloc: Global, data: &[u8]) -> Result<Vec<u8>, Fail> {
+    let mut array = Vec::from_slice(alloc, &[0xf0])?;
+    array.extend_from_slice(&u32::try_from(data.len() + 4)?.to_be_bytes())?;
+    array.extend_from_slice(&[0, 0, 0, 2])?;
+    array.extend_from_slice(data)?;
+    Ok(array)
+}
+
+fn array_text(alloc: Global, items: &str) -> Result<String, AllocError> {
+    format!(in alloc; "Array {{ descriptors: [], {items} }}")
+}
+
+/// That the whole of the bytes is the value of this text.
+fn assert_whole(rt: &impl Abort, alloc: Global, bytes: &[u8], text: &str) -> Result<(), Fail> {
+    assert_read(rt, alloc, bytes, text, bytes.len())
 }
 
 #[test]
@@ -281,15 +342,9 @@ fn each_constructor_is_one_of_items(rt: HostRuntime) -> Result<(), Fail> {
     let alloc = rt.alloc();
     for (hex, items) in pairs(alloc, ITEMS)? {
         let data = bytes_of(alloc, hex)?;
-        let text = format!(in alloc; "Array {{ descriptors: [], {items} }}")?;
-        let mut narrow = Vec::from_slice(alloc, &[0xe0, u8::try_from(data.len() + 1)?, 2])?;
-        narrow.extend_from_slice(&data)?;
-        assert_read(&rt, alloc, &narrow, &text, narrow.len())?;
-        let mut wide = Vec::from_slice(alloc, &[0xf0])?;
-        wide.extend_from_slice(&u32::try_from(data.len() + 4)?.to_be_bytes())?;
-        wide.extend_from_slice(&[0, 0, 0, 2])?;
-        wide.extend_from_slice(&data)?;
-        assert_read(&rt, alloc, &wide, &text, wide.len())?;
+        let text = array_text(alloc, items)?;
+        assert_whole(&rt, alloc, &narrow(alloc, &data)?, &text)?;
+        assert_whole(&rt, alloc, &wide(alloc, &data)?, &text)?;
     }
     Ok(())
 }

@@ -1,9 +1,12 @@
 //! Bytes that begin with no value, and where the first fault is. [1.2; 1.6]
 
-use crate::tests::{LIMITS, bytes_of, fault_of, len_of, number, pairs, split, triples};
+use crate::tests::{
+    LIMITS, assert_decoded, assert_skipped, assert_text, bytes_of, fault_of, len_of, number, pairs,
+    split, triples,
+};
 use amqp_types::Limits;
 use amqp_types::ReadFault::{self, DuplicateKey, TooDeep, TooManyNodes, UnknownCode};
-use std::alloc::Global;
+use std::alloc::{AllocError, Global};
 use std::process::Abort;
 use std::test::Fail;
 
@@ -271,6 +274,11 @@ c1 06 04 43 40 43 40 40 | 5 | BadSize(1)
 const CODES: &str = "00 40 41 42 43 44 45 50 51 52 53 54 55 56 60 61 70 71 72 73 74 80 81 82 83 84 \
     94 98 a0 a1 a3 b0 b1 b3 c0 c1 d0 d1 e0 f0";
 
+/// The fault as `Debug` prints it.
+fn shown(alloc: Global, fault: ReadFault) -> Result<String, AllocError> {
+    format!(in alloc; "{fault:?}")
+}
+
 /// That the fault is the one that `Debug` prints as this text.
 fn assert_shown(
     rt: &impl Abort,
@@ -280,49 +288,43 @@ fn assert_shown(
     text: &str,
 ) -> Result<(), Fail> {
     let fault = fault.ok_or("no fault")?;
-    let shown = format!(in alloc; "{fault:?}")?;
-    assert_eq!(rt; shown.as_str(), text, "{hex}");
+    assert_text(rt, &shown(alloc, fault)?, text, hex);
     Ok(())
 }
 
 /// That both calls find this fault in the bytes.
 fn assert_fault(rt: &impl Abort, alloc: Global, hex: &str, text: &str) -> Result<(), Fail> {
     let bytes = bytes_of(alloc, hex)?;
-    let fault = fault_of(alloc, &bytes, LIMITS);
-    assert_eq!(rt; len_of(&bytes, LIMITS.depth).err(), fault, "{hex}");
-    assert_shown(rt, alloc, hex, fault, text)
+    assert_shown(rt, alloc, hex, fault_of(alloc, &bytes, LIMITS), text)?;
+    assert_shown(rt, alloc, hex, len_of(&bytes, LIMITS.depth).err(), text)
+}
+
+/// The same of each row of a table.
+fn assert_faults(rt: &impl Abort, alloc: Global, table: &str) -> Result<(), Fail> {
+    for (hex, fault) in pairs(alloc, table)? {
+        assert_fault(rt, alloc, hex, fault)?;
+    }
+    Ok(())
 }
 
 #[test]
 fn faults_without_a_compound(rt: HostRuntime) -> Result<(), Fail> {
-    for (hex, fault) in pairs(rt.alloc(), SCALARS)? {
-        assert_fault(&rt, rt.alloc(), hex, fault)?;
-    }
-    Ok(())
+    assert_faults(&rt, rt.alloc(), SCALARS)
 }
 
 #[test]
 fn faults_of_sizes_and_counts(rt: HostRuntime) -> Result<(), Fail> {
-    for (hex, fault) in pairs(rt.alloc(), SIZES)? {
-        assert_fault(&rt, rt.alloc(), hex, fault)?;
-    }
-    Ok(())
+    assert_faults(&rt, rt.alloc(), SIZES)
 }
 
 #[test]
 fn faults_inside_of_values(rt: HostRuntime) -> Result<(), Fail> {
-    for (hex, fault) in pairs(rt.alloc(), INSIDE)? {
-        assert_fault(&rt, rt.alloc(), hex, fault)?;
-    }
-    Ok(())
+    assert_faults(&rt, rt.alloc(), INSIDE)
 }
 
 #[test]
 fn the_first_fault_counts(rt: HostRuntime) -> Result<(), Fail> {
-    for (hex, fault) in pairs(rt.alloc(), ORDER)? {
-        assert_fault(&rt, rt.alloc(), hex, fault)?;
-    }
-    Ok(())
+    assert_faults(&rt, rt.alloc(), ORDER)
 }
 
 #[test]
@@ -330,12 +332,17 @@ fn every_other_code_is_unknown(rt: HostRuntime) -> Result<(), Fail> {
     let codes = bytes_of(rt.alloc(), CODES)?;
     for code in 0..=255 {
         let bytes = [code, 0, 0, 0, 9];
-        let is_unknown = len_of(&bytes, 9) == Err(UnknownCode(0));
-        assert_eq!(rt; is_unknown, !codes.contains(&code), "{code:02x}");
-        let is_unknown = fault_of(rt.alloc(), &bytes, LIMITS) == Some(UnknownCode(0));
-        assert_eq!(rt; is_unknown, !codes.contains(&code), "{code:02x}");
+        let is_unknown = !codes.contains(&code);
+        let skipped = len_of(&bytes, 9) == Err(UnknownCode(0));
+        let decoded = fault_of(rt.alloc(), &bytes, LIMITS) == Some(UnknownCode(0));
+        assert_eq!(rt; (skipped, decoded), (is_unknown, is_unknown), "{code:02x}");
     }
     Ok(())
+}
+
+/// One less than a limit.
+fn one_less(limit: usize) -> Result<usize, Fail> {
+    Ok(limit.checked_sub(1).ok_or("no limit")?)
 }
 
 #[test]
@@ -344,14 +351,19 @@ fn each_level_of_depth_counts(rt: HostRuntime) -> Result<(), Fail> {
     for (hex, depth, place) in triples(rt.alloc(), DEEP)? {
         let bytes = bytes_of(rt.alloc(), hex)?;
         let depth = number(depth)?;
-        assert_eq!(rt; len_of(&bytes, depth), Ok(bytes.len()), "{hex}");
-        let within = Limits { depth, nodes };
-        assert_eq!(rt; fault_of(rt.alloc(), &bytes, within), None, "{hex}");
-        let less = depth.checked_sub(1).ok_or("no depth")?;
+        assert_skipped(&rt, &bytes, depth, Ok(bytes.len()), hex);
+        assert_decoded(&rt, rt.alloc(), &bytes, Limits { depth, nodes }, None, hex);
+        let depth = one_less(depth)?;
         let fault = TooDeep(number(place)?);
-        assert_eq!(rt; len_of(&bytes, less), Err(fault), "{hex}");
-        let beyond = Limits { depth: less, nodes };
-        assert_eq!(rt; fault_of(rt.alloc(), &bytes, beyond), Some(fault), "{hex}");
+        assert_skipped(&rt, &bytes, depth, Err(fault), hex);
+        assert_decoded(
+            &rt,
+            rt.alloc(),
+            &bytes,
+            Limits { depth, nodes },
+            Some(fault),
+            hex,
+        );
     }
     Ok(())
 }
@@ -362,13 +374,18 @@ fn each_node_is_charged(rt: HostRuntime) -> Result<(), Fail> {
     for (hex, nodes, place) in triples(rt.alloc(), CHARGED)? {
         let bytes = bytes_of(rt.alloc(), hex)?;
         let nodes = number(nodes)?;
-        let within = Limits { depth, nodes };
-        assert_eq!(rt; fault_of(rt.alloc(), &bytes, within), None, "{hex}");
-        let less = nodes.checked_sub(1).ok_or("no nodes")?;
-        let beyond = Limits { depth, nodes: less };
+        assert_decoded(&rt, rt.alloc(), &bytes, Limits { depth, nodes }, None, hex);
+        let nodes = one_less(nodes)?;
         let fault = TooManyNodes(number(place)?);
-        assert_eq!(rt; fault_of(rt.alloc(), &bytes, beyond), Some(fault), "{hex}");
-        assert_eq!(rt; len_of(&bytes, depth), Ok(bytes.len()), "{hex}");
+        assert_decoded(
+            &rt,
+            rt.alloc(),
+            &bytes,
+            Limits { depth, nodes },
+            Some(fault),
+            hex,
+        );
+        assert_skipped(&rt, &bytes, depth, Ok(bytes.len()), hex);
     }
     Ok(())
 }
@@ -392,9 +409,9 @@ fn faults_have_an_order_where_limits_are_met(rt: HostRuntime) -> Result<(), Fail
 fn keys_of_a_map_are_distinct(rt: HostRuntime) -> Result<(), Fail> {
     for (hex, place) in pairs(rt.alloc(), EQUAL_KEYS)? {
         let bytes = bytes_of(rt.alloc(), hex)?;
-        let fault = fault_of(rt.alloc(), &bytes, LIMITS);
-        assert_eq!(rt; fault, Some(DuplicateKey(number(place)?)), "{hex}");
-        assert_eq!(rt; len_of(&bytes, LIMITS.depth), Ok(bytes.len()), "{hex}");
+        let fault = DuplicateKey(number(place)?);
+        assert_decoded(&rt, rt.alloc(), &bytes, LIMITS, Some(fault), hex);
+        assert_skipped(&rt, &bytes, LIMITS.depth, Ok(bytes.len()), hex);
     }
     Ok(())
 }
@@ -403,8 +420,8 @@ fn keys_of_a_map_are_distinct(rt: HostRuntime) -> Result<(), Fail> {
 fn a_key_is_compared_before_what_follows(rt: HostRuntime) -> Result<(), Fail> {
     for (hex, place, behind) in triples(rt.alloc(), BEHIND_EQUAL_KEYS)? {
         let bytes = bytes_of(rt.alloc(), hex)?;
-        let fault = fault_of(rt.alloc(), &bytes, LIMITS);
-        assert_eq!(rt; fault, Some(DuplicateKey(number(place)?)), "{hex}");
+        let fault = DuplicateKey(number(place)?);
+        assert_decoded(&rt, rt.alloc(), &bytes, LIMITS, Some(fault), hex);
         let fault = len_of(&bytes, LIMITS.depth).err();
         assert_shown(&rt, rt.alloc(), hex, fault, behind)?;
     }

@@ -1,7 +1,9 @@
 //! Large values, and refused memory.
 
 use crate::body::map_of;
-use crate::tests::{bytes_of, fault_of, len_of, number, read, triples};
+use crate::tests::{
+    assert_bytes, assert_decoded, assert_number, assert_skipped, bytes_of, number, read, triples,
+};
 use crate::tests_writing::put;
 use amqp_types::{Limits, ReadFault, Value, WriteFault};
 use std::alloc::Global;
@@ -38,10 +40,9 @@ const NESTED: [u8; 30] = [
 fn items_without_data_are_not_walked(rt: HostRuntime) -> Result<(), Fail> {
     for (hex, depth, place) in triples(rt.alloc(), STILL)? {
         let bytes = bytes_of(rt.alloc(), hex)?;
-        assert_eq!(rt; len_of(&bytes, number(depth)?), Ok(bytes.len()), "{hex}");
-        let fault = fault_of(rt.alloc(), &bytes, AMPLE);
-        let wanted = ReadFault::TooManyNodes(number(place)?);
-        assert_eq!(rt; fault, Some(wanted), "{hex}");
+        assert_skipped(&rt, &bytes, number(depth)?, Ok(bytes.len()), hex);
+        let fault = ReadFault::TooManyNodes(number(place)?);
+        assert_decoded(&rt, rt.alloc(), &bytes, AMPLE, Some(fault), hex);
     }
     Ok(())
 }
@@ -57,21 +58,21 @@ fn entries(value: &Value) -> usize {
 fn keys_of_a_large_map_are_compared(rt: HostRuntime) -> Result<(), Fail> {
     let mut bytes = map_of(rt.alloc(), 32_768)?;
     let (value, len) = read(rt.alloc(), &bytes, AMPLE)?;
-    assert_eq!(rt; len, bytes.len());
-    assert_eq!(rt; entries(&value), 32_768);
+    assert_number(&rt, len, bytes.len(), "length");
+    assert_number(&rt, entries(&value), 32_768, "entries");
     let exact = Limits {
         depth: 1,
         nodes: 65_536,
     };
-    let fault = fault_of(rt.alloc(), &bytes, exact);
-    assert_eq!(rt; fault, Some(ReadFault::TooManyNodes(5)));
+    let fault = ReadFault::TooManyNodes(5);
+    assert_decoded(&rt, rt.alloc(), &bytes, exact, Some(fault), "nodes");
     // The last key becomes the first one.
     let last = len.checked_sub(6).ok_or("no entry")?;
     bytes.truncate(last);
     bytes.extend_from_slice(&[0x70, 0, 0, 0, 0, 0x40])?;
-    let fault = fault_of(rt.alloc(), &bytes, AMPLE);
-    assert_eq!(rt; fault, Some(ReadFault::DuplicateKey(last)));
-    assert_eq!(rt; len_of(&bytes, 1), Ok(len));
+    let fault = ReadFault::DuplicateKey(last);
+    assert_decoded(&rt, rt.alloc(), &bytes, AMPLE, Some(fault), "keys");
+    assert_skipped(&rt, &bytes, 1, Ok(len), "keys");
     Ok(())
 }
 
@@ -79,7 +80,7 @@ fn keys_of_a_large_map_are_compared(rt: HostRuntime) -> Result<(), Fail> {
 fn assert_whole_or_refused(rt: &impl Abort, alloc: Global, value: &Value) {
     let mut out = Vec::new(alloc);
     match put(value, &mut out) {
-        Ok(()) => assert_eq!(rt; out.as_slice(), NESTED.as_slice()),
+        Ok(()) => assert_bytes(rt, &out, &NESTED, "written"),
         Err(fault) => {
             assert_eq!(rt; fault, WriteFault::NoMemory);
             assert!(rt; out.is_empty());
@@ -92,10 +93,10 @@ fn assert_whole_or_refused(rt: &impl Abort, alloc: Global, value: &Value) {
 fn refused_memory_changes_no_answer(rt: HostRuntime) {
     match read(rt.alloc(), &NESTED, AMPLE) {
         Ok((value, len)) => {
-            assert_eq!(rt; len, NESTED.len());
+            assert_number(&rt, len, NESTED.len(), "length");
             assert_whole_or_refused(&rt, rt.alloc(), &value);
         }
         Err(fault) => assert_eq!(rt; fault, ReadFault::NoMemory),
     }
-    assert_eq!(rt; len_of(&NESTED, AMPLE.depth), Ok(NESTED.len()));
+    assert_skipped(&rt, &NESTED, AMPLE.depth, Ok(NESTED.len()), "length");
 }

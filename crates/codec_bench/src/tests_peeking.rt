@@ -1,7 +1,8 @@
 //! The outermost cases of values, and scalars written into a buffer. [1.2; 1.6]
 
-use crate::tests::{bytes_of, pairs};
+use crate::tests::{assert_bytes, assert_text, bytes_of, pairs};
 use amqp_types::{Kind, Peek, peek, put, skip};
+use std::alloc::{AllocError, Global};
 use std::process::Abort;
 use std::test::Fail;
 
@@ -35,20 +36,51 @@ fn case_of(bytes: &[u8]) -> Option<Peek<'_>> {
     }
 }
 
+/// The case as `Debug` prints it.
+fn shown(alloc: Global, case: Peek<'_>) -> Result<String, AllocError> {
+    format!(in alloc; "{case:?}")
+}
+
 #[test]
 fn outermost_cases_are_shown(rt: HostRuntime) -> Result<(), Fail> {
     let alloc = rt.alloc();
     for (hex, wanted) in pairs(alloc, CASES)? {
         let bytes = bytes_of(alloc, hex)?;
         let case = case_of(&bytes).ok_or("no value")?;
-        let shown = format!(in alloc; "{case:?}")?;
-        assert_eq!(rt; shown.as_str(), wanted);
+        assert_text(&rt, &shown(alloc, case)?, wanted, hex);
     }
     Ok(())
 }
 
 fn put_into(case: Peek<'_>, out: &mut [u8]) -> Option<usize> {
     put(&case, out)
+}
+
+/// That so many bytes are put, or none.
+fn assert_put(rt: &impl Abort, case: Peek<'_>, out: &mut [u8], wanted: Option<usize>) {
+    assert_eq!(rt; put_into(case, out), wanted);
+}
+
+/// That the case is put as these bytes, with what is behind them left, and not where one byte is missing.
+fn assert_scalar(rt: &impl Abort, case: Peek<'_>, wanted: &[u8]) -> Result<(), Fail> {
+    let len = wanted.len();
+    let mut out = [7; 8];
+    assert_put(rt, case, &mut out, Some(len));
+    let (front, behind) = out.split_at_checked(len).ok_or("no room")?;
+    assert_bytes(rt, front, wanted, "front");
+    assert!(rt; behind.iter().all(|byte| *byte == 7));
+    let mut short = [7; 8];
+    let room = short.get_mut(..len.wrapping_sub(1)).ok_or("no bytes")?;
+    assert_put(rt, case, room, None);
+    assert_bytes(rt, &short, &[7; 8], "short");
+    Ok(())
+}
+
+/// That the case is put nowhere.
+fn assert_no_scalar(rt: &impl Abort, case: Peek<'_>) {
+    let mut out = [7; 8];
+    assert_put(rt, case, &mut out, None);
+    assert_bytes(rt, &out, &[7; 8], "unchanged");
 }
 
 #[test]
@@ -66,14 +98,13 @@ fn scalars_are_put(rt: HostRuntime) -> Result<(), Fail> {
         (Peek::Binary(&[]), &[0xa0, 0]),
     ];
     for (case, wanted) in cases {
-        let mut out = [7; 8];
-        assert_eq!(rt; put_into(case, &mut out), Some(wanted.len()));
-        assert_eq!(rt; &out[..wanted.len()], wanted);
-        assert!(rt; out[wanted.len()..].iter().all(|byte| *byte == 7));
-        let mut short = [7; 8];
-        assert_eq!(rt; put_into(case, &mut short[..wanted.len() - 1]), None);
-        assert_eq!(rt; short, [7; 8]);
+        assert_scalar(&rt, case, wanted)?;
     }
+    Ok(())
+}
+
+#[test]
+fn what_is_no_scalar_is_not_put(rt: HostRuntime) {
     for case in [
         Peek::Unsigned(Kind::Ubyte, 256),
         Peek::Unsigned(Kind::Long, 1),
@@ -82,9 +113,6 @@ fn scalars_are_put(rt: HostRuntime) -> Result<(), Fail> {
         Peek::Described(&[0x43], &[0x40]),
         Peek::Other,
     ] {
-        let mut out = [7; 8];
-        assert_eq!(rt; put_into(case, &mut out), None);
-        assert_eq!(rt; out, [7; 8]);
+        assert_no_scalar(&rt, case);
     }
-    Ok(())
 }

@@ -1,11 +1,11 @@
 //! Performatives, read from the bodies of frames and written as frames. [2.7]
 
-use crate::tests::{bytes_of, number, pairs, triples};
+use crate::tests::{assert_bytes, assert_number, assert_text, bytes_of, number, pairs, triples};
 use amqp_perform::{
     BodyFault, Close, Disposition, Open, Performative, Role, read_body, write_frame,
 };
 use amqp_types::ReadFault;
-use std::alloc::Global;
+use std::alloc::{AllocError, Global};
 use std::process::Abort;
 use std::test::Fail;
 
@@ -140,6 +140,32 @@ fn write(
     write_frame(channel, performative, payload, out)
 }
 
+/// The performative as `Debug` prints it.
+fn shown(alloc: Global, performative: &Performative<'_>) -> Result<String, AllocError> {
+    format!(in alloc; "{performative:?}")
+}
+
+/// The fault as `Debug` prints it.
+fn shown_fault(alloc: Global, fault: BodyFault) -> Result<String, AllocError> {
+    format!(in alloc; "{fault:?}")
+}
+
+/// That so many bytes are written, or none.
+fn assert_len(
+    rt: &impl Abort,
+    performative: &Performative<'_>,
+    payload: &[u8],
+    out: &mut [u8],
+    wanted: Option<usize>,
+) {
+    assert_eq!(rt; write(0, performative, payload, out), wanted);
+}
+
+/// That the body is read as this, with a length or a fault.
+fn assert_body(rt: &impl Abort, body: &[u8], wanted: Result<(Performative<'_>, usize), BodyFault>) {
+    assert_eq!(rt; read(body), wanted);
+}
+
 /// That the performative is written as this frame, whole, and into no shorter buffer.
 fn assert_written(
     rt: &impl Abort,
@@ -150,14 +176,12 @@ fn assert_written(
 ) -> Result<(), Fail> {
     let mut out = vec![in alloc; 0xa5u8; frame.len()]?;
     for len in 0..frame.len() {
-        assert_eq!(rt; write(0, performative, payload, &mut out[..len]), None);
+        let short = out.as_mut_slice().get_mut(..len).ok_or("a length")?;
+        assert_len(rt, performative, payload, short, None);
     }
     assert!(rt; out.iter().all(|octet| *octet == 0xa5), "{frame:?}");
-    assert_eq!(rt;
-        write(0, performative, payload, &mut out),
-        Some(frame.len())
-    );
-    assert_eq!(rt; out.as_slice(), frame);
+    assert_len(rt, performative, payload, &mut out, Some(frame.len()));
+    assert_bytes(rt, &out, frame, "frame");
     Ok(())
 }
 
@@ -172,10 +196,10 @@ fn assert_frame(
     let frame = bytes_of(alloc, hex)?;
     let body = frame.get(8..).ok_or("a frame header")?;
     let (performative, len) = read(body).ok().ok_or("a performative")?;
-    let shown = format!(in alloc; "{performative:?}")?;
-    assert_eq!(rt; shown.as_str(), wanted);
-    assert_eq!(rt; Some(len), body.len().checked_sub(payload));
-    assert_written(rt, alloc, &performative, &body[len..], &frame)
+    assert_text(rt, &shown(alloc, &performative)?, wanted, hex);
+    let behind = body.get(len..).ok_or("a length")?;
+    assert_number(rt, behind.len(), payload, hex);
+    assert_written(rt, alloc, &performative, behind, &frame)
 }
 
 #[test]
@@ -191,7 +215,7 @@ fn other_spellings_are_read(rt: HostRuntime) -> Result<(), Fail> {
     for (hex, canonical) in pairs(rt.alloc(), SPELLINGS)? {
         let body = bytes_of(rt.alloc(), hex)?;
         let (performative, len) = read(&body).ok().ok_or("a performative")?;
-        assert_eq!(rt; len, body.len(), "{hex}");
+        assert_number(&rt, len, body.len(), hex);
         let frame = bytes_of(rt.alloc(), canonical)?;
         assert_written(&rt, rt.alloc(), &performative, &[], &frame)?;
     }
@@ -203,8 +227,7 @@ fn bodies_are_refused(rt: HostRuntime) -> Result<(), Fail> {
     let alloc = rt.alloc();
     for (hex, wanted) in pairs(alloc, REFUSED)? {
         let fault = read(&bytes_of(alloc, hex)?).err().ok_or("no fault")?;
-        let shown = format!(in alloc; "{fault:?}")?;
-        assert_eq!(rt; shown.as_str(), wanted, "{hex}");
+        assert_text(&rt, &shown_fault(alloc, fault)?, wanted, hex);
     }
     Ok(())
 }
@@ -212,7 +235,7 @@ fn bodies_are_refused(rt: HostRuntime) -> Result<(), Fail> {
 #[test]
 fn a_payload_may_follow(rt: HostRuntime) -> Result<(), Fail> {
     let close = Performative::Close(Close { error: &[] });
-    assert_eq!(rt; read(&[0x00, 0x53, 0x18, 0x45, 0xff, 0x00]), Ok((close, 4)));
+    assert_body(&rt, &[0x00, 0x53, 0x18, 0x45, 0xff, 0x00], Ok((close, 4)));
     Ok(())
 }
 
@@ -223,10 +246,10 @@ fn spans_are_lent(rt: HostRuntime) -> Result<(), Fail> {
     let body = bytes_of(rt.alloc(), hex)?;
     match read(&body) {
         Ok((Performative::Open(open), _)) => {
-            assert_eq!(rt; open.hostname, [0x43].as_slice());
-            assert_eq!(rt; open.idle_time_out, [0x52, 0x07].as_slice());
+            assert_bytes(&rt, open.hostname, &[0x43], "hostname");
+            assert_bytes(&rt, open.idle_time_out, &[0x52, 0x07], "idle time out");
             let map = [0xc1, 0x06, 0x04, 0x43, 0x40, 0x52, 0x00, 0x40];
-            assert_eq!(rt; open.properties, map.as_slice());
+            assert_bytes(&rt, open.properties, &map, "properties");
         }
         _ => panic!(rt; "no open"),
     }
@@ -249,7 +272,7 @@ fn bodies_have_32_levels(rt: HostRuntime) -> Result<(), Fail> {
     assert!(rt; read(&body).is_ok());
     let deeper = nested_close(rt.alloc(), 64, 31)?;
     let fault = BodyFault::Decode(ReadFault::TooDeep(66));
-    assert_eq!(rt; read(&deeper), Err(fault));
+    assert_body(&rt, &deeper, Err(fault));
     Ok(())
 }
 
@@ -259,7 +282,7 @@ fn what_follows_a_frame_stays(rt: HostRuntime) -> Result<(), Fail> {
     let close = Performative::Close(Close { error: &[] });
     assert_eq!(rt; write(0x0102, &close, &[], &mut out), Some(12));
     let frame = bytes_of(rt.alloc(), "00 00 00 0c 02 00 01 02 00 53 18 45 a5 a5 a5")?;
-    assert_eq!(rt; out.as_slice(), frame.as_slice());
+    assert_bytes(&rt, &out, &frame, "close");
     Ok(())
 }
 
@@ -288,18 +311,25 @@ const LONG: &str = r#"
 00 01 00 19 02 00 00 00 00 53 10 d0 00 01 00 09 00 00 00 01 b1 00 01 00 00 | 65536
 "#;
 
+/// That an open with this container id is written as this frame, and read back.
+fn assert_open(rt: &impl Abort, alloc: Global, name: &[u8], frame: &[u8]) -> Result<(), Fail> {
+    let open = Performative::Open(open_of(str::from_utf8(name)?));
+    let mut out = vec![in alloc; 0u8; frame.len()]?;
+    assert_len(rt, &open, &[], &mut out, Some(frame.len()));
+    assert_bytes(rt, &out, frame, "open");
+    let body = out.get(8..).ok_or("a frame header")?;
+    assert_body(rt, body, Ok((open, body.len())));
+    Ok(())
+}
+
 #[test]
 fn long_lists_have_sizes_of_four_bytes(rt: HostRuntime) -> Result<(), Fail> {
-    for (hex, len) in pairs(rt.alloc(), LONG)? {
-        let name = vec![in rt.alloc(); b'x'; number(len)?]?;
-        let mut frame = bytes_of(rt.alloc(), hex)?;
+    let alloc = rt.alloc();
+    for (hex, len) in pairs(alloc, LONG)? {
+        let name = vec![in alloc; b'x'; number(len)?]?;
+        let mut frame = bytes_of(alloc, hex)?;
         frame.extend_from_slice(&name)?;
-        let open = Performative::Open(open_of(str::from_utf8(&name)?));
-        let mut out = vec![in rt.alloc(); 0u8; frame.len()]?;
-        assert_eq!(rt; write(0, &open, &[], &mut out), Some(frame.len()));
-        assert_eq!(rt; out, frame, "{hex}");
-        let body = out.get(8..).ok_or("a frame header")?;
-        assert_eq!(rt; read(body), Ok((open, body.len())), "{hex}");
+        assert_open(&rt, alloc, &name, &frame)?;
     }
     Ok(())
 }

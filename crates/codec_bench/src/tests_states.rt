@@ -1,7 +1,8 @@
 //! Conditions of errors and outcomes of deliveries. [2.8.14; 3.4]
 
-use crate::tests::{bytes_of, pairs, triples};
+use crate::tests::{assert_bytes, assert_text, bytes_of, pairs, triples};
 use amqp_perform::{Condition, Outcome};
+use std::alloc::{AllocError, Global};
 use std::test::Fail;
 
 /// The bytes of canonical errors in front of the name of their condition, that name, and the condition.
@@ -70,9 +71,29 @@ fn condition_of(span: &[u8]) -> Condition {
     Condition::of(span)
 }
 
+/// What `Condition::span` answers, with nothing of its contract.
+fn condition_span(condition: Condition) -> &'static [u8] {
+    condition.span()
+}
+
 /// What `Outcome::of` answers, with nothing of its contract.
 fn outcome_of(span: &[u8]) -> Option<Outcome> {
     Outcome::of(span)
+}
+
+/// What `Outcome::span` answers, with nothing of its contract.
+fn outcome_span(outcome: Outcome) -> &'static [u8] {
+    outcome.span()
+}
+
+/// The condition as `Debug` prints it.
+fn shown_condition(alloc: Global, condition: Condition) -> Result<String, AllocError> {
+    format!(in alloc; "{condition:?}")
+}
+
+/// The outcome of a span as `Debug` prints it.
+fn shown_outcome(alloc: Global, outcome: Option<Outcome>) -> Result<String, AllocError> {
+    format!(in alloc; "{outcome:?}")
 }
 
 #[test]
@@ -82,11 +103,10 @@ fn errors_have_conditions(rt: HostRuntime) -> Result<(), Fail> {
         let mut error = bytes_of(alloc, hex)?;
         error.extend_from_slice(name.as_bytes())?;
         let condition = condition_of(&error);
-        let shown = format!(in alloc; "{condition:?}")?;
-        assert_eq!(rt; shown.as_str(), wanted);
-        assert_eq!(rt; condition.span(), error.as_slice(), "{name}");
+        assert_text(&rt, &shown_condition(alloc, condition)?, wanted, name);
+        assert_bytes(&rt, condition_span(condition), &error, name);
     }
-    assert_eq!(rt; Condition::Other.span(), [].as_slice());
+    assert_bytes(&rt, condition_span(Condition::Other), &[], "other");
     Ok(())
 }
 
@@ -95,8 +115,7 @@ fn conditions_are_found_in_any_spelling(rt: HostRuntime) -> Result<(), Fail> {
     let alloc = rt.alloc();
     for (hex, wanted) in pairs(alloc, ERRORS)? {
         let condition = condition_of(&bytes_of(alloc, hex)?);
-        let shown = format!(in alloc; "{condition:?}")?;
-        assert_eq!(rt; shown.as_str(), wanted, "{hex}");
+        assert_text(&rt, &shown_condition(alloc, condition)?, wanted, hex);
     }
     Ok(())
 }
@@ -108,8 +127,8 @@ fn outcomes_are_spelled(rt: HostRuntime) -> Result<(), Fail> {
         let span = bytes_of(alloc, hex)?;
         let outcome = outcome_of(&span).ok_or("no outcome")?;
         let shown = format!(in alloc; "{outcome:?}")?;
-        assert_eq!(rt; shown.as_str(), wanted, "{hex}");
-        assert_eq!(rt; outcome.span(), span.as_slice(), "{hex}");
+        assert_text(&rt, &shown, wanted, hex);
+        assert_bytes(&rt, outcome_span(outcome), &span, hex);
     }
     Ok(())
 }
@@ -119,8 +138,7 @@ fn outcomes_are_found_in_any_spelling(rt: HostRuntime) -> Result<(), Fail> {
     let alloc = rt.alloc();
     for (hex, wanted) in pairs(alloc, STATES)? {
         let outcome = outcome_of(&bytes_of(alloc, hex)?);
-        let shown = format!(in alloc; "{outcome:?}")?;
-        assert_eq!(rt; shown.as_str(), wanted, "{hex}");
+        assert_text(&rt, &shown_outcome(alloc, outcome)?, wanted, hex);
     }
     Ok(())
 }

@@ -1,6 +1,9 @@
 //! The one spelling that is written of a value. [1.2; 1.6]
 
-use crate::tests::{LIMITS, bytes_of, len_of, number, pairs, put_hex, read, shown, triples};
+use crate::tests::{
+    LIMITS, assert_bytes, assert_number, assert_skipped, assert_text, bytes_of, number, pairs,
+    put_hex, read, shown, triples,
+};
 use amqp_types::{Kind, Symbol, Value, WriteFault, encode};
 use std::alloc::Global;
 use std::process::Abort;
@@ -152,6 +155,13 @@ fn array(alloc: Global, kind: Kind, items: Vec<Value>) -> Value {
     }
 }
 
+/// What stands in front, and these bytes.
+fn behind_before(alloc: Global, bytes: &[u8]) -> Result<Vec<u8>, Fail> {
+    let mut out = Vec::from_slice(alloc, &BEFORE)?;
+    out.extend_from_slice(bytes)?;
+    Ok(out)
+}
+
 /// That the value is written so, behind what stands there, and read back.
 fn assert_written(
     rt: &impl Abort,
@@ -161,13 +171,12 @@ fn assert_written(
 ) -> Result<(), Fail> {
     let mut out = Vec::from_slice(alloc, &BEFORE)?;
     put(value, &mut out)?;
-    let mut wanted = Vec::from_slice(alloc, &BEFORE)?;
-    wanted.extend_from_slice(spelling)?;
-    assert_eq!(rt; out.as_slice(), wanted.as_slice());
+    let text = shown(alloc, value)?;
+    assert_bytes(rt, &out, &behind_before(alloc, spelling)?, &text);
     let (found, len) = read(alloc, spelling, LIMITS)?;
-    assert_eq!(rt; len, spelling.len());
-    assert_eq!(rt; shown(alloc, &found)?, shown(alloc, value)?);
-    assert_eq!(rt; len_of(spelling, LIMITS.depth), Ok(len));
+    assert_number(rt, len, spelling.len(), &text);
+    assert_text(rt, &shown(alloc, &found)?, &text, &text);
+    assert_skipped(rt, spelling, LIMITS.depth, Ok(len), &text);
     Ok(())
 }
 
@@ -180,28 +189,42 @@ fn assert_refused(
 ) -> Result<(), Fail> {
     let mut out = Vec::from_slice(alloc, &BEFORE)?;
     assert_eq!(rt; put(value, &mut out), Err(fault));
-    assert_eq!(rt; out.as_slice(), BEFORE.as_slice());
+    assert_bytes(rt, &out, &BEFORE, "refused");
+    Ok(())
+}
+
+/// That the value of these bytes is written so, and read back.
+fn assert_rewritten(
+    rt: &impl Abort,
+    alloc: Global,
+    bytes: &[u8],
+    canonical: &[u8],
+) -> Result<(), Fail> {
+    let (value, _) = read(alloc, bytes, LIMITS)?;
+    assert_written(rt, alloc, &value, canonical)
+}
+
+/// The same of a table of spellings, and the canonical one of each.
+fn assert_canonical(rt: &impl Abort, alloc: Global, table: &str) -> Result<(), Fail> {
+    for (hex, canonical) in pairs(alloc, table)? {
+        assert_rewritten(
+            rt,
+            alloc,
+            &bytes_of(alloc, hex)?,
+            &bytes_of(alloc, canonical)?,
+        )?;
+    }
     Ok(())
 }
 
 #[test]
 fn every_spelling_is_written_in_one_way(rt: HostRuntime) -> Result<(), Fail> {
-    let alloc = rt.alloc();
-    for (hex, canonical) in pairs(alloc, CANONICAL)? {
-        let (value, _) = read(alloc, &bytes_of(alloc, hex)?, LIMITS)?;
-        assert_written(&rt, alloc, &value, &bytes_of(alloc, canonical)?)?;
-    }
-    Ok(())
+    assert_canonical(&rt, rt.alloc(), CANONICAL)
 }
 
 #[test]
 fn items_take_the_full_constructor(rt: HostRuntime) -> Result<(), Fail> {
-    let alloc = rt.alloc();
-    for (hex, canonical) in pairs(alloc, ARRAYS)? {
-        let (value, _) = read(alloc, &bytes_of(alloc, hex)?, LIMITS)?;
-        assert_written(&rt, alloc, &value, &bytes_of(alloc, canonical)?)?;
-    }
-    Ok(())
+    assert_canonical(&rt, rt.alloc(), ARRAYS)
 }
 
 /// The bytes of this head, and so many bytes 40.
@@ -219,8 +242,8 @@ fn sizes_of_one_byte_end_at_255(rt: HostRuntime) -> Result<(), Fail> {
     let alloc = rt.alloc();
     for (head, count, canonical) in triples(alloc, EDGES)? {
         let count = number(count)?;
-        let (value, _) = read(alloc, &with_tail(alloc, head, count)?, LIMITS)?;
-        assert_written(&rt, alloc, &value, &with_tail(alloc, canonical, count)?)?;
+        let bytes = with_tail(alloc, head, count)?;
+        assert_rewritten(&rt, alloc, &bytes, &with_tail(alloc, canonical, count)?)?;
     }
     Ok(())
 }

@@ -1,0 +1,10 @@
+pub mod Groups
+pub mod Selections
+pub mod Settlements
+pub mod Transfers
+pub mod Writes
+pub mod Takes
+pub mod Steps
+pub mod Tags
+pub mod Keys
+pub mod Bounds

@@ -1,0 +1,68 @@
+//! A message that was handed up.
+ghost use Rattle.std.specs.Prelude.{◌≡◌, ℕ, length, take, IfOk, OnOk, OnErr, IsTrue, ◌↔◌, []};
+ghost use Rattle.std.specs.Io.KnownBytes.{Appends};
+
+use std::alloc::{AllocError, Allocator, Global};
+use std::io::{self, Write};
+use std::marker::Model;
+
+/// The bytes of a message, joined from the payloads of its transfers [2.6.14].
+#[derive(Drop)]
+pub struct Message<A: Allocator + Copy = Global> {
+    bytes: Vec<u8, A>,
+}
+
+impl<A: Allocator + Copy> Model for Message<A> {
+    ghost use Rattle.std.specs.Prelude.{ℕ, List};
+
+    ghost Value = { List ℕ };
+
+    ghost view = { λ a. a.bytes.items };
+}
+
+impl<A: Allocator + Copy> Message<A> {
+    /// The message of these bytes.
+    pub(crate) fn from_vec(bytes: Vec<u8, A>) -> Self
+        ensures { result ≡ bytes.items }
+    {
+        Message { bytes }
+    }
+
+    /// How many bytes it has.
+    pub fn len(&self) -> usize
+        ensures { result ≡ length self.now }
+    {
+        self.bytes.len()
+    }
+
+    /// Whether it has none.
+    pub fn is_empty(&self) -> bool
+        ensures { IsTrue result ↔ (self.now ≡ []) }
+    {
+        self.bytes.is_empty()
+    }
+
+    /// Its bytes in a new vector.
+    pub fn to_vec<B: Allocator>(&self, alloc: B) -> Result<Vec<u8, B>, AllocError>
+        ensures { IfOk result (λ v. v.items ≡ self.now) }
+    {
+        Vec::from_slice(alloc, self.bytes.as_slice())
+    }
+
+    /// Writes its bytes. Where the writer fails, is interrupted, or takes none of some bytes, it is an
+    /// error, and the bytes that were written are the first of them.
+    pub fn write_to<W: Write>(&self, writer: &mut W) -> io::Result<()>
+        ensures ok { OnOk result (Appends (W.contents writer.old) (W.contents writer.new) self.now) }
+        ensures err { OnErr result ((n : ℕ) × Appends (W.contents writer.old) (W.contents writer.new) (take n self.now)) }
+    {
+        let bytes = self.bytes.as_slice();
+        let mut at = 0;
+        while at < bytes.len() {
+            match writer.write(&bytes[at..])? {
+                0 => return Err(io::Error::from(io::ErrorKind::WriteZero)),
+                n => at += n,
+            }
+        }
+        Ok(())
+    }
+}

@@ -1,0 +1,125 @@
+//! One delivery after the other on a link, or copied.
+ghost use Rattle.std.specs.Prelude.{◌≤◌, ◌^◌};
+
+use crate::case::Open;
+use amqp_link::{Link, LinkFault, SettleMode, Step, Terms, TooMuchCredit, Transfer};
+use std::alloc::{AllocError, Global};
+
+/// How many deliveries are open before the first one is measured.
+const OPEN: u32 = 1024;
+
+/// Why a delivery did not come through.
+#[derive(Clone, Copy, Debug, Drop)]
+pub enum Stopped {
+    /// No credit was granted.
+    Credit,
+    /// The link refused a transfer.
+    Link(LinkFault),
+    /// No delivery was ready.
+    NothingReady,
+}
+
+impl From<TooMuchCredit> for Stopped {
+    fn from(_error: TooMuchCredit) -> Stopped {
+        Stopped::Credit
+    }
+}
+
+impl From<LinkFault> for Stopped {
+    fn from(fault: LinkFault) -> Stopped {
+        Stopped::Link(fault)
+    }
+}
+
+/// What a link is attached with.
+fn terms() -> Terms
+    ensures { result.longest ≤ 2 ^ 30 }
+{
+    Terms {
+        first_count: 0,
+        mode: SettleMode::First,
+        allowed: 2 * OPEN,
+        longest: 1_000_000,
+    }
+}
+
+/// A transfer that begins a delivery.
+fn head(id: u32, settled: bool, more: bool) -> Transfer<'static> {
+    Transfer {
+        id: Some(id),
+        tag: Some(b"tag".as_slice()),
+        format: Some(0),
+        settled,
+        more,
+        mode: None,
+        resume: false,
+        aborted: false,
+    }
+}
+
+/// A transfer that goes on with one.
+fn rest(more: bool) -> Transfer<'static> {
+    Transfer {
+        id: None,
+        tag: None,
+        format: None,
+        ..head(0, true, more)
+    }
+}
+
+/// Credit for one delivery, and its frames. All but the last frame are followed by more.
+fn arrive(
+    link: &mut Link,
+    id: u32,
+    settled: bool,
+    frames: u32,
+    payload: &[u8],
+) -> Result<(), Stopped> {
+    link.grant(1)?;
+    let mut step = link.transfer(&head(id, settled, frames > 1), payload)?;
+    for frame in 1..frames {
+        step = link.transfer(&rest(frame + 1 < frames), payload)?;
+    }
+    match step {
+        Step::Ready => Ok(()),
+        Step::Part | Step::Aborted => Err(Stopped::NothingReady),
+    }
+}
+
+/// Hands a message up and drops it, and answers how long it was.
+fn leave(link: &mut Link) -> Result<u64, Stopped> {
+    let taken = link.take().ok_or(Stopped::NothingReady)?;
+    Ok(taken.message.len() as u64)
+}
+
+/// A link on which the other deliveries are open, each of one frame.
+pub fn link_with(alloc: Global, open: Open, payload: &[u8]) -> Result<Link, Stopped> {
+    let mut link = Link::attach(alloc, terms());
+    let count = match open {
+        Open::No => 0,
+        Open::Ready | Open::Taken => OPEN,
+    };
+    let is_taken = matches!(open, Open::Taken);
+    for id in 0..count {
+        arrive(&mut link, id, !is_taken, 1, payload)?;
+        if is_taken {
+            leave(&mut link)?;
+        }
+    }
+    Ok(link)
+}
+
+/// One delivery comes, settled by its sender, and the first that is ready is handed up. Answers how long it was.
+pub fn deliver(link: &mut Link, id: u32, frames: u32, payload: &[u8]) -> Result<u64, Stopped> {
+    arrive(link, id, true, frames, payload)?;
+    leave(link)
+}
+
+/// Copies the payload so many times behind one another into a new vector, and answers how long it was.
+pub fn copied(alloc: Global, frames: u32, payload: &[u8]) -> Result<u64, AllocError> {
+    let mut message = Vec::new(alloc);
+    for _ in 0..frames {
+        message.extend_from_slice(payload)?;
+    }
+    Ok(message.len() as u64)
+}
