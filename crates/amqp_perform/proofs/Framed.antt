@@ -1,5 +1,5 @@
 -- A canonical frame: its parts, and that it is one frame of the stream.
-use Rattle.std.proofs.Common.{◌≡◌, ℕ, ◌+◌, ◌^◌, ◌<◌, ◌≤◌, ◌==◌, ◌&&◌, nat_lt, Bool, true, false, if◌then◌else◌, List, [], ◌∷◌, ◌++◌, length, drop, refl, sym, ap, subst, ◌∙◌, length-append, arith}
+use Rattle.std.proofs.Common.{◌≡◌, ℕ, ◌+◌, ◌^◌, ◌<◌, ◌≤◌, ◌==◌, ◌&&◌, nat_lt, Bool, true, false, if◌then◌else◌, List, [], ◌∷◌, ◌++◌, length, drop, Option, Some, None, refl, sym, ap, subst, ◌∙◌, length-append, arith}
 use Rattle.std.specs.List.{concat}
 use Rattle.std.proofs.lemmas.Bool.{lt-ltb, eqb-true}
 use Rattle.std.proofs.lemmas.List.{length-map}
@@ -15,8 +15,7 @@ use Rattle.amqp_perform.specs.declared.descriptor.Descriptor.TheVariants as of_t
 use Rattle.amqp_perform.specs.Descriptors.{code_of}
 use Rattle.amqp_perform.specs.declared.field_text.FieldText.{FieldText}
 use Rattle.amqp_perform.specs.declared.performative.Performative.{Performative}
-use Rattle.amqp_perform.specs.Performatives.{type_of}
-use Rattle.amqp_perform.specs.Frames.{trimmed, list_text, list_head, head_text, frame_text, described_text, list_frame, frame_of, performative_texts, field_spelling, field_spellings, Writes, FitsFrame}
+use Rattle.amqp_perform.specs.Frames.{trimmed, list_text, list_head, head_text, frame_text, described_text, list_frame, frame_of, field_spelling, field_spellings, Writes, FitsFrame, IsWritten}
 use Rattle.amqp_perform.proofs.Writings.{writes-writes}
 
 -- ---- the parts
@@ -68,11 +67,11 @@ list_len values content few is =
     ∙ ap (λ (n : ℕ). length (list_head n (length (concat texts))) + length (concat texts)) count
     ∙ ap (λ (n : ℕ). length (list_head (length values) n) + length (concat texts)) (sym is)
 
-pub width_is : (values : List FieldText) (content width : ℕ) → content ≡ length (concat (field_spellings values))
-    → ((text : List ℕ) → length text ≡ content → width ≡ length (shortest (shell.List (length values)) text)) → width ≡ length (list_text (field_spellings values))
-width_is values content width is widths =
+pub width_is : (values : List FieldText) (count content width : ℕ) → length values ≡ count → content ≡ length (concat (field_spellings values))
+    → ((text : List ℕ) → length text ≡ content → width ≡ length (shortest (shell.List count) text)) → width ≡ length (list_text (field_spellings values))
+width_is values count content width few is widths =
     widths (concat (field_spellings values)) (sym is)
-    ∙ ap (λ (n : ℕ). length (shortest (shell.List n) (concat (field_spellings values)))) (sym (length-map values field_spelling))
+    ∙ ap (λ (n : ℕ). length (shortest (shell.List n) (concat (field_spellings values)))) (sym (length-map values field_spelling ∙ few))
 
 -- what describes the list, the list and the payload
 body_parts : (d : Descriptor) (texts used : List (List ℕ)) (payload : List ℕ) → trimmed texts ≡ used
@@ -143,12 +142,23 @@ values_fit channel d texts values payload room same few fits =
     let list = list_len values (length (concat (field_spellings values))) few refl in
     (omega (arith, fits.0, len, list), omega (arith, fits.1, len, list))
 
--- the frame of a performative, by what describes it and the spellings of its fields
-pub same_frame : (channel : ℕ) (p q : Performative) (d : Descriptor) (texts : List (List ℕ)) (payload : List ℕ) → p ≡ q → d ≡ type_of p → texts ≡ performative_texts q
-    → list_frame channel d texts payload ≡ frame_of channel p payload
-same_frame channel p q d texts payload same is all =
-    ap (λ (x : Descriptor). list_frame channel x texts payload) is
-    ∙ ap (λ (x : List (List ℕ)). list_frame channel (type_of p) x payload) (all ∙ ap performative_texts (sym same))
+-- nothing is written
+pub not_written : (frame : List ℕ) (r : Option ℕ) (old new : List ℕ) → r ≡ None → new ≡ old → (FitsFrame frame (length old) → ⊥) → IsWritten frame r old new
+not_written frame None old new none same never = record {
+  written = tt;
+  fits = (λ some. absurd cc, λ fits. absurd (never fits));
+  unchanged = same;
+}
+not_written frame (Some n) old new none same never = absurd cc
+
+-- the frame of a list, by the spellings of its fields
+pub same_texts : (channel : ℕ) (d : Descriptor) (texts others : List (List ℕ)) (payload : List ℕ) (r : Option ℕ) (old new : List ℕ) → texts ≡ others
+    → IsWritten (list_frame channel d texts payload) r old new → IsWritten (list_frame channel d others payload) r old new
+same_texts channel d texts others payload r old new same w = subst (λ (x : List (List ℕ)). IsWritten (list_frame channel d x payload) r old new) same w
+
+pub same_performative : (channel : ℕ) (p q : Performative) (payload : List ℕ) (r : Option ℕ) (old new : List ℕ) → p ≡ q
+    → IsWritten (frame_of channel q payload) r old new → IsWritten (frame_of channel p payload) r old new
+same_performative channel p q payload r old new same w = subst (λ (x : Performative). IsWritten (frame_of channel x payload) r old new) (sym same) w
 
 -- ---- one frame of the stream
 

@@ -1,8 +1,10 @@
 -- Texts without the nulls at their end.
-use Rattle.std.proofs.Common.{◌≡◌, ℕ, zero, suc, ◌-◌, ◌<◌, ◌≤◌, Bool, true, false, List, [], ◌∷◌, ◌++◌, length, take, get_or, refl, sym, ap, ◌∙◌, arith}
+use Rattle.std.proofs.Common.{◌≡◌, ℕ, zero, suc, ◌+◌, ◌-◌, ◌<◌, ◌≤◌, Bool, true, false, if◌then◌else◌, List, [], ◌∷◌, ◌++◌, length, take, get_or, length-append, refl, sym, ap, ◌∙◌, arith}
 use Rattle.std.proofs.Math.Seq.{take-suc}
-use Rattle.std.proofs.lemmas.List.{map-append}
+use Rattle.std.proofs.lemmas.List.{map-append, length-map, length-take-le}
+use Rattle.std.specs.List.{concat}
 use Rattle.std.specs.Str.{bytes_eq}
+use Rattle.std.proofs.lemmas.Slice.Eq.{bytes_eq-Decides}
 use Rattle.amqp_perform.specs.declared.field_text.FieldText.{FieldText}
 use Rattle.amqp_perform.specs.Frames.{null_text, before_nulls, trimmed, field_spelling, field_spellings}
 
@@ -49,3 +51,32 @@ trimmed_all values (suc n) d is_null some le same is =
     ap trimmed parts
     ∙ other_trimmed (field_spellings (take n values)) (field_spelling (get_or values n d)) (last_is values n d is_null same ∙ is)
     ∙ sym parts
+
+-- a null that is left out has one byte
+null_width : (text : List ℕ) → bytes_eq text null_text ≡ true → length text ≡ 1
+null_width text is = ap length ((bytes_eq-Decides text null_text).0 is)
+
+before_width : (text : List ℕ) (used : List (List ℕ)) (bytes items : ℕ) → bytes + length used ≡ length (concat used) + items
+    → length text + bytes + length (before_nulls text used) ≡ length (concat (before_nulls text used)) + suc items
+before_width text [] bytes items same = tested (bytes_eq text null_text) refl
+  where
+    tested : (b : Bool) → bytes_eq text null_text ≡ b
+        → length text + bytes + length (if b then [] else text ∷ []) ≡ length (concat (if b then [] else text ∷ [])) + suc items
+    tested true is = omega (arith, null_width text is, same)
+    tested false is = omega (arith, length-append text [], same)
+before_width text (next ∷ texts) bytes items same = omega (arith, length-append text (concat (next ∷ texts)), same)
+
+all_width : (texts : List (List ℕ)) → length (concat texts) + length (trimmed texts) ≡ length (concat (trimmed texts)) + length texts
+all_width [] = refl
+all_width (text ∷ texts) =
+    ap (λ (n : ℕ). n + length (trimmed (text ∷ texts))) (length-append text (concat texts))
+    ∙ before_width text (trimmed texts) (length (concat texts)) (length texts) (all_width texts)
+
+-- the values that are left out have one byte each
+pub trimmed_width : (values : List FieldText) (used : ℕ) → used ≤ length values → trimmed (field_spellings values) ≡ field_spellings (take used values)
+    → length (concat (field_spellings values)) + used ≡ length (concat (field_spellings (take used values))) + length values
+trimmed_width values used le same =
+    let all = all_width (field_spellings values) in
+    let kept : length (trimmed (field_spellings values)) ≡ used = ap length same ∙ length-map (take used values) field_spelling ∙ length-take-le used values le in
+    let joined : length (concat (trimmed (field_spellings values))) ≡ length (concat (field_spellings (take used values))) = ap (λ (x : List (List ℕ)). length (concat x)) same in
+    omega (arith, all, kept, joined, length-map values field_spelling)

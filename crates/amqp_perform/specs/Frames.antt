@@ -1,5 +1,5 @@
 -- The canonical frame of a performative. (part 2, sections 2.3.1 and 2.7)
-use Rattle.std.specs.Prelude.{◌≡◌, ℕ, Bool, false, ◌+◌, ◌^◌, ◌<◌, ◌≤◌, ◌==◌, nat_lt, if◌then◌else◌, List, [], ◌∷◌, ◌++◌, length, take, drop, map, Option, Some, None}
+use Rattle.std.specs.Prelude.{◌≡◌, ◌↔◌, ℕ, Bool, false, ◌+◌, ◌^◌, ◌<◌, ◌≤◌, ◌==◌, nat_lt, if◌then◌else◌, List, [], ◌∷◌, ◌++◌, length, take, drop, map, Option, Some, None, IsSome, IfSome, IfNone}
 use Rattle.std.specs.List.{concat}
 use Rattle.std.specs.Option.{unwrap_or}
 use Rattle.std.specs.Str.{bytes_eq}
@@ -11,6 +11,7 @@ use Rattle.amqp_types.specs.Canonical.{canonical, shortest}
 use Rattle.amqp_types.specs.Trees.{Number, Octets}
 use Rattle.amqp_perform.specs.declared.descriptor.Descriptor.{Descriptor}
 use Rattle.amqp_perform.specs.declared.field_text.FieldText.{FieldText}
+use Rattle.amqp_perform.specs.declared.field_text.FieldText.TheVariants as value
 use Rattle.amqp_perform.specs.declared.performative.Performative.{Performative}
 use Rattle.amqp_perform.specs.declared.performative.Performative.TheVariants as performative
 use Rattle.amqp_perform.specs.declared.performative.Disposition.{Disposition}
@@ -90,9 +91,16 @@ abbrev pub octets_text : ℕ → ℕ → List ℕ → List ℕ
 octets_text small large octets =
     if nat_lt (length octets) 256 then small ∷ (big_bytes 1 (length octets) ++ octets) else large ∷ (big_bytes 4 (length octets) ++ octets)
 
--- the spelling of a field in hand: its first bytes, then the lent ones
+-- the spelling of a field in hand
 abbrev pub field_spelling : FieldText → List ℕ
-field_spelling x = take x.len x.front ++ x.rest.now
+field_spelling value.Null = null_text
+field_spelling (value.Boolean b) = cell_text boolean (flag b)
+field_spelling (value.Ubyte n) = canonical (Number kind.Ubyte n)
+field_spelling (value.Ushort n) = canonical (Number kind.Ushort n)
+field_spelling (value.Uint n) = canonical (Number kind.Uint n)
+field_spelling (value.Binary octets) = canonical (Octets kind.Binary octets.now)
+field_spelling (value.String octets) = canonical (Octets kind.String octets.now)
+field_spelling (value.Span bytes) = bytes.now
 
 abbrev pub field_spellings : List FieldText → List (List ℕ)
 field_spellings xs = map field_spelling xs
@@ -126,6 +134,13 @@ list_frame channel d texts payload = frame_text channel (described_text d texts 
 -- the text fits these many bytes, and its length four bytes
 abbrev pub FitsFrame : List ℕ → ℕ → Type 0
 FitsFrame text room = (length text ≤ room) × (length text < 2 ^ 32)
+
+-- What writing the frame over the old bytes answers, and the new ones: its length and the frame at their front where it
+-- fits, else nothing and no change.
+pub record IsWritten (frame : List ℕ) (result : Option ℕ) (old new : List ℕ) : Type 0 where
+  pub written : IfSome result (λ n. (n ≡ length frame) × (new ≡ frame ++ drop n old))
+  pub fits : IsSome result ↔ FitsFrame frame (length old)
+  pub unchanged : IfNone result (new ≡ old)
 
 -- the canonical spelling of a performative
 abbrev pub performative_text : Performative → List ℕ

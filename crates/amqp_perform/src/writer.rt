@@ -8,7 +8,8 @@ ghost use Rattle.std.specs.List.{concat};
 ghost use Rattle.std.specs.Option.{SomeIff, option_map};
 ghost use Rattle.amqp_types.specs.declared.shell.Shell.{Shell};
 ghost use Rattle.amqp_types.specs.Canonical.{shortest};
-ghost use Rattle.amqp_perform.specs.Frames.{cell_text, field_texts, field_spelling, field_spellings, trimmed, list_text, last_written, disposition_written, head_text, list_head, list_frame, frame_of, Writes, FitsFrame};
+ghost use Rattle.amqp_perform.specs.declared.descriptor.Descriptor.{Descriptor};
+ghost use Rattle.amqp_perform.specs.Frames.{cell_text, field_texts, field_spelling, field_spellings, trimmed, list_text, last_written, disposition_written, head_text, list_head, list_frame, frame_of, Writes, FitsFrame, IsWritten};
 ghost use Rattle.amqp_perform.specs.Performatives.{receiver_mode, optional_whole, open_cells, begin_cells, attach_cells, flow_cells, transfer_cells, detach_cells, end_cells, close_cells};
 ghost use Rattle.amqp_perform.specs.Tables.{uint, receiver_settle_mode, open_fields, begin_fields, attach_fields, flow_fields, transfer_fields, disposition_fields, detach_fields, end_fields, close_fields};
 
@@ -37,7 +38,7 @@ fn open_texts<'a>(p: &Open<'a>) -> [FieldText<'a>; 10]
     ensures { field_spellings result ≡ field_texts open_fields (open_cells p.now) }
 {
     [
-        FieldText::string(p.container_id),
+        FieldText::String(p.container_id),
         FieldText::opaque(p.hostname),
         FieldText::uint_unless(p.max_frame_size, u32::MAX),
         FieldText::ushort_unless(p.channel_max, u16::MAX),
@@ -55,9 +56,9 @@ fn begin_texts<'a>(p: &Begin<'a>) -> [FieldText<'a>; 8]
 {
     [
         FieldText::optional_ushort(p.remote_channel),
-        FieldText::uint(p.next_outgoing_id),
-        FieldText::uint(p.incoming_window),
-        FieldText::uint(p.outgoing_window),
+        FieldText::Uint(p.next_outgoing_id),
+        FieldText::Uint(p.incoming_window),
+        FieldText::Uint(p.outgoing_window),
         FieldText::uint_unless(p.handle_max, u32::MAX),
         FieldText::opaque(p.offered_capabilities),
         FieldText::opaque(p.desired_capabilities),
@@ -69,9 +70,9 @@ fn attach_texts<'a>(p: &Attach<'a>) -> [FieldText<'a>; 14]
     ensures { field_spellings result ≡ field_texts attach_fields (attach_cells p.now) }
 {
     [
-        FieldText::string(p.name),
-        FieldText::uint(p.handle),
-        FieldText::boolean(p.role.is_receiver()),
+        FieldText::String(p.name),
+        FieldText::Uint(p.handle),
+        FieldText::Boolean(p.role.is_receiver()),
         FieldText::ubyte_unless(p.snd_settle_mode.number(), 2),
         FieldText::ubyte_unless(p.rcv_settle_mode.number(), 0),
         FieldText::opaque(p.source),
@@ -91,9 +92,9 @@ fn flow_texts<'a>(p: &Flow<'a>) -> [FieldText<'a>; 11]
 {
     [
         FieldText::optional_uint(p.next_incoming_id),
-        FieldText::uint(p.incoming_window),
-        FieldText::uint(p.next_outgoing_id),
-        FieldText::uint(p.outgoing_window),
+        FieldText::Uint(p.incoming_window),
+        FieldText::Uint(p.next_outgoing_id),
+        FieldText::Uint(p.outgoing_window),
         FieldText::optional_uint(p.handle),
         FieldText::optional_uint(p.delivery_count),
         FieldText::optional_uint(p.link_credit),
@@ -108,7 +109,7 @@ fn transfer_texts<'a>(p: &Transfer<'a>) -> [FieldText<'a>; 11]
     ensures { field_spellings result ≡ field_texts transfer_fields (transfer_cells p.now) }
 {
     [
-        FieldText::uint(p.handle),
+        FieldText::Uint(p.handle),
         FieldText::optional_uint(p.delivery_id),
         FieldText::optional_binary(p.delivery_tag),
         FieldText::optional_uint(p.message_format),
@@ -126,8 +127,8 @@ fn disposition_texts<'a>(p: &Disposition<'a>) -> [FieldText<'a>; 6]
     ensures { field_spellings result ≡ field_texts disposition_fields (disposition_written p.now) }
 {
     [
-        FieldText::boolean(p.role.is_receiver()),
-        FieldText::uint(p.first),
+        FieldText::Boolean(p.role.is_receiver()),
+        FieldText::Uint(p.first),
         last_text(p.first, p.last),
         FieldText::flag(p.settled),
         FieldText::opaque(p.state),
@@ -141,7 +142,7 @@ fn last_text<'a>(first: u32, last: Option<u32>) -> FieldText<'a>
 {
     match last {
         Some(last) => FieldText::uint_unless(last, first),
-        None => FieldText::null(),
+        None => FieldText::Null,
     }
 }
 
@@ -150,8 +151,8 @@ fn receiver_mode_text<'a>(mode: Option<ReceiverSettleMode>) -> FieldText<'a>
     ensures { field_spelling result ≡ cell_text receiver_settle_mode (optional_whole (option_map receiver_mode mode)) }
 {
     match mode {
-        Some(mode) => FieldText::ubyte(mode.number()),
-        None => FieldText::null(),
+        Some(mode) => FieldText::Ubyte(mode.number()),
+        None => FieldText::Null,
     }
 }
 
@@ -159,7 +160,7 @@ fn detach_texts<'a>(p: &Detach<'a>) -> [FieldText<'a>; 3]
     ensures { field_spellings result ≡ field_texts detach_fields (detach_cells p.now) }
 {
     [
-        FieldText::uint(p.handle),
+        FieldText::Uint(p.handle),
         FieldText::flag(p.closed),
         FieldText::opaque(p.error),
     ]
@@ -196,39 +197,128 @@ pub fn write_frame(
     ensures fits { IsSome result ↔ FitsFrame (frame_of channel performative.now payload.now) (length out.old) }
     ensures unchanged { IfNone result (out.new ≡ out.old) }
 {
-    let head = Head {
-        channel,
-        descriptor: performative.descriptor(),
-    };
     match performative {
-        Performative::Open(p) => write_list(head, &open_texts(p), payload, out),
-        Performative::Begin(p) => write_list(head, &begin_texts(p), payload, out),
-        Performative::Attach(p) => write_list(head, &attach_texts(p), payload, out),
-        Performative::Flow(p) => write_list(head, &flow_texts(p), payload, out),
-        Performative::Transfer(p) => write_list(head, &transfer_texts(p), payload, out),
-        Performative::Disposition(p) => write_list(head, &disposition_texts(p), payload, out),
-        Performative::Detach(p) => write_list(head, &detach_texts(p), payload, out),
-        Performative::End(p) => write_list(head, &end_texts(p), payload, out),
-        Performative::Close(p) => write_list(head, &close_texts(p), payload, out),
+        Performative::Open(p) => write_open(channel, p, payload, out),
+        Performative::Begin(p) => write_begin(channel, p, payload, out),
+        Performative::Attach(p) => write_attach(channel, p, payload, out),
+        Performative::Flow(p) => write_flow(channel, p, payload, out),
+        Performative::Transfer(p) => write_transfer(channel, p, payload, out),
+        Performative::Disposition(p) => write_disposition(channel, p, payload, out),
+        Performative::Detach(p) => write_detach(channel, p, payload, out),
+        Performative::End(p) => write_end(channel, p, payload, out),
+        Performative::Close(p) => write_close(channel, p, payload, out),
     }
 }
 
+fn write_open(channel: u16, p: &Open<'_>, payload: &[u8], out: &mut [u8]) -> Option<usize>
+    ensures { IsWritten (list_frame channel Descriptor.Open (field_texts open_fields (open_cells p.now)) payload.now) result out.old out.new }
+{
+    let head = Head {
+        channel,
+        descriptor: Descriptor::Open,
+    };
+    write_list(head, &open_texts(p), payload, out)
+}
+
+fn write_begin(channel: u16, p: &Begin<'_>, payload: &[u8], out: &mut [u8]) -> Option<usize>
+    ensures { IsWritten (list_frame channel Descriptor.Begin (field_texts begin_fields (begin_cells p.now)) payload.now) result out.old out.new }
+{
+    let head = Head {
+        channel,
+        descriptor: Descriptor::Begin,
+    };
+    write_list(head, &begin_texts(p), payload, out)
+}
+
+fn write_attach(channel: u16, p: &Attach<'_>, payload: &[u8], out: &mut [u8]) -> Option<usize>
+    ensures { IsWritten (list_frame channel Descriptor.Attach (field_texts attach_fields (attach_cells p.now)) payload.now) result out.old out.new }
+{
+    let head = Head {
+        channel,
+        descriptor: Descriptor::Attach,
+    };
+    write_list(head, &attach_texts(p), payload, out)
+}
+
+fn write_flow(channel: u16, p: &Flow<'_>, payload: &[u8], out: &mut [u8]) -> Option<usize>
+    ensures { IsWritten (list_frame channel Descriptor.Flow (field_texts flow_fields (flow_cells p.now)) payload.now) result out.old out.new }
+{
+    let head = Head {
+        channel,
+        descriptor: Descriptor::Flow,
+    };
+    write_list(head, &flow_texts(p), payload, out)
+}
+
+fn write_transfer(channel: u16, p: &Transfer<'_>, payload: &[u8], out: &mut [u8]) -> Option<usize>
+    ensures { IsWritten (list_frame channel Descriptor.Transfer (field_texts transfer_fields (transfer_cells p.now)) payload.now) result out.old out.new }
+{
+    let head = Head {
+        channel,
+        descriptor: Descriptor::Transfer,
+    };
+    write_list(head, &transfer_texts(p), payload, out)
+}
+
+fn write_disposition(
+    channel: u16,
+    p: &Disposition<'_>,
+    payload: &[u8],
+    out: &mut [u8],
+) -> Option<usize>
+    ensures { IsWritten (list_frame channel Descriptor.Disposition (field_texts disposition_fields (disposition_written p.now)) payload.now) result out.old out.new }
+{
+    let head = Head {
+        channel,
+        descriptor: Descriptor::Disposition,
+    };
+    write_list(head, &disposition_texts(p), payload, out)
+}
+
+fn write_detach(channel: u16, p: &Detach<'_>, payload: &[u8], out: &mut [u8]) -> Option<usize>
+    ensures { IsWritten (list_frame channel Descriptor.Detach (field_texts detach_fields (detach_cells p.now)) payload.now) result out.old out.new }
+{
+    let head = Head {
+        channel,
+        descriptor: Descriptor::Detach,
+    };
+    write_list(head, &detach_texts(p), payload, out)
+}
+
+fn write_end(channel: u16, p: &End<'_>, payload: &[u8], out: &mut [u8]) -> Option<usize>
+    ensures { IsWritten (list_frame channel Descriptor.End (field_texts end_fields (end_cells p.now)) payload.now) result out.old out.new }
+{
+    let head = Head {
+        channel,
+        descriptor: Descriptor::End,
+    };
+    write_list(head, &end_texts(p), payload, out)
+}
+
+fn write_close(channel: u16, p: &Close<'_>, payload: &[u8], out: &mut [u8]) -> Option<usize>
+    ensures { IsWritten (list_frame channel Descriptor.Close (field_texts close_fields (close_cells p.now)) payload.now) result out.old out.new }
+{
+    let head = Head {
+        channel,
+        descriptor: Descriptor::Close,
+    };
+    write_list(head, &close_texts(p), payload, out)
+}
+
 /// Writes the frame of a list of values, where it fits.
+#[inline(always)]
 fn write_list(head: Head, values: &[FieldText<'_>], payload: &[u8], out: &mut [u8]) -> Option<usize>
     requires { length values.now < 256 }
-    ensures written { IfSome result (λ n. (n ≡ length (list_frame head.channel head.descriptor (field_spellings values.now) payload.now))
-        × (out.new ≡ list_frame head.channel head.descriptor (field_spellings values.now) payload.now ++ drop n out.old)) }
-    ensures fits { IsSome result ↔ FitsFrame (list_frame head.channel head.descriptor (field_spellings values.now) payload.now) (length out.old) }
-    ensures unchanged { IfNone result (out.new ≡ out.old) }
+    ensures { IsWritten (list_frame head.channel head.descriptor (field_spellings values.now) payload.now) result out.old out.new }
 {
-    let values = &values[..used_count(values)];
+    let used = used_count(values);
     let room = out.len().min(MAX_FRAME);
-    let content = content_width(values, room)?;
-    let len = HEAD_LEN + list_width(values.len(), content) + payload.len();
+    let content = content_width(values, used, room)?;
+    let len = HEAD_LEN + list_width(used, content) + payload.len();
     if len > room {
         return None;
     }
-    Some(write_parts(head, len, values, content, payload, out))
+    Some(write_parts(head, len, &values[..used], content, payload, out))
 }
 
 /// Writes the frame at the front, where its length and that of its values are known.
@@ -267,8 +357,23 @@ fn used_count(values: &[FieldText<'_>]) -> usize
     count
 }
 
+/// How many bytes spell the first `used` values, where these are at most `room`. The others are nulls, of one byte
+/// each: the widths of all are added up, since the compiler unrolls a loop over an array whose length it knows.
+#[inline(always)]
+fn content_width(values: &[FieldText<'_>], used: usize, room: usize) -> Option<usize>
+    requires bound { used ≤ length values.now }
+    requires nulls { trimmed (field_spellings values.now) ≡ field_spellings (take used values.now) }
+    requires room { room < 2 ^ 32 }
+    ensures { SomeIff result (length (concat (field_spellings (take used values.now))) ≤ room) (length (concat (field_spellings (take used values.now)))) }
+{
+    let nulls = values.len() - used;
+    let width = total_width(values, room + nulls)?;
+    Some(width - nulls)
+}
+
 /// How many bytes spell the values, where these are at most `room`.
-fn content_width(values: &[FieldText<'_>], room: usize) -> Option<usize>
+#[inline(always)]
+fn total_width(values: &[FieldText<'_>], room: usize) -> Option<usize>
     ensures { SomeIff result (length (concat (field_spellings values.now)) ≤ room) (length (concat (field_spellings values.now))) }
 {
     let mut left = room;

@@ -3,6 +3,7 @@ pub mod Powers
 pub mod Skips
 pub mod Levels
 pub mod Walks
+pub mod Reaches
 pub mod Keeps
 pub mod Sets
 pub mod Sound

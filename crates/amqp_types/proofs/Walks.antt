@@ -19,14 +19,14 @@ use Rattle.amqp_types.specs.Spelling.{size_len}
 use Rattle.amqp_types.specs.Skipping.{constructor_after, rest_of, is_still}
 use Rattle.amqp_types.proofs.Skips.{rest_of_number, nothing_taken}
 
-after_step : {A B : Type 0} (read : Part A) (f : A × Budget × List ℕ → B) (g : A × Budget × List ℕ → Budget) → after (read >>= λ x. Ok (f x, g x, x.2)) ≡ after read
+pub after_step : {A B : Type 0} (read : Part A) (f : A × Budget × List ℕ → B) (g : A × Budget × List ℕ → Budget) → after (read >>= λ x. Ok (f x, g x, x.2)) ≡ after read
 after_step (Ok x) f g = refl
 after_step (Err e) f g = refl
 
 -- ---- as many values as a count says
 
 module _ (one : Window → Budget → List ℕ → Part Tree) (w : Window) where
-  first_ok : (read : Part Tree) (n : ℕ) (rest : List ℕ) → after read ≡ Ok rest
+  pub first_ok : (read : Part Tree) (n : ℕ) (rest : List ℕ) → after read ≡ Ok rest
       → after (read >>= λ first. trees_at one n w None first.2 >>= λ others. Ok (more first.0 others.0, others.1, others.2)) ≡ after (trees_at one n w None rest)
   first_ok (Ok x) n rest e = after_step (trees_at one n w None x.2) (λ others. more x.0 others.0) (λ others. others.1) ∙ ap (λ (r : List ℕ). after (trees_at one n w None r)) (same x.2 rest e)
     where
@@ -71,11 +71,11 @@ module _ (one : Window → Budget → List ℕ → Part Tree) (w : Window) where
 no_octets : (w : Window) (n : ℕ) (bytes : List ℕ) → n ≡ 0 → rest_of (octets_at w n bytes) ≡ Ok bytes
 no_octets w n bytes e = subst (λ (k : ℕ). rest_of (octets_at w k bytes) ≡ Ok bytes) (sym e) (nothing_taken w bytes)
 
-uncharged_rest : {A : Type 0} (read : Read A) (tree : A → Tree) → after (uncharged None read tree) ≡ rest_of read
+pub uncharged_rest : {A : Type 0} (read : Read A) (tree : A → Tree) → after (uncharged None read tree) ≡ rest_of read
 uncharged_rest (Ok x) tree = refl
 uncharged_rest (Err e) tree = refl
 
-still_number : (w : Window) (k : Kind) (f : Form) (bytes : List ℕ) → form_len f (width k) ≡ 0 → rest_of (number_at w k f bytes) ≡ Ok bytes
+pub still_number : (w : Window) (k : Kind) (f : Form) (bytes : List ℕ) → form_len f (width k) ≡ 0 → rest_of (number_at w k f bytes) ≡ Ok bytes
 unfolding number_at form_at
 still_number w kind.Boolean form.Zero bytes e = refl
 still_number w kind.Boolean form.One bytes e = refl
@@ -221,7 +221,7 @@ after_ended w (b ∷ rest) behind t left = refl
 abbrev pub closed : Block → Result (List ℕ) ReadFault → Result (List ℕ) ReadFault
 closed block read = read >>= λ rest. ended block.within rest (tt {0}) >>= λ _. Ok block.behind
 
-closes : {A : Type 0} (block : Block) (read : Part A) (tree : A → Tree) (total : Result (List ℕ) ReadFault) → after read ≡ total
+pub closes : {A : Type 0} (block : Block) (read : Part A) (tree : A → Tree) (total : Result (List ℕ) ReadFault) → after read ≡ total
     → after (read >>= λ x. ended block.within x.2 (tree x.0, x.1, block.behind)) ≡ closed block total
 closes block (Ok x) tree total e = after_ended block.within x.2 block.behind (tree x.0) x.1 ∙ ap (closed block) e
 closes block (Err d) tree total e = ap (closed block) e

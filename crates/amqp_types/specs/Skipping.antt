@@ -1,9 +1,11 @@
 -- Reading where what is read is of no interest, but only where it ends.
-use Rattle.std.specs.Prelude.{ℕ, Bool, true, false, ◌==◌, List, Result, Ok}
+use Rattle.std.specs.Prelude.{◌≡◌, ℕ, ◌+◌, ◌≤◌, Bool, true, false, not, ◌&&◌, ◌==◌, if◌then◌else◌, List, length, take, drop, Option, Some, None, Result, Ok}
+use Rattle.byteorder.specs.Endian.{big_number}
 use Rattle.amqp_types.specs.declared.code.Constructor.{Constructor}
 use Rattle.amqp_types.specs.declared.code.Constructor.TheVariants.{Fixed, EmptyList}
-use Rattle.amqp_types.specs.Kinds.{width}
-use Rattle.amqp_types.specs.Spelling.{form_len}
+use Rattle.amqp_types.specs.declared.code.SizeWidth.{SizeWidth}
+use Rattle.amqp_types.specs.Kinds.{width, is_partial, is_container}
+use Rattle.amqp_types.specs.Spelling.{form_len, size_len}
 use Rattle.amqp_types.specs.declared.fault.ReadFault.{ReadFault}
 use Rattle.amqp_types.specs.Reading.{Read, Part, Head, ◌>>=◌}
 
@@ -20,3 +22,19 @@ abbrev pub is_still : Constructor → Bool
 is_still (Fixed k f) = form_len f (width k) == 0
 is_still EmptyList = true
 is_still _ = false
+
+-- how many bytes stand behind a code, where they are as many for each of its values and any will do
+abbrev pub plain_width : Option Constructor → Option ℕ
+plain_width (Some (Fixed k f)) = if is_container k then None else if is_partial k && not (is_still (Fixed k f)) then None else Some (form_len f (width k))
+plain_width _ = None
+
+-- the bytes that a size in front counts
+abbrev pub counted : SizeWidth → List ℕ → List ℕ
+counted s bytes = take (big_number (size_len s) bytes) (drop (size_len s) bytes)
+
+-- a size stands in front; the bytes that it counts are a count, and the parts behind it
+pub record IsBody (s : SizeWidth) (bytes : List ℕ) (count : ℕ) (parts : List ℕ) : Type 0 where
+  pub within : size_len s + big_number (size_len s) bytes ≤ length bytes
+  pub least : size_len s ≤ big_number (size_len s) bytes
+  pub counts : count ≡ big_number (size_len s) (counted s bytes)
+  pub behind : parts ≡ drop (size_len s) (counted s bytes)

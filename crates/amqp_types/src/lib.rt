@@ -19,6 +19,7 @@ mod image;
 mod keys;
 mod kind;
 pub mod laws;
+mod lengths;
 mod limits;
 mod part;
 mod peeked;

@@ -14,6 +14,7 @@ use crate::kind::{Kind, width};
 use crate::window::Window;
 
 /// The constructor of a code at the place, where it may stand.
+#[inline(always)]
 pub fn allowed(at: usize, code: u8, holds: bool) -> Result<Constructor, ReadFault>
     ensures read { Is (λ c. c) result (allowed at holds (find_code code)) }
     ensures sound { IfOk result IsSound }
@@ -135,7 +136,8 @@ fn text_fault(at: usize, octets: &[u8]) -> Option<ReadFault>
     }
 }
 
-fn first_beyond_ascii(octets: &[u8]) -> Option<usize>
+/// Where the first byte is that no symbol has.
+pub fn first_beyond_ascii(octets: &[u8]) -> Option<usize>
     ensures first { result ≡ position is_beyond_ascii octets.now }
     ensures within { IfSome result (λ n. n < length octets.now) }
     ensures ascii { IfNone result (IsAscii octets.now) }

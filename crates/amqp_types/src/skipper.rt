@@ -15,11 +15,12 @@ use crate::block::{block_at, count_at, ended};
 use crate::code::{Constructor, Form, SizeWidth};
 use crate::fault::ReadFault;
 use crate::kind::{Kind, is_partial, width};
+use crate::lengths::value_len;
 use crate::scalar::{allowed, number_at, size_len, sized_at};
 use crate::window::Window;
 
 /// How many bytes stand behind a fixed-width constructor.
-fn form_len(kind: Kind, form: Form) -> usize
+pub fn form_len(kind: Kind, form: Form) -> usize
     ensures { result ≡ form_len form (width kind) }
 {
     match form {
@@ -241,13 +242,27 @@ fn skip_head(depth: usize, w: Window, bytes: &[u8]) -> Result<(Constructor, &[u8
     Err(w.short)
 }
 
-/// The length of the value in front, by the reading function.
-fn skip_len(bytes: &[u8], depth: usize) -> Result<usize, ReadFault>
+/// The length of the value in front, or what is wrong with it and where.
+#[cold]
+#[inline(never)]
+fn placed_len(bytes: &[u8], depth: usize) -> Result<usize, ReadFault>
     ensures within { IfOk result (λ n. n ≤ length bytes.now) }
     ensures exact { Is (λ n. drop n bytes.now) result (after (value_of depth None bytes.now)) }
 {
     let rest = skip_value(depth, Window::of(bytes), bytes)?;
     Ok(bytes.len() - rest.len())
+}
+
+/// The length of the value in front, by the reading function. Only where the first pass finds none, the second
+/// looks for what is wrong.
+fn skip_len(bytes: &[u8], depth: usize) -> Result<usize, ReadFault>
+    ensures within { IfOk result (λ n. n ≤ length bytes.now) }
+    ensures exact { Is (λ n. drop n bytes.now) result (after (value_of depth None bytes.now)) }
+{
+    match value_len(depth, bytes) {
+        Some(len) => Ok(len),
+        None => placed_len(bytes, depth),
+    }
 }
 
 /// The length of the value that the bytes begin with, in bytes, within a depth. [1.2]

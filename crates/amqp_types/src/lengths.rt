@@ -1,0 +1,261 @@
+//! The length of a value in which nothing is wrong.
+//!
+//! `None` says nothing of the value: it is for the pass with places to find what is wrong, and where.
+
+ghost use Rattle.std.specs.Prelude.{◌≡◌, ℕ, ◌+◌, ◌≤◌, length, drop, if◌then◌else◌, None, IfSome, IsTrue, Option, Ok};
+ghost use Rattle.byteorder.specs.Endian.{big_number};
+ghost use Rattle.amqp_types.specs.Codes.{IsSound, find_code};
+ghost use Rattle.amqp_types.specs.Spelling.{size_len};
+ghost use Rattle.amqp_types.specs.Reading.{Level, after, octets_fault, number_at, sized_at, trees_at, list_at, map_at, array_at, item_by, described_at, value_by, level_by, inside};
+ghost use Rattle.amqp_types.specs.Skipping.{rest_of, plain_width, IsBody};
+ghost use Rattle.amqp_types.specs.declared.window.Window.{Window};
+
+use crate::code::{Constructor, Form, SizeWidth};
+use crate::kind::{Kind, is_partial};
+use crate::scalar::{allowed, first_beyond_ascii, size_len};
+use crate::skipper::{form_len, may_hold, one_less};
+use byteorder::{BigEndian, ByteOrder};
+
+/// The bytes behind a code, where they are as many for each of its values, and any will do.
+#[inline(always)]
+fn plain_width(code: u8) -> Option<usize>
+    ensures { IfSome result (λ n. plain_width (find_code code) ≡ Some n) }
+{
+    let width = match code {
+        0x40 | 0x41 | 0x42 | 0x43 | 0x44 => 0,
+        0x50 | 0x51 | 0x52 | 0x53 | 0x54 | 0x55 => 1,
+        0x60 | 0x61 => 2,
+        0x70 | 0x71 | 0x72 | 0x74 => 4,
+        0x80 | 0x81 | 0x82 | 0x83 | 0x84 => 8,
+        0x94 | 0x98 => 16,
+        _ => return None,
+    };
+    Some(width)
+}
+
+/// The length of the value in front, where its code has a plain width.
+#[inline(always)]
+fn plain_len(bytes: &[u8]) -> Option<usize>
+    ensures within { IfSome result (λ n. n ≤ length bytes.now) }
+    ensures read { IfSome result (λ n. (inner : Option Level) (w : Window) → after (value_by inner w 0 None bytes.now) ≡ Ok (drop n bytes.now)) }
+{
+    let (code, rest) = bytes.split_first()?;
+    let width = plain_width(*code)?;
+    if rest.len() < width {
+        return None;
+    }
+    Some(1 + width)
+}
+
+/// The length of a boolean's or a char's full form.
+fn partial_len(kind: Kind, form: Form, bytes: &[u8]) -> Option<usize>
+    ensures within { IfSome result (λ n. n ≤ length bytes.now) }
+    ensures read { IfSome result (λ n. (w : Window) → rest_of (number_at w kind form bytes.now) ≡ Ok (drop n bytes.now)) }
+{
+    match (kind, form) {
+        (Kind::Boolean, Form::Full) => {
+            let (byte, _rest) = bytes.split_first()?;
+            if *byte > 1 {
+                return None;
+            }
+            Some(1)
+        }
+        (Kind::Char, Form::Full) => {
+            if bytes.len() < 4 {
+                return None;
+            }
+            char::from_u32(BigEndian::read_u32(bytes))?;
+            Some(4)
+        }
+        _ => None,
+    }
+}
+
+/// The number in a size's or a count's field at the front.
+#[inline(always)]
+fn number_in(size: SizeWidth, bytes: &[u8]) -> Option<usize>
+    ensures within { IfSome result (λ n. size_len size ≤ length bytes.now) }
+    ensures number { IfSome result (λ n. n ≡ big_number (size_len size) bytes.now) }
+{
+    match size {
+        SizeWidth::One => Some(usize::from(*bytes.first()?)),
+        SizeWidth::Four => {
+            if bytes.len() < 4 {
+                return None;
+            }
+            Some(BigEndian::read_u32(bytes) as usize)
+        }
+    }
+}
+
+/// Whether the bytes may be those of the kind.
+fn are_octets(kind: Kind, octets: &[u8]) -> bool
+    ensures { IsTrue result → (at : ℕ) → octets_fault kind at octets.now ≡ None }
+{
+    match kind {
+        Kind::String => match simdutf8::basic::from_utf8(octets) {
+            Ok(_) => true,
+            Err(_) => false,
+        },
+        Kind::Symbol => first_beyond_ascii(octets).is_none(),
+        _ => true,
+    }
+}
+
+/// The length of a size and the bytes that it counts.
+fn octets_len(kind: Kind, size: SizeWidth, bytes: &[u8]) -> Option<usize>
+    ensures within { IfSome result (λ n. n ≤ length bytes.now) }
+    ensures read { IfSome result (λ n. (w : Window) → rest_of (sized_at w kind size bytes.now) ≡ Ok (drop n bytes.now)) }
+{
+    let len = number_in(size, bytes)?;
+    let rest = &bytes[size_len(size)..];
+    if rest.len() < len || !are_octets(kind, &rest[..len]) {
+        return None;
+    }
+    Some(size_len(size) + len)
+}
+
+/// The length of so many sizes, each with the bytes that it counts.
+fn octets_items_len(kind: Kind, size: SizeWidth, count: usize, bytes: &[u8]) -> Option<usize>
+    ensures within { IfSome result (λ n. n ≤ length bytes.now) }
+    ensures read { IfSome result (λ n. (inner : Option Level) (w : Window) → after (trees_at (item_by inner (Constructor.Variable kind size)) count w None bytes.now) ≡ Ok (drop n bytes.now)) }
+{
+    let mut at = 0;
+    for _ in 0..count {
+        at += octets_len(kind, size, &bytes[at..])?;
+    }
+    Some(at)
+}
+
+/// The length of so many items, where they hold no others.
+fn elements_len(constructor: Constructor, count: usize, bytes: &[u8]) -> Option<usize>
+    requires { IsSound constructor }
+    ensures within { IfSome result (λ n. n ≤ length bytes.now) }
+    ensures read { IfSome result (λ n. (inner : Option Level) (w : Window) → after (trees_at (item_by inner constructor) count w None bytes.now) ≡ Ok (drop n bytes.now)) }
+{
+    match constructor {
+        Constructor::Fixed(kind, form) => {
+            let len = count.checked_mul(form_len(kind, form))?;
+            if is_partial(kind) || bytes.len() < len {
+                return None;
+            }
+            Some(len)
+        }
+        Constructor::Variable(kind, size) => octets_items_len(kind, size, count, bytes),
+        _ => None,
+    }
+}
+
+/// The count in a list, a map or an array behind its code, and the bytes behind the count.
+#[inline(always)]
+fn body_at(size: SizeWidth, bytes: &[u8]) -> Option<(usize, &[u8])>
+    ensures { IfSome result (λ x. IsBody size bytes.now x.0 x.1.now) }
+{
+    let len = number_in(size, bytes)?;
+    let rest = &bytes[size_len(size)..];
+    if rest.len() < len {
+        return None;
+    }
+    let body = &rest[..len];
+    let count = number_in(size, body)?;
+    Some((count, &body[size_len(size)..]))
+}
+
+/// The length of an array's data, where its items hold no others and have no descriptor.
+fn array_len(depth: usize, size: SizeWidth, bytes: &[u8]) -> Option<usize>
+    ensures within { IfSome result (λ n. n ≤ length bytes.now) }
+    ensures read { IfSome result (λ n. (w : Window) → after (array_at (level_by (inside depth)) w size None bytes.now) ≡ Ok (drop n bytes.now)) }
+{
+    let (count, parts) = body_at(size, bytes)?;
+    let (code, items) = parts.split_first()?;
+    let constructor = allowed(0, *code, may_hold(depth)).ok()?;
+    if elements_len(constructor, count, items)? < items.len() {
+        return None;
+    }
+    Some(2 * size_len(size) + parts.len())
+}
+
+/// The length of the value in front.
+#[cycle(lengths)]
+#[inline(always)]
+pub fn value_len(depth: usize, bytes: &[u8]) -> Option<usize>
+    ensures within { IfSome result (λ n. n ≤ length bytes.now) }
+    ensures read { IfSome result (λ n. (w : Window) → after (value_by (inside depth) w 0 None bytes.now) ≡ Ok (drop n bytes.now)) }
+{
+    match plain_len(bytes) {
+        Some(len) => Some(len),
+        None => other_len(depth, bytes),
+    }
+}
+
+/// The length of the value in front, by its code.
+#[cycle(lengths)]
+fn other_len(depth: usize, bytes: &[u8]) -> Option<usize>
+    ensures within { IfSome result (λ n. n ≤ length bytes.now) }
+    ensures read { IfSome result (λ n. (w : Window) → after (value_by (inside depth) w 0 None bytes.now) ≡ Ok (drop n bytes.now)) }
+{
+    let (code, rest) = bytes.split_first()?;
+    if *code == 0 {
+        return Some(1 + described_len(one_less(depth)?, rest)?);
+    }
+    let constructor = allowed(0, *code, may_hold(depth)).ok()?;
+    Some(1 + item_len(depth, constructor, rest)?)
+}
+
+/// The length of a descriptor and what it describes.
+#[cycle(lengths)]
+fn described_len(depth: usize, bytes: &[u8]) -> Option<usize>
+    ensures within { IfSome result (λ n. n ≤ length bytes.now) }
+    ensures read { IfSome result (λ n. (w : Window) (at : ℕ) → after (described_at (Some (level_by (inside depth))) at w 0 None bytes.now) ≡ Ok (drop n bytes.now)) }
+{
+    let first = value_len(depth, bytes)?;
+    let second = value_len(depth, &bytes[first..])?;
+    Some(first + second)
+}
+
+/// The length of the data of a constructor.
+#[tactic(auto, unfolding(crate::specs::Reading::item_by))]
+#[cycle(lengths)]
+fn item_len(depth: usize, constructor: Constructor, bytes: &[u8]) -> Option<usize>
+    requires { IsSound constructor }
+    ensures within { IfSome result (λ n. n ≤ length bytes.now) }
+    ensures read { IfSome result (λ n. (w : Window) → after (item_by (inside depth) constructor w None bytes.now) ≡ Ok (drop n bytes.now)) }
+{
+    match constructor {
+        Constructor::Fixed(kind, form) => partial_len(kind, form, bytes),
+        Constructor::Variable(kind, size) => octets_len(kind, size, bytes),
+        Constructor::EmptyList => Some(0),
+        Constructor::ListIn(size) => parts_len(one_less(depth)?, size, false, bytes),
+        Constructor::MapIn(size) => parts_len(one_less(depth)?, size, true, bytes),
+        Constructor::ArrayIn(size) => array_len(one_less(depth)?, size, bytes),
+    }
+}
+
+/// The length of a list's data, or of a map's, whose parts come in pairs.
+#[cycle(lengths)]
+fn parts_len(depth: usize, size: SizeWidth, paired: bool, bytes: &[u8]) -> Option<usize>
+    ensures within { IfSome result (λ n. n ≤ length bytes.now) }
+    ensures read { IfSome result (λ n. (w : Window) → after (if paired then map_at (level_by (inside depth)) w size None bytes.now else list_at (level_by (inside depth)) w size None bytes.now) ≡ Ok (drop n bytes.now)) }
+{
+    let (count, parts) = body_at(size, bytes)?;
+    if paired && count % 2 == 1 {
+        return None;
+    }
+    if values_len(depth, count, parts)? < parts.len() {
+        return None;
+    }
+    Some(2 * size_len(size) + parts.len())
+}
+
+/// The length of so many values.
+#[cycle(lengths)]
+fn values_len(depth: usize, count: usize, bytes: &[u8]) -> Option<usize>
+    ensures within { IfSome result (λ n. n ≤ length bytes.now) }
+    ensures read { IfSome result (λ n. (w : Window) → after (trees_at (λ within. value_by (inside depth) within 0) count w None bytes.now) ≡ Ok (drop n bytes.now)) }
+{
+    let mut at = 0;
+    for _ in 0..count {
+        at += value_len(depth, &bytes[at..])?;
+    }
+    Some(at)
+}
