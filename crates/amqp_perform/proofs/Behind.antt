@@ -1,5 +1,5 @@
 -- What stands behind a code, in the words of this crate's cursor.
-use Rattle.std.proofs.Common.{◌≡◌, ℕ, ◌+◌, ◌*◌, Bool, true, false, cond, ltb, not, is_some, List, [], ◌∷◌, length, drop, Option, Some, None, Result, Ok, Err, refl, ap, ◌∙◌, arith, inl, inr}
+use Rattle.std.proofs.Common.{◌≡◌, ℕ, ◌+◌, ◌*◌, Bool, true, false, cond, ltb, not, is_some, List, [], ◌∷◌, length, take, drop, Option, Some, None, Result, Ok, Err, refl, ap, ◌∙◌, arith, inl, inr}
 use Rattle.std.proofs.Math.Dec.{leb}
 use Rattle.std.proofs.lemmas.Bool.{cases_lt, lt-ltb, le-ltb, le-leb, lt-leb}
 use Rattle.std.specs.Str.{is_utf8}
@@ -18,22 +18,24 @@ use Rattle.amqp_types.specs.declared.window.Window.{Window}
 use Rattle.amqp_types.specs.Kinds.{width, is_partial}
 use Rattle.amqp_types.specs.Spelling.{size_len}
 use Rattle.amqp_types.specs.Reading.{Read, Block, block_of, ◌>>=◌, unless, place, number_fault, octets_fault, octets_at, big_at, form_at, number_at, sized_at, is_beyond_ascii}
+use Rattle.amqp_types.proofs.Skips.{no_fault}
 use Rattle.amqp_perform.specs.Cells.{where_so}
 use Rattle.amqp_perform.specs.Reading.{byte_at, short_at, long_at}
 use Rattle.amqp_perform.specs.Reading.{octets_at as next_octets}
 use Rattle.amqp_perform.proofs.Steps.{behind_size}
 
-pub big_is : (w : Window) (n : ℕ) (bytes : List ℕ) → result_ok (big_at w n bytes) ≡ where_so (leb n (length bytes)) (big_number n bytes, drop n bytes)
-big_is w n bytes = elim (cases_lt (length bytes) n) [
-  | inl lt ↦ rw (lt-ltb (length bytes) n lt, lt-leb n (length bytes) lt) refl
-  | inr le ↦ rw (le-ltb (length bytes) n le, le-leb n (length bytes) le) refl
+-- what is read of n bytes, where so many are there
+where_enough : {A : Type 0} (n len : ℕ) (e : ReadFault) (x : A) → result_ok (cond (ltb len n) (Err e) (Ok x)) ≡ where_so (leb n len) x
+where_enough n len e x = elim (cases_lt len n) [
+  | inl lt ↦ rw (lt-ltb len n lt, lt-leb n len lt) refl
+  | inr le ↦ rw (le-ltb len n le, le-leb n len le) refl
 ]
 
+pub big_is : (w : Window) (n : ℕ) (bytes : List ℕ) → result_ok (big_at w n bytes) ≡ where_so (leb n (length bytes)) (big_number n bytes, drop n bytes)
+big_is w n bytes = where_enough n (length bytes) w.short (big_number n bytes, drop n bytes)
+
 pub octets_is : (w : Window) (n : ℕ) (bytes : List ℕ) → result_ok (octets_at w n bytes) ≡ next_octets n bytes
-octets_is w n bytes = elim (cases_lt (length bytes) n) [
-  | inl lt ↦ rw (lt-ltb (length bytes) n lt, lt-leb n (length bytes) lt) refl
-  | inr le ↦ rw (le-ltb (length bytes) n le, le-leb n (length bytes) le) refl
-]
+octets_is w n bytes = where_enough n (length bytes) w.short (take n bytes, drop n bytes)
 
 pub byte_is : (w : Window) (bytes : List ℕ) → result_ok (big_at w 1 bytes) ≡ byte_at bytes
 byte_is w [] = refl
@@ -46,11 +48,6 @@ module _ (faults : ℕ → Option ReadFault) where
   whole : (read : Read ℕ) → ((n : ℕ) → faults n ≡ None) → result_ok (read >>= λ n. unless (faults n.0) n) ≡ result_ok read
   whole (Ok n) h = rw (h n.0) refl
   whole (Err e) h = refl
-
-no_fault : (k : Kind) (at n : ℕ) → is_partial k ≡ false → number_fault k at n ≡ None
-no_fault kind.Boolean at n e = absurd cc
-no_fault kind.Char at n e = absurd cc
-no_fault _ at n e = refl
 
 pub number_one : (w : Window) (k : Kind) (bytes : List ℕ) → is_partial k ≡ false → result_ok (number_at w k form.OneByte bytes) ≡ byte_at bytes
 unfolding number_at form_at
@@ -69,16 +66,16 @@ abbrev pub checked : {A : Type 0} → (A → Bool) → Option A → Option A
 checked passes None = None
 checked passes (Some x) = where_so (passes x) x
 
-flagged : (b : Bool) (n : ℕ × List ℕ) (e : ReadFault) → result_ok (unless (cond b None (Some e)) n) ≡ where_so b n
-flagged true n e = refl
-flagged false n e = refl
+unless_not : {A : Type 0} (b : Bool) (e : ReadFault) (x : A) → result_ok (unless (cond b None (Some e)) x) ≡ where_so b x
+unless_not true e x = refl
+unless_not false e x = refl
 
 pub boolean_byte : (w : Window) (bytes : List ℕ) → result_ok (number_at w kind.Boolean form.Full bytes) ≡ checked (λ n. ltb n.0 2) (byte_at bytes)
 unfolding number_at form_at
 boolean_byte w bytes = tested (big_at w 1 bytes) ∙ ap (checked (λ (n : ℕ × List ℕ). ltb n.0 2)) (byte_is w bytes)
   where
     tested : (read : Read ℕ) → result_ok (read >>= λ n. unless (number_fault kind.Boolean (place w bytes) n.0) n) ≡ checked (λ n. ltb n.0 2) (result_ok read)
-    tested (Ok n) = flagged (ltb n.0 2) n (BadBoolean (place w bytes))
+    tested (Ok n) = unless_not (ltb n.0 2) (BadBoolean (place w bytes)) n
     tested (Err e) = refl
 
 -- ---- octets behind their size
@@ -92,16 +89,12 @@ abbrev pub sized : SizeWidth → List ℕ → Option (List ℕ × List ℕ)
 sized size.One bytes = short_at bytes
 sized size.Four bytes = long_at bytes
 
-utf8_checked : (b : Bool) (e : ReadFault) (x : List ℕ × List ℕ) → result_ok (unless (cond b None (Some e)) x) ≡ where_so b x
-utf8_checked true e x = refl
-utf8_checked false e x = refl
-
 ascii_checked : (o : Option ℕ) (f : ℕ → ReadFault) (x : List ℕ × List ℕ) → result_ok (unless (option_map f o) x) ≡ where_so (not (is_some o)) x
 ascii_checked None f x = refl
 ascii_checked (Some n) f x = refl
 
 octets_checked : (k : Kind) (at : ℕ) (x : List ℕ × List ℕ) → result_ok (unless (octets_fault k at x.0) x) ≡ where_so (are_of k x.0) x
-octets_checked kind.String at x = utf8_checked (is_utf8 x.0) _ x
+octets_checked kind.String at x = unless_not (is_utf8 x.0) _ x
 octets_checked kind.Symbol at x = ascii_checked (position is_beyond_ascii x.0) _ x
 octets_checked _ at x = refl
 

@@ -4,23 +4,22 @@ use Rattle.std.proofs.Math.Dec.{leb}
 use Rattle.std.specs.Result.{result_ok}
 use Rattle.std.specs.List.{find, position}
 use Rattle.std.specs.Str.{bytes_eq}
-use Rattle.std.proofs.lemmas.Bool.{eqb-true, ne_eqb}
+use Rattle.std.proofs.lemmas.Bool.{eqb-true, ne_eqb, and_parts}
 use Rattle.std.proofs.lemmas.Slice.Eq.{bytes_eq-Decides}
 use Rattle.byteorder.specs.Endian.{big_number}
 use Rattle.amqp_types.specs.declared.kind.Kind.{Kind}
 use Rattle.amqp_types.specs.declared.kind.Kind.TheVariants as kind
 use Rattle.amqp_types.specs.declared.code.Form.TheVariants as form
 use Rattle.amqp_types.specs.declared.code.SizeWidth.TheVariants as size
-use Rattle.amqp_types.specs.Codes.{constructors, kind_of}
 use Rattle.amqp_types.specs.Trees.{Tree, Number, Octets, ListOf, MapOf, ArrayOf, Described, IsOfKind}
-use Rattle.amqp_types.specs.Reading.{Read, Part, outermost, uncharged, number_at, form_at, sized_at, inside, item_by, value_by, value_of, is_beyond_ascii}
+use Rattle.amqp_types.specs.Reading.{Read, Part, outermost, uncharged, number_at, form_at, sized_at, item_by, value_by, value_of, is_beyond_ascii}
 use Rattle.amqp_perform.specs.declared.descriptor.Descriptor.{Descriptor}
 use Rattle.amqp_perform.specs.Cells.{◌>>=◌, where_so}
 use Rattle.amqp_perform.specs.Descriptors.{symbol_of, all_descriptors, by_code, by_symbol, described_by}
 use Rattle.amqp_perform.specs.Reading.{byte_at, short_at, long_at, descriptor_from, descriptor_at}
-use Rattle.amqp_perform.proofs.Made.{Yields, value_yields}
+use Rattle.amqp_perform.proofs.Made.{Yields}
 use Rattle.amqp_perform.proofs.Behind.{checked, are_of, number_one, number_full, sized_is}
-use Rattle.amqp_perform.proofs.Rows.{RowOf, by_rows, codes_of, IsOther, rows_read, first_of_both, second_of_both, not_accepted}
+use Rattle.amqp_perform.proofs.Rows.{RowOf, by_rows, codes_of, IsOther, rows_read, others_yield}
 
 abbrev pub eight_at : List ℕ → Option (ℕ × List ℕ)
 eight_at bytes = where_so (leb 8 (length bytes)) (big_number 8 bytes, drop 8 bytes)
@@ -43,7 +42,8 @@ are_plain (d ∷ ds) = not (is_some (position is_beyond_ascii (symbol_of d))) &&
 none_named : (ds : List Descriptor) (symbol : List ℕ) → are_plain ds ≡ true → not (is_some (position is_beyond_ascii symbol)) ≡ false → find (λ d. bytes_eq (symbol_of d) symbol) ds ≡ None
 none_named [] symbol plain beyond = refl
 none_named (d ∷ ds) symbol plain beyond =
-    tested (none_named ds symbol (second_of_both _ (are_plain ds) plain) beyond) (first_of_both _ (are_plain ds) plain) (bytes_eq (symbol_of d) symbol) refl
+    let both = and_parts (not (is_some (position is_beyond_ascii (symbol_of d)))) (are_plain ds) plain in
+    tested (none_named ds symbol both.1 beyond) both.0 (bytes_eq (symbol_of d) symbol) refl
   where
     tested : find (λ d. bytes_eq (symbol_of d) symbol) ds ≡ None → not (is_some (position is_beyond_ascii (symbol_of d))) ≡ true
         → (b : Bool) → bytes_eq (symbol_of d) symbol ≡ b → cond b (Some d) (find (λ d. bytes_eq (symbol_of d) symbol) ds) ≡ None
@@ -128,8 +128,8 @@ other_none code rest other = tested (eqb code 0x44) refl
   where
     tested : (b : Bool) → eqb code 0x44 ≡ b → described_behind code rest ≡ None
     tested true e = subst (λ (k : ℕ). described_behind k rest ≡ None) (sym (eqb-true code 0x44 e)) (zero_row rest)
-    tested false e = part_none (value_of 31 None (code ∷ rest)) (value_yields (λ t. described_by t ≡ None) (inside 31) (outermost (code ∷ rest)) 1 code rest (λ d t. refl)
-        (λ c found t is. leaf_none t (kind_of c) is (not_accepted describes (0x44 ∷ codes_of descriptor_rows) constructors code c refl (e, other) found)))
+    tested false e =
+        part_none (value_of 31 None (code ∷ rest)) (others_yield (λ t. described_by t ≡ None) describes (0x44 ∷ codes_of descriptor_rows) 31 code rest refl (e, other) (λ d t. refl) leaf_none)
 
 behind_zero : (rest : List ℕ) → descriptor_from (value_of 31 None rest) ≡ (byte_at rest >>= λ x. by_rows descriptor_rows x.0 x.1)
 unfolding value_by

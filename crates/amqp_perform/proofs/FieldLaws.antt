@@ -1,13 +1,15 @@
 -- The fields of a table are read exactly where the items are theirs.
 use Rattle.std.proofs.Common.{◌≡◌, ℕ, zero, suc, ◌≤◌, List, [], ◌∷◌, ◌++◌, length, Option, Some, refl, sym, ap, subst, ◌∙◌, append_assoc, arith}
 use Rattle.std.proofs.lemmas.List.{nil_from_length}
+use Rattle.std.proofs.lemmas.Option.{same_Some}
 use Rattle.amqp_types.specs.Trees.{depth_of_all}
 use Rattle.amqp_types.proofs.Octets.{IsBytes}
 use Rattle.amqp_perform.specs.Cells.{Cell, ◌>>=◌, typed_cell, absent_cell, with_absence, field_cell, cells_of}
 use Rattle.amqp_perform.specs.Items.{Item, trees_of, text_of, AreSpelled}
 use Rattle.amqp_perform.specs.Reading.{item_at, typed_at, field_at, fields_at}
 use Rattle.amqp_perform.specs.Tables.{Field}
-use Rattle.amqp_perform.proofs.ItemLaws.{bind_some, some_is, triple_is, BeginsWith, item_found, item_again}
+use Rattle.amqp_perform.proofs.Steps.{bind_some, triple_is}
+use Rattle.amqp_perform.proofs.ItemLaws.{BeginsWith, item_found, item_again}
 
 -- ---- one field
 
@@ -112,13 +114,13 @@ fields_found (f ∷ fs) left bytes cells rest fits e =
 pub fields_again : (fs : List Field) (xs : List Item) (cells : List Cell) (rest : List ℕ) → AreSpelled xs → depth_of_all (trees_of xs) ≤ 30 → cells_of fs xs ≡ Some cells
     → fields_at fs (length xs) (text_of xs ++ rest) ≡ Some (cells, 0, rest)
 unfolding typed_at
-fields_again [] [] cells rest spelled deep e = ap (λ (cs : List Cell). Some (cs, 0, rest)) (some_is [] cells e)
+fields_again [] [] cells rest spelled deep e = ap (λ (cs : List Cell). Some (cs, 0, rest)) (same_Some [] cells e)
 fields_again [] (x ∷ xs) cells rest spelled deep e = absurd cc
 fields_again (f ∷ fs) [] cells rest spelled deep e =
     let a = bind_some (absent_cell f.absence) (λ c. cells_of fs [] >>= λ cs. Some (c ∷ cs)) cells e in
     let b = bind_some (cells_of fs []) (λ cs. Some (a.0 ∷ cs)) cells a.2 in
     let others = fields_again fs [] b.0 rest tt (omega arith) b.1 in
-    rw (a.1, others) (ap (λ (cs : List Cell). Some (cs, 0, rest)) (some_is (a.0 ∷ b.0) cells b.2))
+    rw (a.1, others) (ap (λ (cs : List Cell). Some (cs, 0, rest)) (same_Some (a.0 ∷ b.0) cells b.2))
 fields_again (f ∷ fs) (x ∷ xs) cells rest spelled deep e =
     let a = bind_some (field_cell f x) (λ c. cells_of fs xs >>= λ cs. Some (c ∷ cs)) cells e in
     let b = bind_some (cells_of fs xs) (λ cs. Some (a.0 ∷ cs)) cells a.2 in
@@ -126,4 +128,4 @@ fields_again (f ∷ fs) (x ∷ xs) cells rest spelled deep e =
     let regrouped : text_of (x ∷ xs) ++ rest ≡ x.text ++ (text_of xs ++ rest) = append_assoc x.text (text_of xs) rest in
     let item = item_again x.tree x.text (text_of xs ++ rest) spelled.0 (omega (arith, deep)) in
     let others = fields_again fs xs b.0 rest spelled.1 (omega (arith, deep)) b.1 in
-    rw (regrouped, item, t.1, t.2, others) (ap (λ (cs : List Cell). Some (cs, 0, rest)) (some_is (a.0 ∷ b.0) cells b.2))
+    rw (regrouped, item, t.1, t.2, others) (ap (λ (cs : List Cell). Some (cs, 0, rest)) (same_Some (a.0 ∷ b.0) cells b.2))

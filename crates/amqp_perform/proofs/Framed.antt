@@ -2,7 +2,7 @@
 use Rattle.std.proofs.Common.{◌≡◌, ℕ, ◌+◌, ◌^◌, ◌<◌, ◌≤◌, ◌==◌, ◌&&◌, nat_lt, Bool, true, false, if◌then◌else◌, List, [], ◌∷◌, ◌++◌, length, drop, Option, Some, None, refl, sym, ap, subst, ◌∙◌, length-append, arith}
 use Rattle.std.specs.List.{concat}
 use Rattle.std.proofs.lemmas.Bool.{lt-ltb, eqb-true}
-use Rattle.std.proofs.lemmas.List.{length-map}
+use Rattle.std.proofs.lemmas.List.{length-map, nil_from_length}
 use Rattle.byteorder.specs.Endian.{big_bytes}
 use Rattle.byteorder.specs.Numbers.{big_number-reads_back}
 use Rattle.amqp_types.specs.declared.kind.Kind.TheVariants as kind
@@ -53,8 +53,7 @@ list_parts n text lt empty =
     list_by (n == 0) (nat_lt n 256) (nat_lt (length text) 255) n text (lt-ltb n 256 lt) (λ e. empty (eqb-true n 0 e))
 
 no_texts : (texts : List (List ℕ)) → length texts ≡ 0 → concat texts ≡ []
-no_texts [] e = refl
-no_texts (x ∷ xs) e = absurd (omega arith)
+no_texts texts e = ap concat (nil_from_length texts e)
 
 -- how long the list is
 pub list_len : (values : List FieldText) (content : ℕ) → length values < 256 → content ≡ length (concat (field_spellings values))

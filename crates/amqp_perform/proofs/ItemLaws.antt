@@ -1,7 +1,8 @@
 -- An item, and what describes a list, are read exactly where they are spelled.
-use Rattle.std.proofs.Common.{◌≡◌, ℕ, ◌-◌, ◌≤◌, Bool, true, false, eqb, cond, List, [], ◌∷◌, ◌++◌, length, take, drop, Option, Some, None, Ok, Err, refl, sym, ap, subst, ◌∙◌, arith}
+use Rattle.std.proofs.Common.{◌≡◌, ℕ, ◌-◌, ◌≤◌, Bool, true, false, eqb, cond, List, [], ◌∷◌, ◌++◌, length, take, Option, Some, None, Ok, Err, refl, sym, ap, subst, ◌∙◌, arith}
 use Rattle.std.proofs.lemmas.Bool.{eqb-true}
-use Rattle.std.proofs.lemmas.List.{take_at, drop_at, length-append}
+use Rattle.std.proofs.lemmas.List.{take_at, length-append}
+use Rattle.std.proofs.lemmas.Option.{same_Some, some_pair_parts}
 use Rattle.amqp_types.specs.Reading.{Part, Budget, outermost, value_of}
 use Rattle.amqp_types.specs.Spelling.{Spells}
 use Rattle.amqp_types.specs.Trees.{Tree, Number, Octets, ListOf, MapOf, ArrayOf, Described, depth_of}
@@ -9,33 +10,11 @@ use Rattle.amqp_types.proofs.Octets.{IsBytes, IsBytes-rest}
 use Rattle.amqp_types.proofs.Compounds.{value_sound}
 use Rattle.amqp_types.proofs.Again.{value_again}
 use Rattle.amqp_perform.specs.declared.descriptor.Descriptor.{Descriptor}
-use Rattle.amqp_perform.specs.Cells.{◌>>=◌, where_so}
+use Rattle.amqp_perform.specs.Cells.{◌>>=◌}
 use Rattle.amqp_perform.specs.Descriptors.{described_by}
 use Rattle.amqp_perform.specs.Items.{Item}
 use Rattle.amqp_perform.specs.Reading.{item_from, item_at, descriptor_from, descriptor_at}
-
--- ---- steps
-
-pub bind_some : {A B : Type 0} (o : Option A) (f : A → Option B) (y : B) → (o >>= f) ≡ Some y → (x : A) × (o ≡ Some x) × (f x ≡ Some y)
-bind_some (Some x) f y e = (x, refl, e)
-bind_some None f y e = absurd cc
-
-pub where_some : {A : Type 0} (b : Bool) (x y : A) → where_so b x ≡ Some y → (b ≡ true) × (x ≡ y)
-where_some true x y e = (refl, cc)
-where_some false x y e = absurd cc
-
-pub some_is : {A : Type 0} (x y : A) → ◌≡◌ {A = Option A} (Some x) (Some y) → x ≡ y
-some_is x y e = cc
-
-pub pair_is : {A B : Type 0} (a b : A) (x y : B) → ◌≡◌ {A = Option (A × B)} (Some (a, x)) (Some (b, y)) → (a ≡ b) × (x ≡ y)
-pair_is {A = A} {B = B} a b x y e =
-    let same = some_is (a, x) (b, y) e in
-    (ap (λ (p : A × B). p.0) same, ap (λ (p : A × B). p.1) same)
-
-pub triple_is : {A B C : Type 0} (a b : A) (x y : B) (p q : C) → ◌≡◌ {A = Option (A × B × C)} (Some (a, x, p)) (Some (b, y, q)) → (a ≡ b) × (x ≡ y) × (p ≡ q)
-triple_is {A = A} {B = B} {C = C} a b x y p q e =
-    let same = some_is (a, x, p) (b, y, q) e in
-    (ap (λ (t : A × B × C). t.0) same, ap (λ (t : A × B × C). t.1) same, ap (λ (t : A × B × C). t.2) same)
+use Rattle.amqp_perform.proofs.Steps.{bind_some}
 
 -- ---- items
 
@@ -43,11 +22,6 @@ front_is : (bytes text rest : List ℕ) → bytes ≡ text ++ rest → take (len
 front_is bytes text rest e =
     let n : length text ≡ length bytes - length rest = omega (arith, ap length e, length-append text rest) in
     ap (take (length bytes - length rest)) e ∙ take_at text rest (length bytes - length rest) n
-
-pub behind_front : (bytes text rest : List ℕ) → bytes ≡ text ++ rest → drop (length bytes - length rest) bytes ≡ rest
-behind_front bytes text rest e =
-    let n : length text ≡ length bytes - length rest = omega (arith, ap length e, length-append text rest) in
-    ap (drop (length bytes - length rest)) e ∙ drop_at text rest (length bytes - length rest) n
 
 -- the bytes begin with the item, within the depth of one
 pub record BeginsWith (bytes : List ℕ) (x : Item × List ℕ) : Type 0 where
@@ -58,7 +32,7 @@ pub record BeginsWith (bytes : List ℕ) (x : Item × List ℕ) : Type 0 where
 
 item_read : (bytes : List ℕ) (read : Part Tree) (x : Item × List ℕ) → item_from bytes read ≡ Some x
     → (y : Tree × Budget × List ℕ) × (read ≡ Ok y) × ((record { tree = y.0; text = take (length bytes - length y.2) bytes }, y.2) ≡ x)
-item_read bytes (Ok y) x e = (y, refl, some_is (record { tree = y.0; text = take (length bytes - length y.2) bytes }, y.2) x e)
+item_read bytes (Ok y) x e = (y, refl, same_Some (record { tree = y.0; text = take (length bytes - length y.2) bytes }, y.2) x e)
 item_read bytes (Err d) x e = absurd cc
 
 pub item_found : (bytes : List ℕ) (x : Item × List ℕ) → IsBytes bytes → item_at bytes ≡ Some x → BeginsWith bytes x
@@ -93,7 +67,7 @@ pub record DescribesAs (bytes : List ℕ) (d : Descriptor) (rest : List ℕ) : T
 descriptor_read : (read : Part Tree) (x : Descriptor × List ℕ) → descriptor_from read ≡ Some x → (y : Tree × Budget × List ℕ) × (read ≡ Ok y) × (described_by y.0 ≡ Some x.0) × (y.2 ≡ x.1)
 descriptor_read (Ok y) x e =
     let b = bind_some (described_by y.0) (λ d. Some (d, y.2)) x e in
-    let same = pair_is b.0 x.0 y.2 x.1 b.2 in
+    let same = some_pair_parts b.0 x.0 y.2 x.1 b.2 in
     (y, refl, b.1 ∙ ap (λ (d : Descriptor). Some d) same.0, same.1)
 descriptor_read (Err d) x e = absurd cc
 

@@ -35,13 +35,9 @@ keep x c = Some (c, x.1, x.2)
 abbrev pub from_least : ℕ → Option (Cell × ℕ × List ℕ) → Option (Cell × ℕ × List ℕ)
 from_least least read = read >>= λ x. at_least least x.0 >>= keep x
 
-kept : (left : ℕ) (rest : List ℕ) (c : Cell) (o : Option Cell) → (o >>= with_both left rest) ≡ (o >>= keep (c, left, rest))
-kept left rest c None = refl
-kept left rest c (Some d) = refl
-
 regrouped : (least left : ℕ) (rest : List ℕ) (o : Option Cell) → (o >>= at_least least >>= with_both left rest) ≡ from_least least (o >>= with_both left rest)
 regrouped least left rest None = refl
-regrouped least left rest (Some c) = kept left rest c (at_least least c)
+regrouped least left rest (Some c) = refl
 
 least_read : (least left : ℕ) (read : Option (Item × List ℕ))
     → (read >>= λ x. typed_cell (uint_from least) x.0 >>= with_both left x.1) ≡ from_least least (read >>= λ x. typed_cell uint x.0 >>= with_both left x.1)

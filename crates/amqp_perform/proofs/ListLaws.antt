@@ -1,7 +1,8 @@
 -- A list is read exactly where it is spelled.
-use Rattle.std.proofs.Common.{◌≡◌, ℕ, false, true, List, [], ◌∷◌, ◌++◌, length, Option, Some, None, Result, Ok, Err, refl, sym, ap, subst, ◌∙◌, arith, inl, inr}
+use Rattle.std.proofs.Common.{◌≡◌, ℕ, false, true, List, [], ◌∷◌, ◌++◌, length, Option, Some, None, Result, Ok, Err, refl, sym, ap, subst, ◌∙◌, append_assoc, arith, inl, inr}
 use Rattle.std.specs.Result.{result_ok}
 use Rattle.std.proofs.lemmas.List.{append-nil, nil_from_length}
+use Rattle.std.proofs.lemmas.Option.{same_Some}
 use Rattle.byteorder.specs.Endian.{big_bytes}
 use Rattle.amqp_types.specs.declared.code.Constructor.{Constructor}
 use Rattle.amqp_types.specs.declared.code.Constructor.TheVariants.{Fixed, Variable, EmptyList, ListIn, MapIn, ArrayIn}
@@ -13,13 +14,15 @@ use Rattle.amqp_types.specs.Spelling.{size_len, SpellsBlock}
 use Rattle.amqp_types.proofs.Octets.{IsBytes, IsBytes-rest}
 use Rattle.amqp_types.proofs.Compounds.{block_sound, count_sound, block_text}
 use Rattle.amqp_types.proofs.Again.{block_again, count_again}
+use Rattle.amqp_perform.specs.declared.descriptor.Descriptor.{Descriptor}
 use Rattle.amqp_perform.specs.Cells.{◌>>=◌}
-use Rattle.amqp_perform.specs.Items.{Item, text_of, AreSpelled, SpellsList}
-use Rattle.amqp_perform.specs.Reading.{ListAt, block_in, list_by, list_at}
-use Rattle.amqp_perform.proofs.ItemLaws.{bind_some, some_is}
+use Rattle.amqp_perform.specs.Items.{Item, text_of, AreSpelled, SpellsList, SpellsDescribed}
+use Rattle.amqp_perform.specs.Reading.{ListAt, descriptor_at, block_in, list_by, list_at}
+use Rattle.amqp_perform.proofs.Steps.{bind_some}
+use Rattle.amqp_perform.proofs.ItemLaws.{descriptor_again}
 
 ok_only : {A : Type 0} (r : Result A ReadFault) (x : A) → result_ok r ≡ Some x → r ≡ Ok x
-ok_only (Ok y) x e = ap (λ y. Ok y) (some_is y x e)
+ok_only (Ok y) x e = ap (λ y. Ok y) (same_Some y x e)
 ok_only (Err d) x e = absurd cc
 
 -- whichever items they are, so many with these bytes, the list of them is spelled
@@ -43,7 +46,7 @@ block_found s bytes list fits e =
     let block = block_sound (outermost bytes) s (size_len s) bytes a.0 fits (ok_only (block_at (outermost bytes) s (size_len s) bytes) a.0 a.1) in
     let count = count_sound a.0.within s false a.0.body b.0 block.fits (ok_only (count_at a.0.within s false a.0.body) b.0 b.1) in
     let body : a.0.body ≡ big_bytes (size_len s) b.0.0 ++ (b.0.1 ++ []) = count.0.parts ∙ ap (λ (p : List ℕ). big_bytes (size_len s) b.0.0 ++ p) (sym (append-nil b.0.1)) in
-    subst (λ (l : ListAt). IsBlockAt s bytes l) (some_is (record { count = b.0.0; items = b.0.1; behind = a.0.behind }) list b.2) (record {
+    subst (λ (l : ListAt). IsBlockAt s bytes l) (same_Some (record { count = b.0.0; items = b.0.1; behind = a.0.behind }) list b.2) (record {
       text = big_bytes (size_len s) (length a.0.body) ++ a.0.body;
       parts = block.takes.parts;
       spelled = block_text s (size_len s) b.0.0 bytes a.0 b.0.1 [] block count.1 body refl;
@@ -57,7 +60,7 @@ by_found code (Some (Variable k s)) bytes list fits is e = absurd cc
 by_found code (Some (MapIn s)) bytes list fits is e = absurd cc
 by_found code (Some (ArrayIn s)) bytes list fits is e = absurd cc
 by_found code (Some EmptyList) bytes list fits is e =
-    subst (λ (l : ListAt). BeginsWithList (code ∷ bytes) l) (some_is (record { count = 0; items = []; behind = bytes }) list e) (record {
+    subst (λ (l : ListAt). BeginsWithList (code ∷ bytes) l) (same_Some (record { count = 0; items = []; behind = bytes }) list e) (record {
       text = code ∷ [];
       parts = refl;
       spelled = λ xs len text all. inl (code, is, refl, nil_from_length xs len);
@@ -88,6 +91,31 @@ list_again xs text rest (inr h) =
     rw (h.4, h.3, b.1, count) refl
 
 -- the items of a spelled list are spelled
-pub items_spelled : (xs : List Item) (text : List ℕ) → SpellsList xs text → AreSpelled xs
+items_spelled : (xs : List Item) (text : List ℕ) → SpellsList xs text → AreSpelled xs
 items_spelled xs text (inl h) = rw h.3 tt
 items_spelled xs text (inr h) = h.6
+
+-- ---- described lists
+
+-- the items of a list that is read
+abbrev pub list_of_items : List Item → List ℕ → ListAt
+list_of_items items rest = record { count = length items; items = text_of items; behind = rest }
+
+-- what describes a list, the list, and what follows both
+pub described_parts : (text first second rest : List ℕ) → text ≡ 0 ∷ (first ++ second) → text ++ rest ≡ 0 ∷ (first ++ (second ++ rest))
+described_parts text first second rest joined = ap (λ (b : List ℕ). b ++ rest) joined ∙ ap (λ (b : List ℕ). 0 ∷ b) (append_assoc first second rest)
+
+-- a described list is read as its descriptor and its items
+pub record IsDescribed (d : Descriptor) (items : List Item) (text rest : List ℕ) : Type 0 where
+  pub second : List ℕ
+  pub head : descriptor_at (text ++ rest) ≡ Some (d, second)
+  pub list : list_at second ≡ Some (list_of_items items rest)
+  pub spelled : AreSpelled items
+
+pub described : (d : Descriptor) (items : List Item) (text rest : List ℕ) → SpellsDescribed d items text → IsDescribed d items text rest
+described d items text rest (t, first, second, joined, spelled, describes, list) = record {
+  second = second ++ rest;
+  head = ap descriptor_at (described_parts text first second rest joined) ∙ descriptor_again t d first (second ++ rest) spelled describes;
+  list = list_again items second rest list;
+  spelled = items_spelled items second list;
+}

@@ -1,6 +1,7 @@
 -- What a field's reader reads, as a table by the code in front.
 use Rattle.std.proofs.Common.{◌≡◌, ℕ, zero, suc, ◌-◌, Bool, true, false, cond, eqb, not, ◌&&◌, ◌||◌, List, [], ◌∷◌, length, take, Option, Some, None, Ok, Err, refl, sym, ap, subst, ◌∙◌, arith}
-use Rattle.std.proofs.lemmas.Bool.{le-ltb, eqb-true}
+use Rattle.std.proofs.lemmas.Bool.{le-ltb, eqb-true, and_parts}
+use Rattle.std.proofs.lemmas.Option.{same_Some}
 use Rattle.std.specs.Map.{lookup}
 use Rattle.std.specs.Result.{result_ok}
 use Rattle.amqp_types.specs.declared.kind.Kind.{Kind}
@@ -15,7 +16,7 @@ use Rattle.amqp_perform.specs.Cells.{Cell, Absent, Bytes, ◌>>=◌, typed_cell}
 use Rattle.amqp_perform.specs.Items.{Item}
 use Rattle.amqp_perform.specs.Reading.{code_at, item_from, item_at, typed_at}
 use Rattle.amqp_perform.specs.Tables.{FieldType, boolean, ubyte_to, ushort, uint_from, binary, string, symbol, anything}
-use Rattle.amqp_perform.proofs.Steps.{with_rest, with_left}
+use Rattle.amqp_perform.proofs.Steps.{with_rest, with_left, bind_bind}
 use Rattle.amqp_perform.proofs.Made.{Yields, value_yields}
 
 -- a code, and how what is behind it is read
@@ -94,35 +95,33 @@ not_in : (ks : List ℕ) (code : ℕ) → IsOther ks code → is_in ks code ≡ 
 not_in [] code other = refl
 not_in (k ∷ ks) code other = rw other.0 (not_in ks code other.1)
 
-pub first_of_both : (a b : Bool) → a && b ≡ true → a ≡ true
-first_of_both true b e = refl
-first_of_both false b e = absurd cc
-
-pub second_of_both : (a b : Bool) → a && b ≡ true → b ≡ true
-second_of_both true b e = e
-second_of_both false b e = absurd cc
-
 refused : (a b : Bool) → not a || b ≡ true → b ≡ false → a ≡ false
 refused true true e f = absurd cc
 refused true false e f = absurd cc
 refused false b e f = refl
 
-some_is : (a b : Constructor) → ◌≡◌ {A = Option Constructor} (Some a) (Some b) → a ≡ b
-some_is a b e = cc
-
 pub not_accepted : (accepted : Kind → Bool) (ks : List ℕ) (table : List (ℕ × Constructor)) (code : ℕ) (c : Constructor) → covered accepted ks table ≡ true → IsOther ks code
     → lookup (λ k. eqb code k) table ≡ Some c → accepted (kind_of c) ≡ false
 not_accepted accepted ks [] code c all others found = absurd cc
 not_accepted accepted ks (x ∷ xs) code c all others found =
-    tested (not_accepted accepted ks xs code c (second_of_both _ (covered accepted ks xs) all) others) (eqb code x.0) refl found
+    tested (not_accepted accepted ks xs code c row.1 others) (eqb code x.0) refl found
   where
+    row : (not (accepted (kind_of x.1)) || is_in ks x.0 ≡ true) × (covered accepted ks xs ≡ true)
+    row = and_parts (not (accepted (kind_of x.1)) || is_in ks x.0) (covered accepted ks xs) all
+
     tested : (lookup (λ k. eqb code k) xs ≡ Some c → accepted (kind_of c) ≡ false) → (b : Bool) → eqb code x.0 ≡ b → cond b (Some x.1) (lookup (λ k. eqb code k) xs) ≡ Some c → accepted (kind_of c) ≡ false
     tested next true e here =
         let same = eqb-true code x.0 e in
-        let row = first_of_both _ (covered accepted ks xs) all in
-        subst (λ (d : Constructor). accepted (kind_of d) ≡ false) (some_is x.1 c here)
-        (refused (accepted (kind_of x.1)) (is_in ks x.0) row (subst (λ (n : ℕ). is_in ks n ≡ false) same (not_in ks code others)))
+        subst (λ (d : Constructor). accepted (kind_of d) ≡ false) (same_Some x.1 c here)
+        (refused (accepted (kind_of x.1)) (is_in ks x.0) row.0 (subst (λ (n : ℕ). is_in ks n ≡ false) same (not_in ks code others)))
     tested next false e later = next later
+
+-- what is read behind a code that is none of these is of no kind that is accepted
+pub others_yield : (P : Tree → Type 0) (accepted : Kind → Bool) (ks : List ℕ) (depth code : ℕ) (rest : List ℕ) → covered accepted ks constructors ≡ true → IsOther ks code
+    → ((d t : Tree) → P (Described d t)) → ((t : Tree) (k : Kind) → IsOfKind k t → accepted k ≡ false → P t) → Yields P (value_of depth None (code ∷ rest))
+others_yield P accepted ks depth code rest all others described leaf =
+    value_yields P (inside depth) (outermost (code ∷ rest)) 1 code rest described
+    (λ c found t is. leaf t (kind_of c) is (not_accepted accepted ks constructors code c all others found))
 
 number_none : (type : FieldType) (k : Kind) (n : ℕ) (text : List ℕ) → accepts type k ≡ false → typed_cell type (record { tree = Number k n; text = text }) ≡ None
 number_none anything k n text e = absurd cc
@@ -205,9 +204,8 @@ others_none : (type : FieldType) (rows : List Row) (code : ℕ) (rest : List ℕ
     → data_cell type code rest ≡ None
 others_none type rows code rest all any others =
     part_none type (code ∷ rest) (value_of 30 None (code ∷ rest))
-    (value_yields (λ t. (text : List ℕ) → typed_cell type (record { tree = t; text = text }) ≡ None) (inside 30) (outermost (code ∷ rest)) 1 code rest
-    (λ d t text. compound_none type (Described d t) text refl any)
-    (λ c found t is text. tree_none type t (kind_of c) text is (not_accepted (accepts type) (codes_of rows) constructors code c all others found) any))
+    (others_yield (λ t. (text : List ℕ) → typed_cell type (record { tree = t; text = text }) ≡ None) (accepts type) (codes_of rows) 30 code rest all others
+    (λ d t text. compound_none type (Described d t) text refl any) (λ t k is e text. tree_none type t k text is e any))
 
 -- ---- a field by a table
 
@@ -218,11 +216,7 @@ null_read type rest = rw (le-ltb (length rest) 0 (omega arith)) refl
 left_behind : (type : FieldType) (left : ℕ) (read : Option (Item × List ℕ))
     → (read >>= λ x. typed_cell type x.0 >>= λ c. Some (c, left, x.1)) ≡ ((read >>= λ x. typed_cell type x.0 >>= with_rest x.1) >>= with_left left)
 left_behind type left None = refl
-left_behind type left (Some x) = then_left (typed_cell type x.0)
-  where
-    then_left : (o : Option Cell) → (o >>= λ c. Some (c, left, x.1)) ≡ ((o >>= with_rest x.1) >>= with_left left)
-    then_left None = refl
-    then_left (Some c) = refl
+left_behind type left (Some x) = sym (bind_bind (typed_cell type x.0) (with_rest x.1) (with_left left))
 
 typed_is : (type : FieldType) (rows : List Row) → ((code : ℕ) (rest : List ℕ) → data_cell type code rest ≡ by_rows rows code rest)
     → (left : ℕ) (bytes : List ℕ) → typed_at type left bytes ≡ (code_at left bytes >>= typed_by rows)

@@ -6,20 +6,21 @@ use Rattle.std.proofs.lemmas.Bool.{le-ltb, eqb-true, eqb-false}
 use Rattle.std.specs.Str.{bytes_eq}
 use Rattle.std.proofs.lemmas.Slice.Eq.{bytes_eq-Decides}
 use Rattle.std.proofs.lemmas.List.{length-drop}
+use Rattle.std.proofs.lemmas.Option.{cond_some}
 use Rattle.amqp_types.specs.declared.kind.Kind.{Kind}
 use Rattle.amqp_types.specs.declared.kind.Kind.TheVariants as kind
 use Rattle.amqp_types.specs.declared.fault.ReadFault.{ReadFault}
-use Rattle.amqp_types.specs.Codes.{constructors, kind_of}
 use Rattle.amqp_types.specs.Spelling.{Spells}
 use Rattle.amqp_types.specs.Trees.{Tree, Number, Octets, ListOf, MapOf, ArrayOf, Described, IsOfKind, depth_of}
-use Rattle.amqp_types.specs.Reading.{Is, Part, after, outermost, number_at, form_at, inside, item_by, value_by, value_of}
+use Rattle.amqp_types.specs.Reading.{Is, Part, after, number_at, form_at, item_by, value_by, value_of}
+use Rattle.amqp_types.proofs.Calls.{ok_rest}
 use Rattle.amqp_types.proofs.Peeks.{never_empty}
-use Rattle.amqp_perform.specs.Cells.{Cell, Absent, Span, ◌>>=◌, where_so, is_null, typed_cell}
+use Rattle.amqp_perform.specs.Cells.{Cell, Absent, Span, ◌>>=◌, is_null, typed_cell}
 use Rattle.amqp_perform.specs.Performatives.{span}
 use Rattle.amqp_perform.specs.Reading.{item_from, typed_at, octets_at}
 use Rattle.amqp_perform.specs.Tables.{anything}
-use Rattle.amqp_perform.proofs.Made.{Yields, value_yields}
-use Rattle.amqp_perform.proofs.Rows.{not_accepted}
+use Rattle.amqp_perform.proofs.Made.{Yields}
+use Rattle.amqp_perform.proofs.Rows.{others_yield}
 
 null_kind : Kind → Bool
 null_kind kind.Null = true
@@ -39,11 +40,7 @@ leaf_is (Described d t) k is e = refl
 no_null : (code : ℕ) (rest : List ℕ) → eqb code 0x40 ≡ false → Yields (λ t. is_null t ≡ false) (value_of 30 None (code ∷ rest))
 unfolding null_kind
 no_null code rest other =
-    value_yields (λ t. is_null t ≡ false) (inside 30) (outermost (code ∷ rest)) 1 code rest (λ d t. refl)
-    (λ c found t is. leaf_is t (kind_of c) is (not_accepted null_kind (0x40 ∷ []) constructors code c refl (other, tt) found))
-
-some_rest : (a b : List ℕ) → ◌≡◌ {A = Result (List ℕ) ReadFault} (Ok a) (Ok b) → a ≡ b
-some_rest a b e = cc
+    others_yield (λ t. is_null t ≡ false) null_kind (0x40 ∷ []) 30 code rest refl (other, tt) (λ d t. refl) leaf_is
 
 null_after : (rest : List ℕ) → value_of 30 None (0x40 ∷ rest) ≡ Ok (Number kind.Null 0, None, rest)
 unfolding value_by item_by number_at form_at
@@ -59,7 +56,7 @@ any_at left bytes read = item_from bytes read >>= λ x. typed_cell anything x.0 
 span_read : (left len : ℕ) (bytes : List ℕ) (read : Part Tree) → len ≤ length bytes → Yields (λ t. is_null t ≡ false) read → after read ≡ Ok (drop len bytes)
     → any_at left bytes read ≡ Some (Span (take len bytes), left, drop len bytes)
 span_read left len bytes (Ok x) within yields e =
-    let rest = some_rest x.2 (drop len bytes) e in
+    let rest = ok_rest x.2 (drop len bytes) e in
     let long : length bytes - length x.2 ≡ len = omega (arith, ap length rest, length-drop len bytes) in
     rw (yields, long, rest) refl
 span_read left len bytes (Err f) within yields e = absurd cc
@@ -88,7 +85,7 @@ opaque_is left len (code ∷ rest) within e = tested (eqb code 0x40) refl
       where
         null_here : (len : ℕ) → len ≤ length (code ∷ rest) → after (value_of 30 None (0x40 ∷ rest)) ≡ Ok (drop len (0x40 ∷ rest)) → IsOpaque left (0x40 ∷ rest) len
         null_here len within e =
-            let left_is : rest ≡ drop len (0x40 ∷ rest) = some_rest rest (drop len (0x40 ∷ rest)) (sym (ap after (null_after rest)) ∙ e) in
+            let left_is : rest ≡ drop len (0x40 ∷ rest) = ok_rest rest (drop len (0x40 ∷ rest)) (sym (ap after (null_after rest)) ∙ e) in
             let one = one_taken len rest within left_is in
             subst (λ (n : ℕ). IsOpaque left (0x40 ∷ rest) n) (sym one) (inl (refl, ap (any_at left (0x40 ∷ rest)) (null_after rest)))
     tested false is = inr (first_is len code rest is, span_read left len (code ∷ rest) (value_of 30 None (code ∷ rest)) within (no_null code rest is) e)
@@ -115,15 +112,10 @@ other_span left len bytes t within e spelled other = chosen (opaque_is left len 
     chosen (inl h) = absurd (other h.0)
     chosen (inr h) = h.1 ∙ ap (λ (c : Cell). Some (c, left, drop len bytes)) (span_of t (take len bytes) spelled)
 
-some_is : {A : Type 0} (x y : A) → Some x ≡ Some y → x ≡ y
-some_is x y e = cc
-
 octets_parts : (n : ℕ) (bytes o rest : List ℕ) → octets_at n bytes ≡ Some (o, rest) → (o ≡ take n bytes) × (rest ≡ drop n bytes)
-octets_parts n bytes o rest e = tested (leb n (length bytes)) e
-  where
-    tested : (b : Bool) → where_so {A = List ℕ × List ℕ} b (take n bytes, drop n bytes) ≡ Some (o, rest) → (o ≡ take n bytes) × (rest ≡ drop n bytes)
-    tested true h = let same = some_is (take n bytes, drop n bytes) (o, rest) h in (sym (ap (λ (p : List ℕ × List ℕ). p.0) same), sym (ap (λ (p : List ℕ × List ℕ). p.1) same))
-    tested false h = absurd cc
+octets_parts n bytes o rest e =
+    let same = (cond_some (leb n (length bytes)) (take n bytes, drop n bytes) (o, rest) e).1 in
+    (sym (ap (λ (p : List ℕ × List ℕ). p.0) same), sym (ap (λ (p : List ℕ × List ℕ). p.1) same))
 
 -- what skip found, and what the cursor took of it
 pub lent : (left len : ℕ) (bytes o rest : List ℕ) (r : Result ℕ ReadFault) → (left ≡ 0 → ⊥) → r ≡ Ok len → IfOk r (λ n. n ≤ length bytes) → IfOk r (λ n. (t : Tree) × Spells t (take n bytes) × (depth_of t ≤ 30))

@@ -1,5 +1,5 @@
 -- Conditions and outcomes are found where they are spelled.
-use Rattle.std.proofs.Common.{◌≡◌, ℕ, ◌≤◌, Bool, true, false, cond, List, [], ◌∷◌, ◌++◌, length, drop, Option, Some, refl, ap, ◌∙◌, append_assoc, arith}
+use Rattle.std.proofs.Common.{◌≡◌, ℕ, ◌≤◌, Bool, true, false, cond, List, [], ◌∷◌, ◌++◌, length, drop, Option, Some, refl, ap, ◌∙◌, arith}
 use Rattle.std.specs.Option.{unwrap_or, option_map_or}
 use Rattle.amqp_types.specs.declared.kind.Kind.TheVariants as kind
 use Rattle.amqp_types.specs.Reading.{form_at, number_at, sized_at, block_at, count_at, item_by, value_by, inside}
@@ -15,31 +15,10 @@ use Rattle.amqp_perform.specs.Conditions.{condition_span, found_by_name, cell_co
 use Rattle.amqp_perform.specs.Descriptors.{by_code}
 use Rattle.amqp_perform.specs.Items.{Item, trees_of, text_of, AreSpelled, SpellsDescribed}
 use Rattle.amqp_perform.specs.Outcomes.{is_true, true_at, second_true, modified_by, outcome_span, outcome_of, outcome_by, is_true_tree, first_is_true, outcome_in}
-use Rattle.amqp_perform.specs.Reading.{ListAt, descriptor_at, list_at, described_at, typed_at}
+use Rattle.amqp_perform.specs.Reading.{descriptor_at, list_at, described_at, typed_at}
 use Rattle.amqp_perform.specs.Tables.{FieldType, boolean, symbol, anything}
-use Rattle.amqp_perform.proofs.ItemLaws.{item_again, descriptor_again}
-use Rattle.amqp_perform.proofs.ListLaws.{list_again, items_spelled}
-
--- the items of a list that is read
-abbrev list_of : List Item → List ℕ → ListAt
-list_of items rest = record { count = length items; items = text_of items; behind = rest }
-
--- a described list is read as its descriptor and its items
-record IsDescribed (d : Descriptor) (items : List Item) (text rest : List ℕ) : Type 0 where
-  second : List ℕ
-  head : descriptor_at (text ++ rest) ≡ Some (d, second)
-  list : list_at second ≡ Some (list_of items rest)
-  spelled : AreSpelled items
-
-described : (d : Descriptor) (items : List Item) (text rest : List ℕ) → SpellsDescribed d items text → IsDescribed d items text rest
-described d items text rest (t, first, second, joined, spelled, describes, list) =
-    let regrouped : text ++ rest ≡ 0 ∷ (first ++ (second ++ rest)) = ap (λ (b : List ℕ). b ++ rest) joined ∙ ap (λ (b : List ℕ). 0 ∷ b) (append_assoc first second rest) in
-    record {
-      second = second ++ rest;
-      head = ap descriptor_at regrouped ∙ descriptor_again t d first (second ++ rest) spelled describes;
-      list = list_again items second rest list;
-      spelled = items_spelled items second list;
-    }
+use Rattle.amqp_perform.proofs.ItemLaws.{item_again}
+use Rattle.amqp_perform.proofs.ListLaws.{list_of_items, described}
 
 -- an item that is there is read
 given : (type : FieldType) (x : Item) (xs : List Item) → AreSpelled (x ∷ xs) → depth_of_all (trees_of (x ∷ xs)) ≤ 30
@@ -101,7 +80,7 @@ second_is (x ∷ xs) spelled deep =
     ∙ passed x (length xs) (text_of xs)
     ∙ first_is xs spelled.1 (omega (arith, deep))
 
-by_descriptor : (d : Descriptor) (items : List Item) (second rest : List ℕ) → list_at second ≡ Some (list_of items rest) → AreSpelled items → depth_of_all (trees_of items) ≤ 30 → outcome_by d second ≡ outcome_in d items
+by_descriptor : (d : Descriptor) (items : List Item) (second rest : List ℕ) → list_at second ≡ Some (list_of_items items rest) → AreSpelled items → depth_of_all (trees_of items) ≤ 30 → outcome_by d second ≡ outcome_in d items
 unfolding modified_by
 by_descriptor of_type.Modified items second rest list spelled deep = rw (list, first_is items spelled deep, second_is items spelled deep) refl
 by_descriptor _ items second rest list spelled deep = refl

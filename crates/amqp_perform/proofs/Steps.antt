@@ -1,5 +1,6 @@
 -- Steps of reading that lemmas speak of.
-use Rattle.std.proofs.Common.{ℕ, List, Option, Some}
+use Rattle.std.proofs.Common.{◌≡◌, ℕ, List, Option, Some, None, refl, ap}
+use Rattle.std.proofs.lemmas.Option.{same_Some}
 use Rattle.amqp_types.specs.declared.code.SizeWidth.{SizeWidth}
 use Rattle.amqp_types.specs.declared.code.SizeWidth.TheVariants as size
 use Rattle.amqp_perform.specs.Cells.{Cell, ◌>>=◌}
@@ -29,3 +30,18 @@ list_in s block = block >>= λ x. count_in s x.0 >>= list_of x.1
 
 abbrev pub with_both : ℕ → List ℕ → Cell → Option (Cell × ℕ × List ℕ)
 with_both left rest c = Some (c, left, rest)
+
+-- ---- one step behind another
+
+pub bind_some : {A B : Type 0} (o : Option A) (f : A → Option B) (y : B) → (o >>= f) ≡ Some y → (x : A) × (o ≡ Some x) × (f x ≡ Some y)
+bind_some (Some x) f y e = (x, refl, e)
+bind_some None f y e = absurd cc
+
+pub bind_bind : {A B C : Type 0} (o : Option A) (f : A → Option B) (g : B → Option C) → (o >>= f >>= g) ≡ (o >>= λ x. f x >>= g)
+bind_bind None f g = refl
+bind_bind (Some x) f g = refl
+
+pub triple_is : {A B C : Type 0} (a b : A) (x y : B) (p q : C) → ◌≡◌ {A = Option (A × B × C)} (Some (a, x, p)) (Some (b, y, q)) → (a ≡ b) × (x ≡ y) × (p ≡ q)
+triple_is {A = A} {B = B} {C = C} a b x y p q e =
+    let same = same_Some (a, x, p) (b, y, q) e in
+    (ap (λ (t : A × B × C). t.0) same, ap (λ (t : A × B × C). t.1) same, ap (λ (t : A × B × C). t.2) same)

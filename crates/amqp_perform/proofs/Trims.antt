@@ -1,5 +1,5 @@
 -- Texts without the nulls at their end.
-use Rattle.std.proofs.Common.{◌≡◌, ℕ, zero, suc, ◌+◌, ◌-◌, ◌<◌, ◌≤◌, Bool, true, false, if◌then◌else◌, List, [], ◌∷◌, ◌++◌, length, take, get_or, length-append, refl, sym, ap, ◌∙◌, arith}
+use Rattle.std.proofs.Common.{◌≡◌, ℕ, zero, suc, ◌+◌, ◌-◌, ◌<◌, ◌≤◌, Bool, true, false, cond, List, [], ◌∷◌, ◌++◌, length, take, get_or, length-append, refl, sym, ap, ◌∙◌, arith, inl, inr, ◌⊎◌}
 use Rattle.std.proofs.Math.Seq.{take-suc}
 use Rattle.std.proofs.lemmas.List.{map-append, length-map, length-take-le}
 use Rattle.std.specs.List.{concat}
@@ -52,19 +52,22 @@ trimmed_all values (suc n) d is_null some le same is =
     ∙ other_trimmed (field_spellings (take n values)) (field_spelling (get_or values n d)) (last_is values n d is_null same ∙ is)
     ∙ sym parts
 
--- a null that is left out has one byte
-null_width : (text : List ℕ) → bytes_eq text null_text ≡ true → length text ≡ 1
-null_width text is = ap length ((bytes_eq-Decides text null_text).0 is)
+-- a text is kept, or is a null with none behind it
+pub kept_or_null : (text : List ℕ) (texts : List (List ℕ)) → (before_nulls text texts ≡ text ∷ texts) ⊎ ((text ≡ null_text) × (texts ≡ []) × (before_nulls text texts ≡ []))
+kept_or_null text (next ∷ texts) = inl refl
+kept_or_null text [] = by (bytes_eq text null_text) refl
+  where
+    by : (b : Bool) → bytes_eq text null_text ≡ b → (cond b [] (text ∷ []) ≡ text ∷ []) ⊎ ((text ≡ null_text) × (◌≡◌ {A = List (List ℕ)} [] []) × (cond b [] (text ∷ []) ≡ []))
+    by true is = inr ((bytes_eq-Decides text null_text).0 is, refl, refl)
+    by false is = inl refl
 
 before_width : (text : List ℕ) (used : List (List ℕ)) (bytes items : ℕ) → bytes + length used ≡ length (concat used) + items
     → length text + bytes + length (before_nulls text used) ≡ length (concat (before_nulls text used)) + suc items
-before_width text [] bytes items same = tested (bytes_eq text null_text) refl
-  where
-    tested : (b : Bool) → bytes_eq text null_text ≡ b
-        → length text + bytes + length (if b then [] else text ∷ []) ≡ length (concat (if b then [] else text ∷ [])) + suc items
-    tested true is = omega (arith, null_width text is, same)
-    tested false is = omega (arith, length-append text [], same)
-before_width text (next ∷ texts) bytes items same = omega (arith, length-append text (concat (next ∷ texts)), same)
+before_width text used bytes items same =
+    elim (kept_or_null text used) [
+      | inl kept ↦ rw kept (omega (arith, length-append text (concat used), same))
+      | inr gone ↦ rw gone.2 (omega (arith, ap length gone.0, ap length gone.1, ap (λ (x : List (List ℕ)). length (concat x)) gone.1, same))
+    ]
 
 all_width : (texts : List (List ℕ)) → length (concat texts) + length (trimmed texts) ≡ length (concat (trimmed texts)) + length texts
 all_width [] = refl

@@ -1,8 +1,9 @@
 -- The fields of a body that is read are fields that may be written.
-use Rattle.std.proofs.Common.{◌≡◌, ◌≢◌, ℕ, ◌+◌, ◌-◌, ◌^◌, ◌<◌, ◌≤◌, ◌&&◌, Bool, true, false, cond, ltb, leb, eqb, List, [], ◌∷◌, ◌++◌, length, Option, Some, None, refl, sym, ap, subst, ◌∙◌, append_assoc, arith}
+use Rattle.std.proofs.Common.{◌≡◌, ◌≢◌, ℕ, ◌+◌, ◌-◌, ◌^◌, ◌<◌, ◌≤◌, ◌&&◌, Bool, true, false, cond, ltb, leb, eqb, List, [], ◌∷◌, ◌++◌, length, Option, Some, None, refl, sym, ap, subst, ◌∙◌, arith}
 use Rattle.std.specs.Prelude.{codes}
 use Rattle.std.proofs.lemmas.Bool.{ltb-true, and_parts}
 use Rattle.std.proofs.lemmas.List.{take_at, drop_at}
+use Rattle.std.proofs.lemmas.Option.{same_Some, cond_some}
 use Rattle.byteorder.specs.Endian.{big_bytes}
 use Rattle.amqp_types.specs.declared.kind.Kind.{Kind}
 use Rattle.amqp_types.specs.declared.kind.Kind.TheVariants as kind
@@ -12,7 +13,7 @@ use Rattle.amqp_types.specs.Canonical.{IsOfOctets, IsRanged}
 use Rattle.amqp_types.specs.Kinds.{fixed_width, width}
 use Rattle.amqp_types.specs.Spelling.{sign_extended, size_len, SpellsNumber, Spells}
 use Rattle.amqp_types.specs.Trees.{Tree, Number, Octets, depth_of, depth_of_all}
-use Rattle.amqp_types.proofs.Octets.{IsBytes, IsBytes-take, IsBytes-drop, IsBytes-rest}
+use Rattle.amqp_types.proofs.Octets.{IsBytes, IsBytes-take, IsBytes-drop}
 use Rattle.amqp_types.proofs.Powers.{pow_of_one}
 use Rattle.amqp_perform.specs.declared.descriptor.Descriptor.{Descriptor}
 use Rattle.amqp_perform.specs.declared.descriptor.Descriptor.TheVariants as of_type
@@ -25,8 +26,9 @@ use Rattle.amqp_perform.specs.Frames.{kind_of, last_written, disposition_written
 use Rattle.amqp_perform.specs.Items.{Item, trees_of, text_of, AreSpelled, SpellsDescribed}
 use Rattle.amqp_perform.specs.Performatives.{optional_whole, disposition_cells, type_of, performative_cells}
 use Rattle.amqp_perform.specs.Tables.{FieldType, boolean, ubyte_to, ushort, uint_from, binary, string, symbol, anything, Absence, mandatory, optional, default, Field, field, uint, open_fields, begin_fields, attach_fields, flow_fields, transfer_fields, disposition_fields, detach_fields, end_fields, close_fields, fields_of}
-use Rattle.amqp_perform.proofs.ItemLaws.{bind_some, where_some, some_is}
-use Rattle.amqp_perform.proofs.ListLaws.{list_found, list_again, items_spelled}
+use Rattle.amqp_perform.proofs.Steps.{bind_some}
+use Rattle.amqp_perform.proofs.ItemLaws.{descriptor_found}
+use Rattle.amqp_perform.proofs.ListLaws.{list_of_items, list_found, described}
 
 -- ---- bytes
 
@@ -38,11 +40,10 @@ bytes_behind xs ys h = subst (λ (b : List ℕ). IsBytes b) (drop_at xs ys (leng
 
 -- the items of a list that is made of bytes are made of bytes
 items_are_bytes : (d : Descriptor) (items : List Item) (text rest : List ℕ) → IsBytes (text ++ rest) → SpellsDescribed d items text → IsBytes (text_of items) × AreSpelled items
-items_are_bytes d items text rest fits (t, first, second, joined, spelled, describes, list) =
-    let regrouped : text ++ rest ≡ 0 ∷ (first ++ (second ++ rest)) = ap (λ (b : List ℕ). b ++ rest) joined ∙ ap (λ (b : List ℕ). 0 ∷ b) (append_assoc first second rest) in
-    let behind = bytes_behind first (second ++ rest) (IsBytes-rest 0 (first ++ (second ++ rest)) (subst (λ (b : List ℕ). IsBytes b) regrouped fits)) in
-    let found = list_found (second ++ rest) (record { count = length items; items = text_of items; behind = rest }) behind (list_again items second rest list) in
-    (found.items_fit, items_spelled items second list)
+items_are_bytes d items text rest fits spelled =
+    let list = described d items text rest spelled in
+    let behind = (descriptor_found (text ++ rest) (d, list.second) fits list.head).rest_fits in
+    ((list_found list.second (list_of_items items rest) behind list.list).items_fit, list.spelled)
 
 -- ---- values that are spelled are ranged
 
@@ -88,27 +89,24 @@ of_field f (Whole n) h = h
 of_field f (Bytes octets) h = h
 of_field f (Span text) h = h
 
-whole_of : (type : FieldType) (n : ℕ) (c : Cell) → IsOfType type (Whole n) → ◌≡◌ {A = Option Cell} (Some (Whole n)) (Some c) → IsOfType type c
-whole_of type n c h e = subst (IsOfType type) (some_is (Whole n) c e) h
-
-bytes_of : (type : FieldType) (octets : List ℕ) (c : Cell) → IsOfType type (Bytes octets) → ◌≡◌ {A = Option Cell} (Some (Bytes octets)) (Some c) → IsOfType type c
-bytes_of type octets c h e = subst (IsOfType type) (some_is (Bytes octets) c e) h
+of_same : (type : FieldType) (b c : Cell) → IsOfType type b → ◌≡◌ {A = Option Cell} (Some b) (Some c) → IsOfType type c
+of_same type b c h e = subst (IsOfType type) (same_Some b c e) h
 
 value_of_type : (type : FieldType) (t : Tree) (text : List ℕ) (c : Cell) → Spells t text → IsBytes text → depth_of t ≤ 30 → is_null t ≡ false → value_cell type t text ≡ Some c → IsOfType type c
 value_of_type boolean (Number kind.Boolean n) text c spelled fits deep null e =
-    whole_of boolean n c (number_ranged kind.Boolean n text (omega arith) (λ e. absurd cc) spelled, refl) e
+    of_same boolean (Whole n) c (number_ranged kind.Boolean n text (omega arith) (λ e. absurd cc) spelled, refl) e
 value_of_type (ubyte_to most) (Number kind.Ubyte n) text c spelled fits deep null e =
-    let w = where_some (leb n most) (Whole n) c e in
+    let w = cond_some (leb n most) (Whole n) c e in
     subst (IsOfType (ubyte_to most)) w.1 (number_ranged kind.Ubyte n text (omega arith) (λ e. absurd cc) spelled, rw w.0 refl)
 value_of_type ushort (Number kind.Ushort n) text c spelled fits deep null e =
-    whole_of ushort n c (number_ranged kind.Ushort n text (omega arith) (λ e. absurd cc) spelled, refl) e
+    of_same ushort (Whole n) c (number_ranged kind.Ushort n text (omega arith) (λ e. absurd cc) spelled, refl) e
 value_of_type (uint_from least) (Number kind.Uint n) text c spelled fits deep null e =
-    let w = where_some (leb least n) (Whole n) c e in
+    let w = cond_some (leb least n) (Whole n) c e in
     subst (IsOfType (uint_from least)) w.1 (number_ranged kind.Uint n text (omega arith) (λ e. absurd cc) spelled, rw w.0 refl)
-value_of_type binary (Octets kind.Binary octets) text c spelled fits deep null e = bytes_of binary octets c (octets_ranged kind.Binary octets text tt fits spelled, refl) e
-value_of_type string (Octets kind.String octets) text c spelled fits deep null e = bytes_of string octets c (octets_ranged kind.String octets text tt fits spelled, refl) e
-value_of_type symbol (Octets kind.Symbol octets) text c spelled fits deep null e = bytes_of symbol octets c (octets_ranged kind.Symbol octets text tt fits spelled, refl) e
-value_of_type anything t text c spelled fits deep null e = subst (IsOfType anything) (some_is (Span text) c e) (refl, t, spelled, deep, null)
+value_of_type binary (Octets kind.Binary octets) text c spelled fits deep null e = of_same binary (Bytes octets) c (octets_ranged kind.Binary octets text tt fits spelled, refl) e
+value_of_type string (Octets kind.String octets) text c spelled fits deep null e = of_same string (Bytes octets) c (octets_ranged kind.String octets text tt fits spelled, refl) e
+value_of_type symbol (Octets kind.Symbol octets) text c spelled fits deep null e = of_same symbol (Bytes octets) c (octets_ranged kind.Symbol octets text tt fits spelled, refl) e
+value_of_type anything t text c spelled fits deep null e = of_same anything (Span text) c (refl, t, spelled, deep, null) e
 value_of_type _ _ text c spelled fits deep null e = absurd cc
 
 -- whether a default is a number of the field's type
@@ -132,14 +130,14 @@ absent_of_field f c h e = by f.absence refl h e
   where
     by : (a : Absence) → f.absence ≡ a → suits f.type a ≡ true → absent_cell a ≡ Some c → IsOfField f c
     by mandatory is h e = absurd cc
-    by optional is h e = subst (IsOfField f) (some_is Absent c e) is
-    by (default n) is h e = subst (IsOfField f) (some_is (Whole n) c e) (of_field f (Whole n) (default_of_type f.type n h))
+    by optional is h e = subst (IsOfField f) (same_Some Absent c e) is
+    by (default n) is h e = subst (IsOfField f) (same_Some (Whole n) c e) (of_field f (Whole n) (default_of_type f.type n h))
 
 with_absence_of : (f : Field) (c d : Cell) → IsOfType f.type c → with_absence f.absence c ≡ Some d → IsOfField f d
 with_absence_of f Absent d h e = absurd h
-with_absence_of f (Whole n) d h e = subst (IsOfField f) (some_is (Whole n) d e) h
-with_absence_of f (Bytes octets) d h e = subst (IsOfField f) (some_is (Bytes octets) d e) h
-with_absence_of f (Span text) d h e = subst (IsOfField f) (some_is (Span text) d e) h
+with_absence_of f (Whole n) d h e = subst (IsOfField f) (same_Some (Whole n) d e) h
+with_absence_of f (Bytes octets) d h e = subst (IsOfField f) (same_Some (Bytes octets) d e) h
+with_absence_of f (Span text) d h e = subst (IsOfField f) (same_Some (Span text) d e) h
 
 item_of_field : (f : Field) (x : Item) (c : Cell) → suits f.type f.absence ≡ true → Spells x.tree x.text → IsBytes x.text → depth_of x.tree ≤ 30 → field_cell f x ≡ Some c → IsOfField f c
 item_of_field f x c h spelled fits deep e = by (is_null x.tree) refl e
@@ -157,10 +155,10 @@ all_suit [] = true
 all_suit (f ∷ fs) = suits f.type f.absence && all_suit fs
 
 some_of_fields : (f : Field) (fs : List Field) (c : Cell) (cs cells : List Cell) → IsOfField f c → AreOfFields fs cs → ◌≡◌ {A = Option (List Cell)} (Some (c ∷ cs)) (Some cells) → AreOfFields (f ∷ fs) cells
-some_of_fields f fs c cs cells one others e = subst (AreOfFields (f ∷ fs)) (some_is (c ∷ cs) cells e) (one, others)
+some_of_fields f fs c cs cells one others e = subst (AreOfFields (f ∷ fs)) (same_Some (c ∷ cs) cells e) (one, others)
 
 all_of_fields : (fs : List Field) (xs : List Item) (cells : List Cell) → all_suit fs ≡ true → AreSpelled xs → IsBytes (text_of xs) → depth_of_all (trees_of xs) ≤ 30 → cells_of fs xs ≡ Some cells → AreOfFields fs cells
-all_of_fields [] [] cells h spelled fits deep e = subst (AreOfFields []) (some_is [] cells e) tt
+all_of_fields [] [] cells h spelled fits deep e = subst (AreOfFields []) (same_Some [] cells e) tt
 all_of_fields [] (x ∷ xs) cells h spelled fits deep e = absurd cc
 all_of_fields (f ∷ fs) [] cells h spelled fits deep e =
     let own = and_parts (suits f.type f.absence) (all_suit fs) h in
@@ -178,21 +176,21 @@ all_of_fields (f ∷ fs) (x ∷ xs) cells h spelled fits deep e =
 
 -- each default in the tables is a number of its field's type
 defaults : (d : Descriptor) (fs : List Field) → fields_of d ≡ Some fs → all_suit fs ≡ true
-defaults of_type.Open fs e = ap all_suit (sym (some_is open_fields fs e))
-defaults of_type.Begin fs e = ap all_suit (sym (some_is begin_fields fs e))
-defaults of_type.Attach fs e = ap all_suit (sym (some_is attach_fields fs e))
-defaults of_type.Flow fs e = ap all_suit (sym (some_is flow_fields fs e))
-defaults of_type.Transfer fs e = ap all_suit (sym (some_is transfer_fields fs e))
-defaults of_type.Disposition fs e = ap all_suit (sym (some_is disposition_fields fs e))
-defaults of_type.Detach fs e = ap all_suit (sym (some_is detach_fields fs e))
-defaults of_type.End fs e = ap all_suit (sym (some_is end_fields fs e))
-defaults of_type.Close fs e = ap all_suit (sym (some_is close_fields fs e))
+defaults of_type.Open fs e = ap all_suit (sym (same_Some open_fields fs e))
+defaults of_type.Begin fs e = ap all_suit (sym (same_Some begin_fields fs e))
+defaults of_type.Attach fs e = ap all_suit (sym (same_Some attach_fields fs e))
+defaults of_type.Flow fs e = ap all_suit (sym (same_Some flow_fields fs e))
+defaults of_type.Transfer fs e = ap all_suit (sym (same_Some transfer_fields fs e))
+defaults of_type.Disposition fs e = ap all_suit (sym (same_Some disposition_fields fs e))
+defaults of_type.Detach fs e = ap all_suit (sym (same_Some detach_fields fs e))
+defaults of_type.End fs e = ap all_suit (sym (same_Some end_fields fs e))
+defaults of_type.Close fs e = ap all_suit (sym (same_Some close_fields fs e))
 defaults _ fs e = absurd cc
 
 pub read_of_fields : (bytes : List ℕ) (d : Descriptor) (fields : List Field) (cells : List Cell) (payload : List ℕ) → IsBytes bytes → BodyOf bytes d cells payload → fields_of d ≡ Some fields → AreOfFields fields cells
 read_of_fields bytes d fields cells payload fits (fs, items, text, table, parts, described, deep, are) same =
     let all = items_are_bytes d items text payload (subst (λ (b : List ℕ). IsBytes b) parts fits) described in
-    subst (λ (table : List Field). AreOfFields table cells) (some_is fs fields (sym table ∙ same))
+    subst (λ (table : List Field). AreOfFields table cells) (same_Some fs fields (sym table ∙ same))
     (all_of_fields fs items cells (defaults d fs table) all.1 all.0 (omega (arith, deep)) are)
 
 -- ---- what is written of a performative
@@ -208,7 +206,7 @@ last_of_field f first (Some last) is h = by (eqb last first)
 
 written_of_fields : (p : Performative) (fields : List Field) → fields_of (type_of p) ≡ Some fields → AreOfFields fields (performative_cells p) → AreOfFields fields (written_cells p)
 written_of_fields (performative.Disposition p) fields e h =
-    let table = some_is disposition_fields fields e in
+    let table = same_Some disposition_fields fields e in
     let cells = subst (λ (fs : List Field). AreOfFields fs (disposition_cells p)) (sym table) h in
     subst (λ (fs : List Field). AreOfFields fs (disposition_written p)) table
     (cells.0, (cells.1.0, (last_of_field (field (codes "last") uint optional) p.first p.last refl cells.1.1.0, cells.1.1.1)))

@@ -4,6 +4,7 @@ use Rattle.std.specs.List.{concat}
 use Rattle.std.specs.Option.{unwrap_or}
 use Rattle.std.proofs.lemmas.Bool.{eqb-true, ne_eqb, ltb-true, lt-ltb, and_parts}
 use Rattle.std.proofs.lemmas.List.{length-append, length-map}
+use Rattle.std.proofs.lemmas.Option.{same_Some}
 use Rattle.std.proofs.lemmas.List.Concat.{concat_is}
 use Rattle.std.proofs.lemmas.List.Folds.{flat_map-map}
 use Rattle.byteorder.specs.Endian.{big_bytes}
@@ -12,10 +13,8 @@ use Rattle.amqp_types.specs.declared.kind.Kind.{Kind}
 use Rattle.amqp_types.specs.declared.kind.Kind.TheVariants as kind
 use Rattle.amqp_types.specs.declared.code.SizeWidth.{SizeWidth}
 use Rattle.amqp_types.specs.declared.code.SizeWidth.TheVariants as size
-use Rattle.amqp_types.specs.declared.code.Constructor.TheVariants.{ListIn}
 use Rattle.amqp_types.specs.declared.shell.Shell.TheVariants as shell
 use Rattle.amqp_types.specs.Canonical.{canonical, shortest, full_code, block, is_small, narrowest, sized}
-use Rattle.amqp_types.specs.Codes.{find_code}
 use Rattle.amqp_types.specs.Spelling.{Spells, size_len}
 use Rattle.amqp_types.specs.Trees.{Tree, Number, Octets, depth_of}
 use Rattle.amqp_types.proofs.Canons.{canonical_spells}
@@ -30,7 +29,7 @@ use Rattle.amqp_perform.specs.Frames.{null_text, kind_of, cell_text, written_tex
 use Rattle.amqp_perform.specs.Items.{Item, text_of, AreSpelled, SpellsList}
 use Rattle.amqp_perform.specs.Performatives.{type_of}
 use Rattle.amqp_perform.specs.Tables.{FieldType, boolean, ubyte_to, ushort, uint_from, binary, string, symbol, anything, Absence, mandatory, optional, default, Field, open_fields, begin_fields, attach_fields, flow_fields, transfer_fields, disposition_fields, detach_fields, end_fields, close_fields, fields_of}
-use Rattle.amqp_perform.proofs.ItemLaws.{bind_some, some_is}
+use Rattle.amqp_perform.proofs.Steps.{bind_some}
 use Rattle.amqp_perform.proofs.TrimLaws.{texts_of, AreCells, null_spelled, trim, AreBelow, below}
 
 -- ---- one field
@@ -143,10 +142,6 @@ fields_written (f ∷ fs) (c ∷ cells) h lt =
 text_of_texts : (xs : List Item) → concat (texts_of xs) ≡ text_of xs
 text_of_texts xs = concat_is (texts_of xs) ∙ flat_map-map (λ (b : List ℕ). b) (λ (x : Item). x.text) xs
 
-list_code : (s : SizeWidth) → find_code (full_code s kind.List) ≡ Some (ListIn s)
-list_code size.One = refl
-list_code size.Four = refl
-
 block_long : (s : SizeWidth) (n : ℕ) (content : List ℕ) → length (block s n content) ≡ size_len s + (size_len s + length content)
 block_long s n content =
     let a = length-append (big_bytes (size_len s) (size_len s + length content)) (big_bytes (size_len s) n ++ content) in
@@ -252,7 +247,7 @@ pub written_says : (p : Performative) (fields : List Field) (payload : List ℕ)
     → BodyOf (performative_text p ++ payload) (type_of p) (written_cells p) payload
 written_says p fields payload table h lt =
     let k = known p in
-    let is = subst (λ (fs : List Field). IsKnown (type_of p) fs) (some_is k.0 fields (sym k.1 ∙ table)) k.2 in
+    let is = subst (λ (fs : List Field). IsKnown (type_of p) fs) (same_Some k.0 fields (sym k.1 ∙ table)) k.2 in
     let texts : performative_texts p ≡ field_texts fields (written_cells p) = ap (λ (o : Option (List Field)). field_texts (unwrap_or o []) (written_cells p)) table in
     let text : performative_text p ≡ described_text (type_of p) (field_texts fields (written_cells p)) = ap (described_text (type_of p)) texts in
     subst (λ (b : List ℕ). BodyOf (b ++ payload) (type_of p) (written_cells p) payload) (sym text)

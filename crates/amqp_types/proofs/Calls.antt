@@ -24,7 +24,7 @@ front bytes text rest n parts le same =
 ok_parts : (a b : Tree × List ℕ) → ◌≡◌ {A = Result (Tree × List ℕ) ReadFault} (Ok a) (Ok b) → a ≡ b
 ok_parts a b e = cc
 
-ok_rest : (a b : List ℕ) → ◌≡◌ {A = Result (List ℕ) ReadFault} (Ok a) (Ok b) → a ≡ b
+pub ok_rest : (a b : List ℕ) → ◌≡◌ {A = Result (List ℕ) ReadFault} (Ok a) (Ok b) → a ≡ b
 ok_rest a b e = cc
 
 -- ---- skip

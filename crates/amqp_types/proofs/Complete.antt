@@ -51,7 +51,7 @@ pub number_again : (w : Window) (k : Kind) (f : Form) (n : ℕ) (text rest : Lis
 unfolding number_at
 number_again w k f n text rest h of_kind = rw (form_again w f (width k) n text rest h, no_number_fault k (place w (text ++ rest)) n of_kind) refl
 
-all_ascii : (octets : List ℕ) → IsAscii octets → position is_beyond_ascii octets ≡ None
+pub all_ascii : (octets : List ℕ) → IsAscii octets → position is_beyond_ascii octets ≡ None
 all_ascii octets h =
     let n : position_or_len is_beyond_ascii octets ≡ length octets = position_or_len_is is_beyond_ascii octets (length octets) 0 (omega arith) (λ k lt. lt-leb _ _ (h k)) (λ lt. absurd (omega arith)) in
     rw (n, le-ltb (length octets) (length octets) (omega arith)) refl

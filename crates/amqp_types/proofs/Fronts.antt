@@ -9,7 +9,7 @@ use Rattle.amqp_types.specs.Trees.{Tree}
 use Rattle.amqp_types.proofs.Octets.{IsBytes}
 use Rattle.amqp_types.proofs.Compounds.{value_sound}
 
-without_front : (bytes text rest : List ℕ) → bytes ≡ text ++ rest → drop (length bytes - length rest) bytes ≡ rest
+pub without_front : (bytes text rest : List ℕ) → bytes ≡ text ++ rest → drop (length bytes - length rest) bytes ≡ rest
 without_front bytes text rest e =
     let n : length bytes - length rest ≡ length text = omega (arith, ap length e, length-append text rest) in
     ap (λ (k : ℕ). drop k bytes) n ∙ ap (drop (length text)) e ∙ drop-append_seam text rest

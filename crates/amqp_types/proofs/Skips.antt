@@ -13,7 +13,7 @@ use Rattle.amqp_types.specs.Spelling.{form_len, sign_extended}
 use Rattle.amqp_types.specs.Skipping.{rest_of}
 use Rattle.amqp_types.specs.Reading.{Read, ◌>>=◌, unless, place, number_fault, octets_at, big_at, form_at, number_at}
 
-no_fault : (k : Kind) (at n : ℕ) → is_partial k ≡ false → number_fault k at n ≡ None
+pub no_fault : (k : Kind) (at n : ℕ) → is_partial k ≡ false → number_fault k at n ≡ None
 no_fault kind.Boolean at n e = absurd cc
 no_fault kind.Char at n e = absurd cc
 no_fault _ at n e = refl

@@ -7,7 +7,6 @@ ghost use Rattle.amqp_types.specs.Values.{view, views, pair_views};
 
 use crate::keys::Keys;
 use crate::kind::Kind;
-use crate::laws::ranged;
 use crate::shape::{Shape, shape_of};
 use crate::value::Value;
 use std::alloc::{AllocError, Global};
@@ -86,8 +85,6 @@ fn keys_apart(alloc: Global, entries: &Vec<(Value, Value)>) -> Result<bool, Allo
     let mut keys = Keys::new(alloc);
     for i in (0..entries.len()).rev() {
         let key = &entries[i].0;
-        // Images tell ranged values apart.
-        ranged(key);
         if !keys.insert(alloc, key)? {
             return Ok(false);
         }

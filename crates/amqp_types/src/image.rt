@@ -2,6 +2,7 @@
 
 ghost use Rattle.std.specs.Prelude.{◌≡◌, ◌++◌, ◌∷◌, ◌<◌, ◌^◌, length, OnOk};
 ghost use Rattle.byteorder.specs.Endian.{big_bytes};
+ghost use Rattle.amqp_types.specs.Canonical.{IsRanged, AllRanged, PairsRanged};
 ghost use Rattle.amqp_types.specs.Images.{kind_number, image, images, pair_images};
 ghost use Rattle.amqp_types.specs.Trees.{Number, Octets};
 ghost use Rattle.amqp_types.specs.Values.{view, views, pair_views};
@@ -66,11 +67,12 @@ fn put_octets(kind: Kind, octets: &[u8], out: &mut Vec<u8>) -> Result<(), AllocE
     Ok(())
 }
 
-/// Appends the image of a value. What is appended before memory is refused means nothing.
+/// Appends the image of a value, which is ranged. What is appended before memory is refused means nothing.
 #[tactic(auto, using(std::proofs::Common::append_assoc), unfolding(crate::specs::Images::image))]
 #[cycle(image)]
 pub(crate) fn put_image(value: &Value, out: &mut Vec<u8>) -> Result<(), AllocError>
-    ensures { OnOk result (out.new.items ≡ out.old.items ++ image (view value.now)) }
+    ensures image { OnOk result (out.new.items ≡ out.old.items ++ image (view value.now)) }
+    ensures ranged { OnOk result (IsRanged (view value.now)) }
 {
     match shape_of(value) {
         Shape::Number(kind, number) => put_number(kind, number, out),
@@ -101,7 +103,8 @@ pub(crate) fn put_image(value: &Value, out: &mut Vec<u8>) -> Result<(), AllocErr
 #[tactic(auto, using(std::proofs::Common::append_assoc), unfolding(crate::specs::Images::images))]
 #[cycle(image)]
 fn put_images(items: &Vec<Value>, out: &mut Vec<u8>) -> Result<(), AllocError>
-    ensures { OnOk result (out.new.items ≡ out.old.items ++ images (views items.now.items)) }
+    ensures images { OnOk result (out.new.items ≡ out.old.items ++ images (views items.now.items)) }
+    ensures ranged { OnOk result (AllRanged (views items.now.items)) }
 {
     for item in items {
         out.push(1)?;
@@ -115,7 +118,8 @@ fn put_images(items: &Vec<Value>, out: &mut Vec<u8>) -> Result<(), AllocError>
 #[tactic(auto, using(std::proofs::Common::append_assoc), unfolding(crate::specs::Images::pair_images))]
 #[cycle(image)]
 fn put_pair_images(entries: &Vec<(Value, Value)>, out: &mut Vec<u8>) -> Result<(), AllocError>
-    ensures { OnOk result (out.new.items ≡ out.old.items ++ pair_images (pair_views entries.now.items)) }
+    ensures images { OnOk result (out.new.items ≡ out.old.items ++ pair_images (pair_views entries.now.items)) }
+    ensures ranged { OnOk result (PairsRanged (pair_views entries.now.items)) }
 {
     for (key, value) in entries {
         out.push(1)?;

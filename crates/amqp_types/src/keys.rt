@@ -2,6 +2,7 @@
 
 ghost use Rattle.std.specs.Prelude.{◌≡◌, ℕ, ◌<◌, ◌^◌, [], not, ◌||◌, List, length, map, IfOk, OnOk, OnErr};
 ghost use Rattle.std.specs.Str.{bytes_eq};
+ghost use Rattle.amqp_types.specs.Canonical.{IsRanged};
 ghost use Rattle.amqp_types.specs.Decoding.{is_among};
 ghost use Rattle.amqp_types.specs.Images.{image};
 ghost use Rattle.amqp_types.specs.Values.{view};
@@ -37,6 +38,7 @@ impl Keys {
     pub(crate) fn insert(&mut self, alloc: Global, key: &Value) -> Result<bool, AllocError>
         ensures new { IfOk result (λ new. new ≡ not (is_among (image (view key.now)) self.old)) }
         ensures ok { OnOk result ((octets : List ℕ) → is_among octets self.new ≡ (bytes_eq (image (view key.now)) octets || is_among octets self.old)) }
+        ensures ranged { OnOk result (IsRanged (view key.now)) }
         ensures short { OnOk result (length (image (view key.now)) < 2 ^ 64) }
         ensures err { OnErr result (self.new ≡ self.old) }
     {

@@ -12,7 +12,7 @@ returns-then-not-branch c =
     let key = c.index.result.now in
     let old = c.args.entries.now.items in
     let known = known_key (view key.0) c.loop-i.keys (keys_of (pair_views (drop c.loop-i.i old))) true _ c.in_ok-insert.ensures.new c.if-not-branch.true c.loop-i.invariant.seen in
-    let small = small_in_hand (view key.0) c.ranged.ensures c.in_ok-insert.ensures.short in
+    let small = small_in_hand (view key.0) c.in_ok-insert.ensures.ranged c.in_ok-insert.ensures.short in
     (λ e. absurd cc, λ apart. absurd (not_apart old c.loop-i.i key c.loop-i-test.true (omega (arith, c.loop-i.auto.i, c.len-i.ensures)) c.index.ensures small c.loop-i.invariant.small known apart))
 
 pub loop-i-preserved : goal.loop-i-preserved
@@ -23,6 +23,6 @@ loop-i-preserved c =
     let unknown = known_key (view key.0) c.loop-i.keys (keys_of (pair_views (drop c.loop-i.i old))) false _ c.in_ok-insert.ensures.new c.if-not-branch.false c.loop-i.invariant.seen in
     rw behind (record {
       apart = (key_is_new (view key.0) (pair_views (drop c.loop-i.i old)) unknown, c.loop-i.invariant.apart);
-      small = (small_in_hand (view key.0) c.ranged.ensures c.in_ok-insert.ensures.short, c.loop-i.invariant.small);
+      small = (small_in_hand (view key.0) c.in_ok-insert.ensures.ranged c.in_ok-insert.ensures.short, c.loop-i.invariant.small);
       seen = λ octets. c.in_ok-insert.ensures.ok octets ∙ ap (λ (b : Bool). bytes_eq (image (view key.0)) octets || b) (c.loop-i.invariant.seen octets);
     })
