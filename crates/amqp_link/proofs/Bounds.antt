@@ -1,31 +1,50 @@
 -- What a link keeps can be counted, and stays so.
-use Rattle.std.proofs.Common.{arith, ◌≡◌, ℕ, ◌+◌, ◌*◌, ◌-◌, ◌^◌, ◌≤◌, Bool, true, false, not, cond, List, [], ◌∷◌, ◌++◌, length, refl, sym, ap, subst, inl, inr, Option, Some, None}
+use Rattle.std.proofs.Common.{arith, ◌≡◌, ℕ, ◌+◌, ◌*◌, ◌-◌, ◌^◌, ◌≤◌, Bool, true, false, not, ◌&&◌, cond, map, filter, List, [], ◌∷◌, ◌++◌, length, refl, sym, ap, subst, inl, inr, Option, Some, None}
 use Rattle.std.specs.Prelude.{sum_by, option_to_list}
 use Rattle.std.specs.List.{AllByRecursion}
 use Rattle.std.proofs.lemmas.Bool.{and_right}
 use Rattle.std.proofs.lemmas.List.{length-append}
-use Rattle.std.proofs.lemmas.List.Sums.{sum_by-cons}
-use Rattle.slab.specs.Slab.{Slab, get, ContainsKey}
-use Rattle.std.specs.Prelude.{option_map, option_copied, is_none}
-use Rattle.std.proofs.Common.{Bor}
-use Rattle.amqp_link.specs.declared.transfer.Terms.{Terms}
-use Rattle.amqp_link.specs.declared.open_deliveries.Held.{Held}
-use Rattle.amqp_link.specs.Links.{Sent, goes_on, completes, Delivery, OpenSet, LinkState, set_bytes, how_many, delivery_bytes, put, delivery_after, cost, fault_of, is_formed, Came}
-use Rattle.amqp_link.specs.Keeping.{link_of, IsLink, IsShort, delivery_of, at_key}
+use Rattle.std.proofs.lemmas.List.Sums.{sum_by-cons, count_by-le-length}
+use Rattle.std.proofs.Math.Nat.{suc-mul, add-mul, mul-le-mul_right, mul-le-mul}
+use Rattle.std.specs.Prelude.{option_map, is_none}
+use Rattle.amqp_link.specs.declared.terms.Terms.{Terms}
+use Rattle.amqp_link.specs.Links.{Sent, goes_on, completes, Delivery, OpenSet, LinkState, set_bytes, how_many, delivery_bytes, with_delivery, delivery_after, cost, fault_of, is_formed, is_covered, Transferred, ReceiverSettled, SenderSettled, receiver_settles, told_by, receiver_settled_in, sender_settled_by, sender_settled_in, newly_settled, named_count, in_order, settle_fault}
+use Rattle.amqp_link.specs.Keeping.{link_of, IsLink, IsShort}
 use Rattle.amqp_link.proofs.Keys.{total_is}
 use Rattle.amqp_link.proofs.Steps.{fits, head_tag, within_after}
 
-sum_short : (terms : Terms) (ds : List Delivery) → terms.longest ≤ 2 ^ 30 → AllByRecursion (IsShort terms) ds → sum_by delivery_bytes ds ≤ length ds * (96 + 2 ^ 30)
-sum_short terms [] l all = omega arith
-sum_short terms (d ∷ ds) l all = omega (arith, sum_by-cons delivery_bytes d ds, sum_short terms ds l all.1, all.0.tag, all.0.message, l)
+-- the most that one delivery counts
+abbrev most_of : Terms → ℕ
+most_of terms = terms.bounds.max_message_size + 96
 
-pub bytes_bound : (terms : Terms) (credit : ℕ) (o : OpenSet) → IsLink terms credit o → set_bytes o ≤ 2 ^ 32 * (96 + 2 ^ 30)
+sum_short : (terms : Terms) (ds : List Delivery) → AllByRecursion (IsShort terms) ds → sum_by delivery_bytes ds ≤ length ds * most_of terms
+sum_short terms [] all = omega arith
+sum_short terms (d ∷ ds) all = omega (arith, sum_by-cons delivery_bytes d ds, suc-mul (length ds) (most_of terms), sum_short terms ds all.1, all.0.delivery_tag, all.0.message)
+
+-- all deliveries that are open count no more than those that are allowed may
+pub bytes_bound : (terms : Terms) (credit : ℕ) (o : OpenSet) → IsLink terms credit o → set_bytes o ≤ terms.bounds.allowed * most_of terms
 bytes_bound terms credit o link =
-    omega (arith, total_is o, link.within, link.allowed, sum_short terms o.taken link.longest link.taken, sum_short terms o.ready link.longest link.ready, sum_short terms (option_to_list o.part) link.longest link.part)
+    let few : how_many o ≤ terms.bounds.allowed = omega (arith, link.within) in
+    let all : set_bytes o ≤ how_many o * most_of terms = omega (
+      arith,
+      total_is o,
+      add-mul (length o.awaiting) (length o.ready) (most_of terms),
+      add-mul (length o.awaiting + length o.ready) (length (option_to_list o.unfinished)) (most_of terms),
+      sum_short terms o.awaiting link.awaiting,
+      sum_short terms o.ready link.ready,
+      sum_short terms (option_to_list o.unfinished) link.unfinished,
+    ) in
+    omega (arith, all, mul-le-mul_right (most_of terms) few)
 
-made_short : (terms : Terms) (part : Option Delivery) (t : Sent) → AllByRecursion (IsShort terms) (option_to_list part) → is_formed terms part t ≡ true → length (delivery_after terms part t).message ≤ terms.longest → IsShort terms (delivery_after terms part t)
-made_short terms None t all formed l = record { tag = head_tag terms t formed; message = l }
-made_short terms (Some d) t all formed l = record { tag = all.0.tag; message = l }
+-- and so can be counted in 64 bits
+pub bytes_fit : (terms : Terms) (credit : ℕ) (o : OpenSet) → IsLink terms credit o → set_bytes o ≤ 1024 * (2 ^ 30 + 96)
+bytes_fit terms credit o link =
+    let most : most_of terms ≤ 2 ^ 30 + 96 = omega (arith, link.bounded.most_bytes) in
+    omega (arith, bytes_bound terms credit o link, mul-le-mul link.bounded.most_allowed most)
+
+made_short : (terms : Terms) (unfinished : Option Delivery) (t : Sent) → AllByRecursion (IsShort terms) (option_to_list unfinished) → is_formed terms unfinished t ≡ true → length (delivery_after terms unfinished t).message ≤ terms.bounds.max_message_size → IsShort terms (delivery_after terms unfinished t)
+made_short terms None t all formed l = record { delivery_tag = head_tag terms t formed; message = l }
+made_short terms (Some d) t all formed l = record { delivery_tag = all.0.delivery_tag; message = l }
 
 some_short : (P : Delivery → Type 0) (b : Bool) (d : Delivery) (ds : List Delivery) → AllByRecursion P ds → P d → AllByRecursion P (ds ++ cond b (d ∷ []) [])
 some_short P true d [] all p = (p, tt)
@@ -41,30 +60,29 @@ part_short P true d p = (p, tt)
 part_short P false d p = tt
 
 -- a payload that fits is short
-pub payload_short : (s : LinkState) (t : Sent) → fault_of s t ≡ None → t.aborted ≡ false → length t.payload ≤ s.terms.longest
-payload_short s t may whole = elim ((fits s t may).short) [ inl e ↦ absurd (grind (arith, e, whole)) | inr l ↦ in_message s.terms s.part t whole l ]
+pub payload_short : (s : LinkState) (t : Sent) → fault_of s t ≡ None → t.aborted ≡ false → length t.payload ≤ s.terms.bounds.max_message_size
+payload_short s t may whole = elim ((fits s t may).short) [ inl e ↦ absurd (grind (arith, e, whole)) | inr l ↦ in_message s.terms s.unfinished t whole l ]
   where
-    in_message : (terms : Terms) (part : Option Delivery) (t : Sent) → t.aborted ≡ false → length (delivery_after terms part t).message ≤ terms.longest → length t.payload ≤ terms.longest
+    in_message : (terms : Terms) (unfinished : Option Delivery) (t : Sent) → t.aborted ≡ false → length (delivery_after terms unfinished t).message ≤ terms.bounds.max_message_size → length t.payload ≤ terms.bounds.max_message_size
     in_message terms None t whole l = rw whole at l
     in_message terms (Some d) t whole l = let m = rw whole at l in omega (arith, m, length-append d.message t.payload)
 
 -- a link after an accepted transfer
-pub stays : (terms : Terms) (credit count left : ℕ) (marked : Bool) (o : OpenSet) (t : Sent) → IsLink terms credit o → fault_of (link_of terms credit count marked o) t ≡ None → left ≡ credit - cost o.part → IsLink terms left (put o t (delivery_after terms o.part t))
-stays terms credit count left marked o t link may less =
-    let f = fits (link_of terms credit count marked o) t may in
-    let d = delivery_after terms o.part t in
+pub stays : (terms : Terms) (credit count left : ℕ) (draining : Bool) (o : OpenSet) (t : Sent) → IsLink terms credit o → fault_of (link_of terms credit count draining o) t ≡ None → left ≡ credit - cost o.unfinished → IsLink terms left (with_delivery o t (delivery_after terms o.unfinished t))
+stays terms credit count left draining o t link may less =
+    let f = fits (link_of terms credit count draining o) t may in
+    let d = delivery_after terms o.unfinished t in
     record {
-      within = subst (λ (n : ℕ). n + how_many (put o t (delivery_after terms o.part t)) ≤ terms.allowed) (sym less) (within_after (link_of terms credit count marked o) (Came t) may link.within);
-      allowed = link.allowed;
-      longest = link.longest;
-      taken = link.taken;
+      within = subst (λ (n : ℕ). n + how_many (with_delivery o t (delivery_after terms o.unfinished t)) ≤ terms.bounds.allowed) (sym less) (within_after (link_of terms credit count draining o) (Transferred t) may link.within);
+      bounded = link.bounded;
+      awaiting = link.awaiting;
       ready = elim (f.short) [
         | inl e ↦ rw (ended e) (none_more (IsShort terms) o.ready link.ready)
-        | inr l ↦ some_short (IsShort terms) (completes t) (delivery_after terms o.part t) o.ready link.ready (made_short terms o.part t link.part f.formed l)
+        | inr l ↦ some_short (IsShort terms) (completes t) (delivery_after terms o.unfinished t) o.ready link.ready (made_short terms o.unfinished t link.unfinished f.formed l)
       ];
-      part = elim (f.short) [
+      unfinished = elim (f.short) [
         | inl e ↦ rw (gone e) tt
-        | inr l ↦ part_short (IsShort terms) (goes_on t) (delivery_after terms o.part t) (made_short terms o.part t link.part f.formed l)
+        | inr l ↦ part_short (IsShort terms) (goes_on t) (delivery_after terms o.unfinished t) (made_short terms o.unfinished t link.unfinished f.formed l)
       ];
     }
   where
@@ -74,12 +92,6 @@ stays terms credit count left marked o t link may less =
     gone : t.aborted ≡ true → goes_on t ≡ false
     gone e = and_right t.more (not t.aborted) (ap not e)
 
--- what a lent delivery shows
-module _ {A : Type 0} where
-  pub lent : (slab : Slab (Held A)) (key : ℕ) (o : Option (Bor (Held A))) → option_copied o ≡ get slab key → ContainsKey slab key → option_map (λ (held : Bor (Held A)). delivery_of held.now) o ≡ Some (at_key slab key)
-  lent slab key None e here = absurd (grind (arith, e, here))
-  lent slab key (Some held) e here = rw (← e) refl
-
 pub cost_of_head : (p : Option Delivery) → is_none p ≡ true → cost p ≡ 1
 cost_of_head None e = refl
 cost_of_head (Some d) e = absurd (grind (arith, e))
@@ -87,3 +99,49 @@ cost_of_head (Some d) e = absurd (grind (arith, e))
 pub cost_of_rest : (p : Option Delivery) → is_none p ≡ false → cost p ≡ 0
 cost_of_rest None e = absurd (grind (arith, e))
 cost_of_rest (Some d) e = refl
+
+-- A link after a settle. -----------------------------------------------------------------------------------------
+
+some_left : (P : Delivery → Type 0) (gone : Bool) (d : Delivery) (ds : List Delivery) → P d → AllByRecursion P ds → AllByRecursion P (cond (not gone) (d ∷ ds) ds)
+some_left P true d ds p all = all
+some_left P false d ds p all = (p, all)
+
+all_left : (P : Delivery → Type 0) (goes : Delivery → Bool) (ds : List Delivery) → AllByRecursion P ds → AllByRecursion P (filter (λ d. not (goes d)) ds)
+all_left P goes [] all = tt
+all_left P goes (d ∷ ds) all = some_left P (goes d) d (filter (λ d. not (goes d)) ds) all.0 (all_left P goes ds all.1)
+
+all_turned : (terms : Terms) (turn : Delivery → Delivery) → ((d : Delivery) → IsShort terms d → IsShort terms (turn d)) → (ds : List Delivery) → AllByRecursion (IsShort terms) ds → AllByRecursion (IsShort terms) (map turn ds)
+all_turned terms turn same [] all = tt
+all_turned terms turn same (d ∷ ds) all = (same d all.0, all_turned terms turn same ds all.1)
+
+one_turned : (terms : Terms) (turn : Delivery → Delivery) → ((d : Delivery) → IsShort terms d → IsShort terms (turn d)) → (o : Option Delivery) → AllByRecursion (IsShort terms) (option_to_list o) → AllByRecursion (IsShort terms) (option_to_list (option_map turn o))
+one_turned terms turn same None all = tt
+one_turned terms turn same (Some d) all = (same d all.0, tt)
+
+pub stays_for_receiver : (terms : Terms) (credit count : ℕ) (draining : Bool) (o : OpenSet) (first last : ℕ) → IsLink terms credit o → settle_fault first last o ≡ None → IsLink terms credit (receiver_settled_in first last o)
+stays_for_receiver terms credit count draining o first last link may = record {
+  within = within_after (link_of terms credit count draining o) (ReceiverSettled first last) may link.within;
+  bounded = link.bounded;
+  awaiting = all_turned terms (told_by first last) (λ d s. record { delivery_tag = s.delivery_tag; message = s.message }) _ (all_left (IsShort terms) (receiver_settles first last) o.awaiting link.awaiting);
+  ready = link.ready;
+  unfinished = link.unfinished;
+}
+
+pub stays_for_sender : (terms : Terms) (credit count : ℕ) (draining : Bool) (o : OpenSet) (first last : ℕ) → IsLink terms credit o → IsLink terms credit (sender_settled_in first last o)
+stays_for_sender terms credit count draining o first last link =
+    let same : (d : Delivery) → IsShort terms d → IsShort terms (sender_settled_by first last d) = λ d s. record { delivery_tag = s.delivery_tag; message = s.message } in
+    record {
+      within = within_after (link_of terms credit count draining o) (SenderSettled first last) tt link.within;
+      bounded = link.bounded;
+      awaiting = all_left (IsShort terms) (is_covered first last) o.awaiting link.awaiting;
+      ready = all_turned terms (sender_settled_by first last) same o.ready link.ready;
+      unfinished = one_turned terms (sender_settled_by first last) same o.unfinished link.unfinished;
+    }
+
+-- a settle counts no more than are open
+pub few_named : (first last : ℕ) (o : OpenSet) → named_count first last o ≤ how_many o
+few_named first last o = omega (arith, count_by-le-length (is_covered first last) o.awaiting)
+
+pub few_settled : (first last : ℕ) (o : OpenSet) → newly_settled first last o ≤ how_many o
+few_settled first last o =
+    omega (arith, count_by-le-length (λ d. not d.settled && is_covered first last d) (in_order o), length-append (o.awaiting ++ o.ready) (option_to_list o.unfinished), length-append o.awaiting o.ready)

@@ -1,11 +1,11 @@
 -- How one transfer more changes the deliveries that transfers make.
-use Rattle.std.proofs.Common.{arith, ◌≡◌, ℕ, suc, ◌+◌, inl, inr, subst, Bool, true, false, not, ◌&&◌, ◌||◌, cond, if◌then◌else◌, List, [], ◌∷◌, ◌++◌, length, filter, refl, sym, ap, ◌∙◌}
+use Rattle.std.proofs.Common.{arith, ◌≡◌, ℕ, suc, ◌+◌, inl, inr, subst, Bool, true, false, not, ◌&&◌, cond, if◌then◌else◌, List, [], ◌∷◌, ◌++◌, length, filter, refl, sym, ap, ◌∙◌}
 use Rattle.std.specs.Prelude.{Option, Some, None, is_none, find}
 use Rattle.std.proofs.lemmas.Bool.{cases_Bool}
 use Rattle.std.specs.List.{AllByRecursion}
 use Rattle.std.proofs.lemmas.List.{append-nil}
 use Rattle.std.proofs.lemmas.Grind.{flat_map-append}
-use Rattle.amqp_link.specs.Links.{Sent, goes_on, completes, adds, LinkEvent, Granted, Drains, Came, Counted, Took, Named, Covered}
+use Rattle.amqp_link.specs.Links.{Sent, goes_on, completes, adds, LinkEvent, Transferred}
 use Rattle.amqp_link.specs.Histories.{Group, joined, groups_from, groups, transfers, all_of, last_of, latest, message_of, is_whole, is_unfinished, heads_from, one_if}
 
 -- a delivery of one transfer
@@ -43,10 +43,6 @@ front_goes_on k u (g ∷ h ∷ gs) t e = refl
 pub same_either : {X : Type 0} (b : Bool) (x : X) → cond b x x ≡ x
 same_either true x = refl
 same_either false x = refl
-
-pub or_false : (a : Bool) → (a || false) ≡ a
-or_false true = refl
-or_false false = refl
 
 pub groups_more : (k : ℕ) (ts : List Sent) (t : Sent) → groups_from k (ts ++ t ∷ []) ≡ more k t (groups_from k ts)
 groups_more k [] t = same_either (goes_on t) _
@@ -163,19 +159,14 @@ found g = elim (cases_Bool (is_unfinished g)) [ inl e ↦ rw e refl | inr e ↦ 
 -- a transfer is a head exactly where no delivery is unfinished
 pub starts_is : (h : List LinkEvent) → starts_behind true (transfers h) ≡ is_none (find is_unfinished (groups h))
 starts_is [] = refl
-starts_is (Granted n ∷ h) = starts_is h
-starts_is (Drains ∷ h) = starts_is h
-starts_is (Came t ∷ h) =
+starts_is (Transferred t ∷ h) =
     let gs = groups h in
     behind_more true (transfers h) t
     ∙ sym (ap (λ (gs : List Group). is_none (find is_unfinished gs)) (groups_more 0 (transfers h) t)
     ∙ ap is_none (find_more 0 t (groups h) (groups_run 0 (transfers h)))
     ∙ found (target (0 + length (groups h)) t (find is_unfinished (groups h)))
     ∙ ap (λ (u : Sent). not (goes_on u)) (latest_of_target (0 + length (groups h)) t (find is_unfinished (groups h))))
-starts_is (Counted stated ∷ h) = starts_is h
-starts_is (Took d ∷ h) = starts_is h
-starts_is (Named id ∷ h) = starts_is h
-starts_is (Covered first last ∷ h) = starts_is h
+starts_is (e ∷ h) = starts_is h
 
 -- a fact of a delivery, where there is one
 abbrev pub IfAny : (Group → Type 0) → Option Group → Type 0

@@ -5,6 +5,14 @@ pub mod Transfers
 pub mod Writes
 pub mod Takes
 pub mod Steps
+pub mod Counts
+pub mod Ranges
+pub mod Drains
 pub mod Tags
 pub mod Keys
+pub mod KeptKeys
+pub mod PlaceKeys
+pub mod KeptPlaces
+pub mod Settles
+pub mod KeptSettles
 pub mod Bounds

@@ -1,15 +1,18 @@
 -- The open deliveries of a link are those of its history that a test selects.
-use Rattle.std.proofs.Common.{arith, ◌≡◌, ℕ, zero, suc, ◌+◌, ◌-◌, ◌<◌, ◌≤◌, inl, inr, Bool, true, false, not, ◌&&◌, ◌||◌, List, [], ◌∷◌, ◌++◌, length, map, filter, take, drop, refl, sym, ap, ◌∙◌, subst, ne_eqb, Option, Some}
+use Rattle.std.proofs.Common.{arith, ◌≡◌, ℕ, zero, suc, ◌+◌, ◌-◌, ◌<◌, ◌≤◌, inl, inr, Bool, true, false, not, ◌&&◌, ◌||◌, cond, List, [], ◌∷◌, ◌++◌, length, map, filter, take}
+use Rattle.std.proofs.Common.{drop, refl, sym, ap, ◌∙◌, subst, ne_eqb, Option, Some}
 use Rattle.std.proofs.Math.Seq.{take-nil, drop-nil}
 use Rattle.std.specs.Prelude.{find, option_map, option_to_list, nat_eq, nat_lt, sum_by}
 use Rattle.std.specs.List.{AllByRecursion, list_any}
-use Rattle.std.proofs.lemmas.Bool.{cases_Bool, lt-ltb, eq-eqb, and_left, or_from, or_left}
+use Rattle.std.proofs.Math.Bool.{or-false}
+use Rattle.std.proofs.lemmas.Bool.{cases_Bool, lt-ltb, eq-eqb, and_left, and_right, or_from, or_left}
 use Rattle.std.proofs.lemmas.List.{length-append, length-map}
 use Rattle.std.proofs.lemmas.List.Sums.{sum_by-cons}
-use Rattle.amqp_link.specs.declared.transfer.Terms.{Terms}
+use Rattle.amqp_link.specs.declared.terms.Terms.{Terms}
 use Rattle.amqp_link.specs.Links.{Sent, goes_on, completes, Delivery, deliveries, delivery_bytes, open_count, link_bytes, LinkEvent}
-use Rattle.amqp_link.specs.Histories.{Group, groups, latest, is_aborted, is_whole, is_unfinished, takes, takens, has_number, passes, is_taken, one_if, is_settled, is_open, shown, shown_taken, kept, kept_bytes, state_of}
-use Rattle.amqp_link.proofs.Groups.{Runs, runs, IfAny, or_false}
+use Rattle.amqp_link.specs.Histories.{Group, groups, latest, is_aborted, is_whole, is_unfinished, takes, handed_up_groups, has_number, passes, is_handed_up, one_if, is_settled}
+use Rattle.amqp_link.specs.Histories.{is_open, shown, shown_awaiting, kept, kept_bytes, state_of}
+use Rattle.amqp_link.proofs.Groups.{Runs, runs, IfAny}
 
 pub runs_head : (k : ℕ) (g : Group) (gs : List Group) → Runs k (g ∷ gs) → g.number ≡ k
 runs_head k g [] r = r
@@ -90,7 +93,8 @@ picked_front k m g gs r = elim (cases_Bool (is_whole g)) [
     front zero = refl
     front (suc m) = or_left _ _ (eq-eqb g.number g.number refl) ∙ sym (lt-ltb 0 (suc m) (omega arith))
 
-picked_behind : (k m number : ℕ) (g : Group) (gs : List Group) → Runs k (g ∷ gs) → suc k ≤ number → has_number (take m (filter is_whole (g ∷ gs))) number ≡ has_number (take (m - one_if (is_whole g)) (filter is_whole gs)) number
+picked_behind : (k m number : ℕ) (g : Group) (gs : List Group) → Runs k (g ∷ gs) → suc k ≤ number →
+    has_number (take m (filter is_whole (g ∷ gs))) number ≡ has_number (take (m - one_if (is_whole g)) (filter is_whole gs)) number
 picked_behind k m number g gs r l = elim (cases_Bool (is_whole g)) [
   | inl e ↦ rw e (front m)
   | inr e ↦ rw e (ap (λ (n : ℕ). has_number (take n (filter is_whole gs)) number) (omega arith))
@@ -113,7 +117,8 @@ picks all k m (g ∷ gs) r same = (
 
 -- Those that are open, in link order. -----------------------------------------------------------------------
 
-module _ (settled taken : Group → Bool) (view bare keep : Group → Delivery) (kept_bare : (g : Group) → taken g ≡ true → keep g ≡ bare g) (kept_whole : (g : Group) → taken g ≡ false → keep g ≡ view g) where
+module _ (settled taken : Group → Bool) (view bare keep : Group → Delivery) (kept_bare : (g : Group) → taken g ≡ true → keep g ≡ bare g)
+    (kept_whole : (g : Group) → taken g ≡ false → keep g ≡ view g) where
   -- the open ones of these, of which m were handed up
   abbrev opens : List Group → List Delivery
   opens gs = map keep (filter (λ g. not (is_aborted g) && not (taken g && settled g)) gs)
@@ -144,7 +149,8 @@ module _ (settled taken : Group → Bool) (view bare keep : Group → Delivery) 
   stand_bare m g ws p s = rw s refl
 
   -- a whole delivery in front
-  whole_in_front : (m : ℕ) (g : Group) (gs : List Group) (p : Option Group) → is_aborted g ≡ false → is_whole g ≡ true → Picks taken m (g ∷ gs) → ((n : ℕ) → Picks taken n gs → opens gs ≡ stand n (filter is_whole gs) p) → opens (g ∷ gs) ≡ stand m (g ∷ filter is_whole gs) p
+  whole_in_front : (m : ℕ) (g : Group) (gs : List Group) (p : Option Group) → is_aborted g ≡ false → is_whole g ≡ true → Picks taken m (g ∷ gs) →
+      ((n : ℕ) → Picks taken n gs → opens gs ≡ stand n (filter is_whole gs) p) → opens (g ∷ gs) ≡ stand m (g ∷ filter is_whole gs) p
   whole_in_front zero g gs p a c picked behind =
       let rest = none_left taken g gs c picked in
       one_whole g gs a rest.0 ∙ ap (λ (ds : List Delivery). view g ∷ ds) (behind zero rest.1)
@@ -156,7 +162,8 @@ module _ (settled taken : Group → Bool) (view bare keep : Group → Delivery) 
       ]
 
   -- one that is unfinished is the last
-  unfinished_last : (k m : ℕ) (g : Group) (gs : List Group) → is_aborted g ≡ false → is_whole g ≡ false → is_unfinished g ≡ true → Runs k (g ∷ gs) → Picks taken m (g ∷ gs) → opens (g ∷ gs) ≡ stand m (filter is_whole gs) (Some g)
+  unfinished_last : (k m : ℕ) (g : Group) (gs : List Group) → is_aborted g ≡ false → is_whole g ≡ false → is_unfinished g ≡ true → Runs k (g ∷ gs) → Picks taken m (g ∷ gs) →
+      opens (g ∷ gs) ≡ stand m (filter is_whole gs) (Some g)
   unfinished_last k m g [] a c u r picked =
       let fresh : taken g ≡ false = rw c at picked.0 in
       rw (take-nil m, drop-nil m) (one_whole g [] a fresh)
@@ -170,12 +177,42 @@ module _ (settled taken : Group → Bool) (view bare keep : Group → Delivery) 
     | Unfinished a c u ↦ rw (c, u) (unfinished_last k m g gs a c u r p)
   ]
 
+-- those of them that were handed up
+module _ (settled taken : Group → Bool) where
+  abbrev picked_opens : List Group → List Group
+  picked_opens gs = filter (λ g. not (is_aborted g) && not (taken g && settled g) && taken g) gs
+
+  picked_here : (g : Group) (gs : List Group) → is_aborted g ≡ false → taken g ≡ true → picked_opens (g ∷ gs) ≡ cond (not (settled g)) (g ∷ picked_opens gs) (picked_opens gs)
+  picked_here g gs a t = elim (cases_Bool (settled g)) [ inl s ↦ rw (a, t, s) refl | inr s ↦ rw (a, t, s) refl ]
+
+  not_picked : (g : Group) (gs : List Group) → taken g ≡ false → picked_opens (g ∷ gs) ≡ picked_opens gs
+  not_picked g gs t = ap (λ (b : Bool). cond b (g ∷ picked_opens gs) (picked_opens gs)) (and_right (not (is_aborted g) && not (taken g && settled g)) (taken g) t)
+
+  picked_front_open : (m : ℕ) (g : Group) (gs : List Group) → is_aborted g ≡ false → is_whole g ≡ true → Picks taken m (g ∷ gs) →
+      ((n : ℕ) → Picks taken n gs → filter (λ g. not (settled g)) (take n (filter is_whole gs)) ≡ picked_opens gs) →
+      filter (λ g. not (settled g)) (take m (g ∷ filter is_whole gs)) ≡ picked_opens (g ∷ gs)
+  picked_front_open zero g gs a c p behind =
+      let rest = none_left taken g gs c p in
+      behind zero rest.1 ∙ sym (not_picked g gs rest.0)
+  picked_front_open (suc m) g gs a c p behind =
+      let rest = one_less taken m g gs c p in
+      ap (λ (xs : List Group). cond (not (settled g)) (g ∷ xs) xs) (behind m rest.1) ∙ sym (picked_here g gs a rest.0)
+
+  pub opens_picked : (m : ℕ) (gs : List Group) → Picks taken m gs → filter (λ g. not (settled g)) (take m (filter is_whole gs)) ≡ picked_opens gs
+  opens_picked m [] p = ap (filter (λ g. not (settled g))) (take-nil m)
+  opens_picked m (g ∷ gs) p = elim (way_of (latest g)) [
+    | Given_up a c u ↦ rw c (opens_picked m gs (less taken m g gs c p) ∙ sym (not_picked g gs (rw c at p.0)))
+    | Whole a c u ↦ rw c (picked_front_open m g gs a c p (λ n q. opens_picked n gs q))
+    | Unfinished a c u ↦ rw c (opens_picked m gs (less taken m g gs c p) ∙ sym (not_picked g gs (rw c at p.0)))
+  ]
+
 -- the deliveries that were handed up are the first of the whole ones
-pub taken_picked : (h : List LinkEvent) → Picks (is_taken h) (takes h) (groups h)
-taken_picked h = picks (has_number (takens h)) 0 (takes h) (groups h) (runs h) (λ number l. refl)
+pub taken_picked : (h : List LinkEvent) → Picks (is_handed_up h) (takes h) (groups h)
+taken_picked h = picks (has_number (handed_up_groups h)) 0 (takes h) (groups h) (runs h) (λ number l. refl)
 
 pub deliveries_selected : (terms : Terms) (h : List LinkEvent) → deliveries (state_of terms h) ≡ map (kept terms h) (filter (is_open terms h) (groups h))
-deliveries_selected terms h = sym (selected (is_settled terms h) (is_taken h) (shown terms h) (shown_taken terms h) (kept terms h) (λ g e. rw e refl) (λ g e. rw e refl) 0 (takes h) (groups h) (runs h) (taken_picked h))
+deliveries_selected terms h = sym (selected (is_settled terms h) (is_handed_up h) (shown terms h) (shown_awaiting terms h) (kept terms h) (λ g e. rw e refl) (λ g e. rw e refl) 0
+    (takes h) (groups h) (runs h) (taken_picked h))
 
 -- How many, and how many bytes. ------------------------------------------------------------------------------
 
@@ -185,10 +222,10 @@ three xs ys zs = omega (arith, length-append (xs ++ ys) zs, length-append xs ys)
 pub count_selected : (terms : Terms) (h : List LinkEvent) → open_count (state_of terms h) ≡ length (filter (is_open terms h) (groups h))
 count_selected terms h =
     let s = state_of terms h in
-    sym (three s.taken s.ready (option_to_list s.part)) ∙ ap length (deliveries_selected terms h) ∙ length-map _ _
+    sym (three s.awaiting s.ready (option_to_list s.unfinished)) ∙ ap length (deliveries_selected terms h) ∙ length-map _ _
 
 bytes_kept : (terms : Terms) (h : List LinkEvent) (g : Group) → delivery_bytes (kept terms h g) ≡ kept_bytes h g
-bytes_kept terms h g = elim (cases_Bool (is_taken h g)) [ inl e ↦ rw e refl | inr e ↦ rw e refl ]
+bytes_kept terms h g = elim (cases_Bool (is_handed_up h g)) [ inl e ↦ rw e refl | inr e ↦ rw e refl ]
 
 sum_kept : (terms : Terms) (h : List LinkEvent) (gs : List Group) → sum_by delivery_bytes (map (kept terms h) gs) ≡ sum_by (kept_bytes h) gs
 sum_kept terms h [] = refl
@@ -200,14 +237,17 @@ bytes_selected terms h = ap (sum_by delivery_bytes) (deliveries_selected terms h
 -- What is known of each, by where it stands. ---------------------------------------------------------------------------------
 
 -- A test of the delivery with a number is one of that delivery: no two have one number.
-pub passes_here : (any : (Group → Bool) → ℕ → Bool) (k : ℕ) (gs : List Group) → Runs k gs → ((test : Group → Bool) (number : ℕ) → k ≤ number → any test number ≡ list_any (λ g. nat_eq g.number number && test g) gs) → AllByRecursion (λ g. (test : Group → Bool) → any test g.number ≡ test g) gs
+pub passes_here : (any : (Group → Bool) → ℕ → Bool) (k : ℕ) (gs : List Group) → Runs k gs →
+    ((test : Group → Bool) (number : ℕ) → k ≤ number → any test number ≡ list_any (λ g. nat_eq g.number number && test g) gs) →
+    AllByRecursion (λ g. (test : Group → Bool) → any test g.number ≡ test g) gs
 passes_here any k [] r same = tt
 passes_here any k (g ∷ gs) r same = (
   λ test. same test g.number (omega (arith, runs_head k g gs r))
       ∙ ap (λ (b : Bool). (b && test g) || list_any (λ x. nat_eq x.number g.number && test x) gs) (eq-eqb g.number g.number refl)
       ∙ ap (λ (b : Bool). test g || b) (none_below test (suc k) g.number gs (runs_rest k g gs r) (omega (arith, runs_head k g gs r)))
-      ∙ or_false (test g),
-  passes_here any (suc k) gs (runs_rest k g gs r) (λ test number l. same test number (omega (arith, l)) ∙ ap (λ (b : Bool). (b && test g) || list_any (λ x. nat_eq x.number number && test x) gs) (ne_eqb g.number number (λ e. omega (arith, runs_head k g gs r, l, e)))),
+      ∙ or-false (test g),
+  passes_here any (suc k) gs (runs_rest k g gs r) (λ test number l. same test number (omega (arith, l))
+      ∙ ap (λ (b : Bool). (b && test g) || list_any (λ x. nat_eq x.number number && test x) gs) (ne_eqb g.number number (λ e. omega (arith, runs_head k g gs r, l, e)))),
 )
 
 pub all_pass : (h : List LinkEvent) → AllByRecursion (λ g. (test : Group → Bool) → passes test g.number h ≡ test g) (groups h)
@@ -218,7 +258,8 @@ abbrev pub Stands : (P : Group → Type 0) (taken : Group → Bool) → Bool →
 Stands P taken b g = P g × (taken g ≡ b) × (is_aborted g ≡ false)
 
 module _ (P : Group → Type 0) (taken : Group → Bool) where
-  taken_front : (m : ℕ) (g : Group) (gs : List Group) → is_aborted g ≡ false → is_whole g ≡ true → P g → Picks taken m (g ∷ gs) → ((n : ℕ) → Picks taken n gs → AllByRecursion (Stands P taken true) (take n (filter is_whole gs))) → AllByRecursion (Stands P taken true) (take m (g ∷ filter is_whole gs))
+  taken_front : (m : ℕ) (g : Group) (gs : List Group) → is_aborted g ≡ false → is_whole g ≡ true → P g → Picks taken m (g ∷ gs) →
+      ((n : ℕ) → Picks taken n gs → AllByRecursion (Stands P taken true) (take n (filter is_whole gs))) → AllByRecursion (Stands P taken true) (take m (g ∷ filter is_whole gs))
   taken_front zero g gs a c here p behind = tt
   taken_front (suc m) g gs a c here p behind =
       let rest = one_less taken m g gs c p in
@@ -232,7 +273,8 @@ module _ (P : Group → Type 0) (taken : Group → Bool) where
     | Unfinished a c u ↦ rw c (takens_stand m gs (less taken m g gs c p) all.1)
   ]
 
-  ready_front : (m : ℕ) (g : Group) (gs : List Group) → is_aborted g ≡ false → is_whole g ≡ true → P g → Picks taken m (g ∷ gs) → ((n : ℕ) → Picks taken n gs → AllByRecursion (Stands P taken false) (drop n (filter is_whole gs))) → AllByRecursion (Stands P taken false) (drop m (g ∷ filter is_whole gs))
+  ready_front : (m : ℕ) (g : Group) (gs : List Group) → is_aborted g ≡ false → is_whole g ≡ true → P g → Picks taken m (g ∷ gs) →
+      ((n : ℕ) → Picks taken n gs → AllByRecursion (Stands P taken false) (drop n (filter is_whole gs))) → AllByRecursion (Stands P taken false) (drop m (g ∷ filter is_whole gs))
   ready_front zero g gs a c here p behind =
       let rest = none_left taken g gs c p in
       ((here, rest.0, a), behind zero rest.1)

@@ -1,13 +1,17 @@
 -- What the receiver's own settle and a disposition of the sender do to the open deliveries.
 use Rattle.std.proofs.Common.{arith, ◌≡◌, ℕ, inl, inr, Bool, true, false, not, ◌&&◌, ◌||◌, cond, List, [], ◌∷◌, length, map, filter, refl, sym, ap, ◌∙◌, Option, Some, None}
-use Rattle.std.specs.Prelude.{find, option_map, nat_eq}
+use Rattle.std.specs.Prelude.{find, option_map}
 use Rattle.std.specs.List.{AllByRecursion}
+use Rattle.std.proofs.Math.Bool.{or-false}
 use Rattle.std.proofs.lemmas.Bool.{cases_Bool}
 use Rattle.std.proofs.lemmas.List.Sums.{length-filter}
-use Rattle.amqp_link.specs.declared.transfer.Terms.{Terms}
-use Rattle.amqp_link.specs.Links.{Delivery, LinkState, open_set, with_set, deliveries, LinkEvent, Named, Covered, link_after, is_first, mode_at, settles, tells, told_of, covers, covered_by, settled_in}
-use Rattle.amqp_link.specs.Histories.{Group, groups, is_aborted, is_unfinished, takes, takens, readies, is_taken, is_open, is_open_if, comes_settled, id_of, passes, settled_later, told_later, is_settled, is_settled_by, shown, shown_taken, kept, state_of}
+use Rattle.amqp_link.specs.declared.terms.Terms.{Terms}
+use Rattle.amqp_link.specs.Links.{Delivery, open_set, deliveries, LinkEvent, ReceiverSettled, SenderSettled, link_after, is_first, mode_at, receiver_settles, tells, told_by}
+use Rattle.amqp_link.specs.Links.{covers, is_covered, sender_settled_by, newly_settled}
+use Rattle.amqp_link.specs.Histories.{Group, groups, is_aborted, is_unfinished, takes, handed_up_groups, ready_groups, is_handed_up, is_open, is_open_if, comes_settled, id_of}
+use Rattle.amqp_link.specs.Histories.{passes, settled_later, told_later, is_settled, is_settled_by, shown, shown_awaiting, kept, state_of}
 use Rattle.amqp_link.proofs.Groups.{IfAny}
+use Rattle.amqp_link.proofs.Transfers.{stated, stated_same}
 use Rattle.amqp_link.proofs.Selections.{Stands, taken_picked, all_pass, takens_stand, readies_stand, part_stands, deliveries_selected}
 
 -- Lists. -----------------------------------------------------------------------------------------------------
@@ -50,9 +54,9 @@ module _ (settled settled_then : Group → Bool) (bare bare_then : Group → Del
     ]
   ]
 
-all_from : (P Q : Group → Type 0) → ((g : Group) → P g → Q g) → (gs : List Group) → AllByRecursion P gs → AllByRecursion Q gs
+pub all_from : {X : Type 0} (P Q : X → Type 0) → ((x : X) → P x → Q x) → (xs : List X) → AllByRecursion P xs → AllByRecursion Q xs
 all_from P Q f [] all = tt
-all_from P Q f (g ∷ gs) all = (f g all.0, all_from P Q f gs all.1)
+all_from P Q f (x ∷ xs) all = (f x all.0, all_from P Q f xs all.1)
 
 any_from : (P Q : Group → Type 0) → ((g : Group) → P g → Q g) → (o : Option Group) → IfAny P o → IfAny Q o
 any_from P Q f None all = tt
@@ -60,23 +64,28 @@ any_from P Q f (Some g) all = f g all
 
 -- Tests. ---------------------------------------------------------------------------------------------------------
 
-named_is : (t r a b f i : Bool) → t ≡ true → r ≡ false → (a || (b || (t && (not r && not (t && (a || b))) && f && i))) ≡ ((a || b) || (f && i))
+or_turn : (a b : Bool) → (a || b) ≡ (b || a)
+or_turn true true = refl
+or_turn true false = refl
+or_turn false true = refl
+or_turn false false = refl
+
+named_is : (t r a b f i : Bool) → t ≡ true → r ≡ false → (a || ((t && (not r && not (t && (a || b))) && f && i) || b)) ≡ ((a || b) || (f && i))
 named_is t r true b f i e u = refl
-named_is t r false true f i e u = refl
-named_is t r false false f i e u = rw (e, u) refl
+named_is t r false true f i e u = or_turn _ true
+named_is t r false false f i e u = rw (e, u) (or-false (f && i))
 
-told_is : (t r c d f i : Bool) → t ≡ true → r ≡ false → c ≡ false → (d || (t && (not r && not (t && c)) && f && i)) ≡ (d || (f && i))
-told_is t r c d f i e u v = rw (e, u, v) refl
+told_is : (t r c d f i : Bool) → t ≡ true → r ≡ false → c ≡ false → ((t && (not r && not (t && c)) && f && i) || d) ≡ (d || (f && i))
+told_is t r c d f i e u v = rw (e, u, v) (or_turn (f && i) d)
 
-not_named : (t r c d f i : Bool) → t ≡ false → (d || (t && (not r && not (t && c)) && f && i)) ≡ d
-not_named t r c true f i e = refl
-not_named t r c false f i e = rw e refl
+not_named : (t r c d f i : Bool) → t ≡ false → ((t && (not r && not (t && c)) && f && i) || d) ≡ d
+not_named t r c d f i e = rw e refl
 
-covered_is : (t r a b c : Bool) → r ≡ false → (a || (b || ((not r && not (t && (a || b))) && c))) ≡ ((a || b) || c)
+covered_is : (t r a b c : Bool) → r ≡ false → (a || (((not r && not (t && (a || b))) && c) || b)) ≡ ((a || b) || c)
 covered_is t r true b c u = refl
-covered_is t r false true c u = refl
-covered_is true r false false c u = rw u refl
-covered_is false r false false c u = rw u refl
+covered_is t r false true c u = or_turn _ true
+covered_is true r false false c u = rw u (or-false c)
+covered_is false r false false c u = rw u (or-false c)
 
 -- One delivery. ------------------------------------------------------------------------------------------------------
 
@@ -85,33 +94,49 @@ abbrev Here : List LinkEvent → Group → Type 0
 Here h g = (test : Group → Bool) → passes test g.number h ≡ test g
 
 abbrev StandsIn : List LinkEvent → Bool → Group → Type 0
-StandsIn h b g = Stands (Here h) (is_taken h) b g
+StandsIn h b g = Stands (Here h) (is_handed_up h) b g
 
-named_settled : (terms : Terms) (h : List LinkEvent) (id : ℕ) (g : Group) → StandsIn h true g → is_settled terms (Named id ∷ h) g ≡ (is_settled terms h g || settles id (shown_taken terms h g))
-named_settled terms h id g s =
-    ap (λ (b : Bool). comes_settled g || (settled_later terms h g.number || b)) (s.0 (λ x. is_taken h x && is_open_if h (settled_later terms h g.number) x && is_first (mode_at terms x.head) && nat_eq (id_of x) id))
-    ∙ named_is (is_taken h g) (is_aborted g) (comes_settled g) (settled_later terms h g.number) (is_first (mode_at terms g.head)) (nat_eq (id_of g) id) s.1 s.2
+-- a settle of the receiver settles it, or tells of it
+abbrev settles_here : Terms → List LinkEvent → ℕ → ℕ → ℕ → Group → Bool
+settles_here terms h first last number g = is_handed_up h g && is_open_if h (settled_later terms h number) g && is_first (mode_at terms g.head) && covers first last (id_of g)
 
-named_told : (terms : Terms) (h : List LinkEvent) (id : ℕ) (g : Group) → StandsIn h true g → is_settled terms h g ≡ false → told_later terms (Named id ∷ h) g.number ≡ (told_later terms h g.number || tells id (shown_taken terms h g))
-named_told terms h id g s e =
-    ap (λ (b : Bool). told_later terms h g.number || b) (s.0 (λ x. is_taken h x && is_open_if h (settled_later terms h g.number) x && not (is_first (mode_at terms x.head)) && nat_eq (id_of x) id))
-    ∙ told_is (is_taken h g) (is_aborted g) (is_settled terms h g) (told_later terms h g.number) (not (is_first (mode_at terms g.head))) (nat_eq (id_of g) id) s.1 s.2 e
+abbrev tells_here : Terms → List LinkEvent → ℕ → ℕ → ℕ → Group → Bool
+tells_here terms h first last number g = is_handed_up h g && is_open_if h (settled_later terms h number) g && not (is_first (mode_at terms g.head)) && covers first last (id_of g)
+
+named_settled : (terms : Terms) (h : List LinkEvent) (first last : ℕ) (g : Group) → StandsIn h true g →
+    is_settled terms (ReceiverSettled first last ∷ h) g ≡ (is_settled terms h g || receiver_settles first last (shown_awaiting terms h g))
+named_settled terms h first last g s =
+    let name = covers first last (id_of g) in
+    ap (λ (b : Bool). comes_settled g || (b || settled_later terms h g.number)) (s.0 (settles_here terms h first last g.number))
+    ∙ named_is (is_handed_up h g) (is_aborted g) (comes_settled g) (settled_later terms h g.number) (is_first (mode_at terms g.head)) name s.1 s.2
+
+named_told : (terms : Terms) (h : List LinkEvent) (first last : ℕ) (g : Group) → StandsIn h true g → is_settled terms h g ≡ false →
+    told_later terms (ReceiverSettled first last ∷ h) g.number ≡ (told_later terms h g.number || tells first last (shown_awaiting terms h g))
+named_told terms h first last g s e =
+    let name = covers first last (id_of g) in
+    ap (λ (b : Bool). b || told_later terms h g.number) (s.0 (tells_here terms h first last g.number))
+    ∙ told_is (is_handed_up h g) (is_aborted g) (is_settled terms h g) (told_later terms h g.number) (not (is_first (mode_at terms g.head))) name s.1 s.2 e
 
 -- the receiver's settle speaks of no delivery that was not handed up
-later_named : (terms : Terms) (h : List LinkEvent) (id : ℕ) (g : Group) → StandsIn h false g → settled_later terms (Named id ∷ h) g.number ≡ settled_later terms h g.number
-later_named terms h id g s =
-    ap (λ (b : Bool). settled_later terms h g.number || b) (s.0 (λ x. is_taken h x && is_open_if h (settled_later terms h g.number) x && is_first (mode_at terms x.head) && nat_eq (id_of x) id))
-    ∙ not_named (is_taken h g) (is_aborted g) (is_settled terms h g) (settled_later terms h g.number) (is_first (mode_at terms g.head)) (nat_eq (id_of g) id) s.1
+later_named : (terms : Terms) (h : List LinkEvent) (first last : ℕ) (g : Group) → StandsIn h false g →
+    settled_later terms (ReceiverSettled first last ∷ h) g.number ≡ settled_later terms h g.number
+later_named terms h first last g s =
+    let name = covers first last (id_of g) in
+    ap (λ (b : Bool). b || settled_later terms h g.number) (s.0 (settles_here terms h first last g.number))
+    ∙ not_named (is_handed_up h g) (is_aborted g) (is_settled terms h g) (settled_later terms h g.number) (is_first (mode_at terms g.head)) name s.1
 
-later_told : (terms : Terms) (h : List LinkEvent) (id : ℕ) (g : Group) → StandsIn h false g → told_later terms (Named id ∷ h) g.number ≡ told_later terms h g.number
-later_told terms h id g s =
-    ap (λ (b : Bool). told_later terms h g.number || b) (s.0 (λ x. is_taken h x && is_open_if h (settled_later terms h g.number) x && not (is_first (mode_at terms x.head)) && nat_eq (id_of x) id))
-    ∙ not_named (is_taken h g) (is_aborted g) (is_settled terms h g) (told_later terms h g.number) (not (is_first (mode_at terms g.head))) (nat_eq (id_of g) id) s.1
+later_told : (terms : Terms) (h : List LinkEvent) (first last : ℕ) (g : Group) → StandsIn h false g →
+    told_later terms (ReceiverSettled first last ∷ h) g.number ≡ told_later terms h g.number
+later_told terms h first last g s =
+    let name = covers first last (id_of g) in
+    ap (λ (b : Bool). b || told_later terms h g.number) (s.0 (tells_here terms h first last g.number))
+    ∙ not_named (is_handed_up h g) (is_aborted g) (is_settled terms h g) (told_later terms h g.number) (not (is_first (mode_at terms g.head))) name s.1
 
-covered_settled : (terms : Terms) (h : List LinkEvent) (first last : ℕ) (b : Bool) (g : Group) → StandsIn h b g → is_settled terms (Covered first last ∷ h) g ≡ (is_settled terms h g || covers first last (id_of g))
+covered_settled : (terms : Terms) (h : List LinkEvent) (first last : ℕ) (b : Bool) (g : Group) → StandsIn h b g →
+    is_settled terms (SenderSettled first last ∷ h) g ≡ (is_settled terms h g || covers first last (id_of g))
 covered_settled terms h first last b g s =
-    ap (λ (b : Bool). comes_settled g || (settled_later terms h g.number || b)) (s.0 (λ x. is_open_if h (settled_later terms h g.number) x && covers first last (id_of x)))
-    ∙ covered_is (is_taken h g) (is_aborted g) (comes_settled g) (settled_later terms h g.number) (covers first last (id_of g)) s.2
+    ap (λ (b : Bool). comes_settled g || (b || settled_later terms h g.number)) (s.0 (λ x. is_open_if h (settled_later terms h g.number) x && covers first last (id_of x)))
+    ∙ covered_is (is_handed_up h g) (is_aborted g) (comes_settled g) (settled_later terms h g.number) (covers first last (id_of g)) s.2
 
 -- a delivery with its settlement
 made : Delivery → Bool → Bool → Delivery
@@ -120,64 +145,76 @@ made d settled told = record d { settled = settled; told = told }
 made_same : (d : Delivery) (a b c e : Bool) → a ≡ b → c ≡ e → made d a c ≡ made d b e
 made_same d a b c e p q = rw (p, q) refl
 
-named_turn : (terms : Terms) (h : List LinkEvent) (id : ℕ) (g : Group) → StandsIn h true g → Turns (is_settled terms h) (is_settled terms (Named id ∷ h)) (shown_taken terms h) (shown_taken terms (Named id ∷ h)) (settles id) (told_of id) g
+named_turn : (terms : Terms) (h : List LinkEvent) (first last : ℕ) (g : Group) → StandsIn h true g →
+    Turns (is_settled terms h) (is_settled terms (ReceiverSettled first last ∷ h)) (shown_awaiting terms h) (shown_awaiting terms (ReceiverSettled first last ∷ h))
+    (receiver_settles first last) (told_by first last) g
 unfolding made
-named_turn terms h id g s = record {
-  gone = named_settled terms h id g s;
-  left = λ e k. made_same (shown_taken terms h g) _ _ _ _ (sym (named_settled terms h id g s ∙ rw (e, k) refl)) (sym (named_told terms h id g s e));
+named_turn terms h first last g s = record {
+  gone = named_settled terms h first last g s;
+  left = λ e k. made_same (shown_awaiting terms h g) _ _ _ _ (sym (named_settled terms h first last g s ∙ rw (e, k) refl)) (sym (named_told terms h first last g s e));
 }
 
 -- All open deliveries. -------------------------------------------------------------------------------------------------
 
-takens_in : (h : List LinkEvent) → AllByRecursion (StandsIn h true) (takens h)
-takens_in h = takens_stand (Here h) (is_taken h) (takes h) (groups h) (taken_picked h) (all_pass h)
+takens_in : (h : List LinkEvent) → AllByRecursion (StandsIn h true) (handed_up_groups h)
+takens_in h = takens_stand (Here h) (is_handed_up h) (takes h) (groups h) (taken_picked h) (all_pass h)
 
-readies_in : (h : List LinkEvent) → AllByRecursion (StandsIn h false) (readies h)
-readies_in h = readies_stand (Here h) (is_taken h) (takes h) (groups h) (taken_picked h) (all_pass h)
+readies_in : (h : List LinkEvent) → AllByRecursion (StandsIn h false) (ready_groups h)
+readies_in h = readies_stand (Here h) (is_handed_up h) (takes h) (groups h) (taken_picked h) (all_pass h)
 
 part_in : (h : List LinkEvent) → IfAny (StandsIn h false) (find is_unfinished (groups h))
-part_in h = part_stands (Here h) (is_taken h) (takes h) (groups h) (taken_picked h) (all_pass h)
+part_in h = part_stands (Here h) (is_handed_up h) (takes h) (groups h) (taken_picked h) (all_pass h)
 
-set_same : (s : LinkState) (ts us rs ss : List Delivery) (p q : Option Delivery) → ts ≡ us → rs ≡ ss → p ≡ q → with_set s (record { taken = ts; ready = rs; part = p }) ≡ with_set s (record { taken = us; ready = ss; part = q })
-set_same s ts us rs ss p q e0 e1 e2 = rw (e0, e1, e2) refl
-
-later_shown : (terms : Terms) (h : List LinkEvent) (id : ℕ) (g : Group) → StandsIn h false g → shown terms h g ≡ shown terms (Named id ∷ h) g
+later_shown : (terms : Terms) (h : List LinkEvent) (first last : ℕ) (g : Group) → StandsIn h false g → shown terms h g ≡ shown terms (ReceiverSettled first last ∷ h) g
 unfolding made
-later_shown terms h id g s = made_same (shown terms h g) _ _ _ _ (ap (λ (b : Bool). comes_settled g || b) (sym (later_named terms h id g s))) (sym (later_told terms h id g s))
+later_shown terms h first last g s = made_same (shown terms h g) _ _ _ _ (ap (λ (b : Bool). comes_settled g || b) (sym (later_named terms h first last g s))) (sym (later_told terms h first last g s))
 
-pub named_state : (terms : Terms) (h : List LinkEvent) (id : ℕ) → link_after (state_of terms h) (Named id) ≡ state_of terms (Named id ∷ h)
-named_state terms h id =
-    let same = λ (g : Group) (s : StandsIn h false g). later_shown terms h id g s in
-    set_same (state_of terms h) _ _ _ _ _ _
-    (turned (is_settled terms h) (is_settled terms (Named id ∷ h)) (shown_taken terms h) (shown_taken terms (Named id ∷ h)) (settles id) (told_of id) (takens h) (all_from _ _ (λ g s. named_turn terms h id g s) (takens h) (takens_in h)))
-    (sym (map_same _) ∙ map_agree (shown terms h) (shown terms (Named id ∷ h)) (λ d. d) (readies h) (all_from _ _ same (readies h) (readies_in h)))
-    (sym (option_same _) ∙ option_agree (shown terms h) (shown terms (Named id ∷ h)) (λ d. d) (find is_unfinished (groups h)) (any_from _ _ same (find is_unfinished (groups h)) (part_in h)))
+pub named_state : (terms : Terms) (h : List LinkEvent) (first last : ℕ) → link_after (state_of terms h) (ReceiverSettled first last) ≡ state_of terms (ReceiverSettled first last ∷ h)
+unfolding stated
+named_state terms h first last =
+    let g = ReceiverSettled first last ∷ h in
+    let turns = all_from _ _ (λ g s. named_turn terms h first last g s) (handed_up_groups h) (takens_in h) in
+    let same = λ (g : Group) (s : StandsIn h false g). later_shown terms h first last g s in
+    let readies = all_from _ _ same (ready_groups h) (readies_in h) in
+    let last_one = any_from _ _ same (find is_unfinished (groups h)) (part_in h) in
+    stated_same terms _ _ _ _ _ _ _ _ _ _ _ _ refl refl refl
+    (turned (is_settled terms h) (is_settled terms g) (shown_awaiting terms h) (shown_awaiting terms g) (receiver_settles first last) (told_by first last) (handed_up_groups h) turns)
+    (sym (map_same _) ∙ map_agree (shown terms h) (shown terms g) (λ d. d) (ready_groups h) readies)
+    (sym (option_same _) ∙ option_agree (shown terms h) (shown terms g) (λ d. d) (find is_unfinished (groups h)) last_one)
 
-covered_turn : (terms : Terms) (h : List LinkEvent) (first last : ℕ) (g : Group) → StandsIn h true g → Turns (is_settled terms h) (is_settled terms (Covered first last ∷ h)) (shown_taken terms h) (shown_taken terms (Covered first last ∷ h)) (λ d. covers first last d.id) (λ d. d) g
+covered_turn : (terms : Terms) (h : List LinkEvent) (first last : ℕ) (g : Group) → StandsIn h true g →
+    Turns (is_settled terms h) (is_settled terms (SenderSettled first last ∷ h)) (shown_awaiting terms h) (shown_awaiting terms (SenderSettled first last ∷ h))
+    (is_covered first last) (λ d. d) g
 unfolding made
 covered_turn terms h first last g s = record {
   gone = covered_settled terms h first last true g s;
-  left = λ e k. made_same (shown_taken terms h g) _ _ _ _ (sym (covered_settled terms h first last true g s ∙ rw (e, k) refl)) refl;
+  left = λ e k. made_same (shown_awaiting terms h g) _ _ _ _ (sym (covered_settled terms h first last true g s ∙ rw (e, k) refl)) refl;
 }
 
-covered_shown : (terms : Terms) (h : List LinkEvent) (first last : ℕ) (g : Group) → StandsIn h false g → covered_by first last (shown terms h g) ≡ shown terms (Covered first last ∷ h) g
+covered_shown : (terms : Terms) (h : List LinkEvent) (first last : ℕ) (g : Group) → StandsIn h false g → sender_settled_by first last (shown terms h g) ≡ shown terms (SenderSettled first last ∷ h) g
 unfolding made
 covered_shown terms h first last g s = made_same (shown terms h g) _ _ _ _ (sym (covered_settled terms h first last false g s)) refl
 
-pub covered_state : (terms : Terms) (h : List LinkEvent) (first last : ℕ) → link_after (state_of terms h) (Covered first last) ≡ state_of terms (Covered first last ∷ h)
+pub covered_state : (terms : Terms) (h : List LinkEvent) (first last : ℕ) → link_after (state_of terms h) (SenderSettled first last) ≡ state_of terms (SenderSettled first last ∷ h)
+unfolding stated
 covered_state terms h first last =
+    let g = SenderSettled first last ∷ h in
+    let turns = all_from _ _ (λ g s. covered_turn terms h first last g s) (handed_up_groups h) (takens_in h) in
     let same = λ (g : Group) (s : StandsIn h false g). covered_shown terms h first last g s in
-    set_same (state_of terms h) _ _ _ _ _ _
-    (sym (map_same _) ∙ turned (is_settled terms h) (is_settled terms (Covered first last ∷ h)) (shown_taken terms h) (shown_taken terms (Covered first last ∷ h)) (λ d. covers first last d.id) (λ d. d) (takens h) (all_from _ _ (λ g s. covered_turn terms h first last g s) (takens h) (takens_in h)))
-    (map_agree (shown terms h) (shown terms (Covered first last ∷ h)) (covered_by first last) (readies h) (all_from _ _ same (readies h) (readies_in h)))
-    (option_agree (shown terms h) (shown terms (Covered first last ∷ h)) (covered_by first last) (find is_unfinished (groups h)) (any_from _ _ same (find is_unfinished (groups h)) (part_in h)))
+    let turn = sender_settled_by first last in
+    let readies = all_from _ _ same (ready_groups h) (readies_in h) in
+    let last_one = any_from _ _ same (find is_unfinished (groups h)) (part_in h) in
+    stated_same terms _ _ _ _ _ _ _ _ _ _ _ _ refl refl refl
+    (sym (map_same _) ∙ turned (is_settled terms h) (is_settled terms g) (shown_awaiting terms h) (shown_awaiting terms g) (is_covered first last) (λ d. d) (handed_up_groups h) turns)
+    (map_agree (shown terms h) (shown terms g) turn (ready_groups h) readies)
+    (option_agree (shown terms h) (shown terms g) turn (find is_unfinished (groups h)) last_one)
 
--- How many a disposition settles. --------------------------------------------------------------------------------------
+-- How many a disposition settles. ----------------------------------------------------------------------------------------------
 
-newly_is : (o a b c : Bool) → o ≡ true → (not (a || b) && c) ≡ (not (a || b) && (a || (b || (o && c))))
+newly_is : (o a b c : Bool) → o ≡ true → (not (a || b) && c) ≡ (not (a || b) && (a || ((o && c) || b)))
 newly_is o true b c e = refl
 newly_is o false true c e = refl
-newly_is o false false c e = rw e refl
+newly_is o false false c e = rw e (sym (or-false c))
 
 same_long : (b c : Bool) (d : Delivery) (g : Group) (ds : List Delivery) (gs : List Group) → b ≡ c → length ds ≡ length gs → length (cond b (d ∷ ds) ds) ≡ length (cond c (g ∷ gs) gs)
 same_long b c d g ds gs e l = rw e (either c)
@@ -189,12 +226,13 @@ same_long b c d g ds gs e l = rw e (either c)
 module _ (terms : Terms) (h : List LinkEvent) (first last : ℕ) where
   -- it is settled, and was not
   abbrev newly : Delivery → Bool
-  newly d = not d.settled && covers first last d.id
+  newly d = not d.settled && is_covered first last d
 
-  newly_shown : (g : Group) → Here h g → is_open terms h g ≡ true → newly (kept terms h g) ≡ (not (is_settled terms h g) && is_settled terms (Covered first last ∷ h) g)
+  newly_shown : (g : Group) → Here h g → is_open terms h g ≡ true → newly (kept terms h g) ≡ (not (is_settled terms h g) && is_settled terms (SenderSettled first last ∷ h) g)
   newly_shown g here e =
       newly_is (is_open terms h g) (comes_settled g) (settled_later terms h g.number) (covers first last (id_of g)) e
-      ∙ ap (λ (b : Bool). not (is_settled terms h g) && (comes_settled g || (settled_later terms h g.number || b))) (sym (here (λ x. is_open_if h (settled_later terms h g.number) x && covers first last (id_of x))))
+      ∙ ap (λ (b : Bool). not (is_settled terms h g) && (comes_settled g || (b || settled_later terms h g.number)))
+      (sym (here (λ x. is_open_if h (settled_later terms h g.number) x && covers first last (id_of x))))
 
   newly_long : (gs : List Group) → AllByRecursion (Here h) gs → length (filter newly (map (kept terms h) (filter (is_open terms h) gs))) ≡ length (filter (is_settled_by terms h first last) gs)
   newly_long [] all = refl
@@ -203,7 +241,7 @@ module _ (terms : Terms) (h : List LinkEvent) (first last : ℕ) where
     | inr e ↦ rw e (newly_long gs all.1)
   ]
 
-  pub settled_count : settled_in first last (open_set (state_of terms h)) ≡ length (filter (is_settled_by terms h first last) (groups h))
+  pub settled_count : newly_settled first last (open_set (state_of terms h)) ≡ length (filter (is_settled_by terms h first last) (groups h))
   settled_count =
       sym (length-filter newly (deliveries (state_of terms h)))
       ∙ ap (λ (ds : List Delivery). length (filter newly ds)) (deliveries_selected terms h)

@@ -1,66 +1,133 @@
--- How the open deliveries of a link are kept: each under a key, and the keys in link order.
-use Rattle.std.specs.Prelude.{◌≡◌, ◌≢◌, ℕ, ◌+◌, ◌^◌, ◌<◌, ◌≤◌, List, [], ◌∷◌, ◌++◌, length, map, Bool, false, Option, Some, None, option_map, option_to_list}
+-- How a link keeps its open deliveries, which no public clause names: each under a key, and the keys at places in link order.
+use Rattle.std.specs.Prelude.{◌≡◌, ◌≢◌, ℕ, ◌+◌, ◌≤◌, List, [], ◌∷◌, ◌++◌, length, map, filter, take, drop, Bool, false, not, ◌&&◌, Option, Some, None, IsSome, option_map, option_to_list, sum_by, count_by}
 use Rattle.std.specs.List.{AllByRecursion}
 use Rattle.slab.specs.Slab.{Slab, get, ContainsKey, slab_len}
-use Rattle.amqp_link.specs.declared.open_deliveries.Held.{Held}
-use Rattle.amqp_link.specs.declared.link.Taken.{Taken}
-use Rattle.amqp_link.specs.declared.transfer.SettleMode.TheVariants.{First}
-use Rattle.amqp_link.specs.declared.transfer.Terms.{Terms}
-use Rattle.amqp_link.specs.Links.{Delivery, OpenSet, LinkState, set_bytes, how_many}
+use Rattle.amqp_perform.specs.declared.modes.ReceiverSettleMode.TheVariants.{First}
+use Rattle.amqp_link.specs.declared.open_delivery.OpenDelivery.{OpenDelivery}
+use Rattle.amqp_link.specs.declared.open_delivery.Question.{Question}
+use Rattle.amqp_link.specs.declared.open_delivery.Question.TheVariants.{HasId, IsCovered, IsTold}
+use Rattle.amqp_link.specs.declared.open_delivery.Settler.{Settler}
+use Rattle.amqp_link.specs.declared.open_delivery.Settler.TheVariants.{Receiver, SenderOfHandedUp, SenderOfUntaken}
+use Rattle.amqp_link.specs.declared.open_delivery.Settling.{Settling}
+use Rattle.amqp_link.specs.declared.terms.Terms.{Terms}
+use Rattle.amqp_link.specs.Bounds.{IsBounded}
+use Rattle.amqp_link.specs.Links.{Delivery, OpenSet, LinkState, set_bytes, delivery_bytes, how_many, has_id, is_covered, tells, told_by, receiver_settles, sender_settled_by}
+
+-- One delivery. -----------------------------------------------------------------------------------------------
+
+-- the answer to a question
+abbrev pub asks_of : Question → Delivery → Bool
+asks_of (HasId id) d = has_id id d
+asks_of (IsCovered ids) d = is_covered ids.first ids.last d
+asks_of (IsTold ids) d = tells ids.first ids.last d && d.told
+
+-- it is open no longer after a settle of these ids
+abbrev pub ends_by : Settler → ℕ → ℕ → Delivery → Bool
+ends_by Receiver first last d = receiver_settles first last d
+ends_by SenderOfHandedUp first last d = is_covered first last d
+ends_by SenderOfUntaken first last d = false
+
+abbrev pub ends : Settling → Delivery → Bool
+ends s d = ends_by s.settler s.ids.first s.ids.last d
+
+-- what it is after one, if it stays open
+abbrev pub turned_by : Settler → ℕ → ℕ → Delivery → Delivery
+turned_by Receiver first last d = told_by first last d
+turned_by SenderOfHandedUp first last d = d
+turned_by SenderOfUntaken first last d = sender_settled_by first last d
+
+abbrev pub turned : Settling → Delivery → Delivery
+turned s d = turned_by s.settler s.ids.first s.ids.last d
+
+-- a settle counts it
+abbrev pub counts_by : Settler → ℕ → ℕ → Delivery → Bool
+counts_by Receiver first last d = is_covered first last d
+counts_by SenderOfHandedUp first last d = not d.settled && is_covered first last d
+counts_by SenderOfUntaken first last d = not d.settled && is_covered first last d
+
+abbrev pub counts : Settling → Delivery → Bool
+counts s d = counts_by s.settler s.ids.first s.ids.last d
+
+-- what is left of these
+abbrev pub settled_list : Settling → List Delivery → List Delivery
+settled_list s ds = map (turned s) (filter (λ d. not (ends s d)) ds)
+
+-- All of them. ---------------------------------------------------------------------------------------------------
+
+-- the keys at these places
+abbrev pub keys_of : List (Option ℕ) → List ℕ
+keys_of [] = []
+keys_of (None ∷ places) = keys_of places
+keys_of (Some key ∷ places) = key ∷ keys_of places
 
 module _ {A : Type 0} where
   -- what is held of a delivery
-  abbrev pub delivery_of : Held A → Delivery
-  delivery_of d = record { id = d.id; tag = d.tag; format = d.format; mode = d.mode; settled = d.settled; told = d.told; message = d.message.items }
+  abbrev pub delivery_of : OpenDelivery A → Delivery
+  delivery_of d = record { delivery_id = d.delivery_id; delivery_tag = d.delivery_tag; message_format = d.message_format; rcv_settle_mode = d.rcv_settle_mode; settled = d.settled; told = d.told; message = d.message.items }
 
-  -- the delivery at a place; at an empty place any would do
-  abbrev pub delivery_in : Option (Held A) → Delivery
-  delivery_in None = record { id = 0; tag = []; format = 0; mode = First; settled = false; told = false; message = [] }
+  -- the delivery under a key; where there is none any would do
+  abbrev pub delivery_in : Option (OpenDelivery A) → Delivery
+  delivery_in None = record { delivery_id = 0; delivery_tag = []; message_format = 0; rcv_settle_mode = First; settled = false; told = false; message = [] }
   delivery_in (Some d) = delivery_of d
 
-  abbrev pub at_key : Slab (Held A) → ℕ → Delivery
+  abbrev pub at_key : Slab (OpenDelivery A) → ℕ → Delivery
   at_key slab key = delivery_in (get slab key)
 
-  abbrev pub set_of_keys : Slab (Held A) → List ℕ → List ℕ → Option ℕ → OpenSet
-  set_of_keys slab taken ready part = record { taken = map (at_key slab) taken; ready = map (at_key slab) ready; part = option_map (at_key slab) part }
+  abbrev pub set_of_keys : Slab (OpenDelivery A) → List ℕ → List ℕ → Option ℕ → OpenSet
+  set_of_keys slab awaiting ready unfinished = record { awaiting = map (at_key slab) awaiting; ready = map (at_key slab) ready; unfinished = option_map (at_key slab) unfinished }
+
+  -- of the places in link order so many are of what was handed up
+  abbrev pub set_at : Slab (OpenDelivery A) → List (Option ℕ) → ℕ → Option ℕ → OpenSet
+  set_at slab order handed_up unfinished = set_of_keys slab (keys_of (take handed_up order)) (keys_of (drop handed_up order)) unfinished
 
   -- each key has a delivery, and no key stands twice
-  abbrev pub AreKeys : Slab (Held A) → List ℕ → Type 0
+  abbrev pub AreKeys : Slab (OpenDelivery A) → List ℕ → Type 0
   AreKeys slab [] = Unit {0}
   AreKeys slab (key ∷ keys) = ContainsKey slab key × AllByRecursion (λ other. other ≢ key) keys × AreKeys slab keys
 
-  -- what holds of the keys of a link
-  pub record IsKept (slab : Slab (Held A)) (taken ready : List ℕ) (part : Option ℕ) (bytes room_taken room_ready : ℕ) : Type 0 where
-    pub keys : AreKeys slab (taken ++ ready ++ option_to_list part)
-    -- what is ready or unfinished has room where it is next
-    pub fits_taken : length taken + length ready + length (option_to_list part) ≤ room_taken
-    pub fits_ready : length ready + length (option_to_list part) ≤ room_ready
-    -- nothing else is kept
-    pub only : slab_len slab ≡ length taken + length ready + length (option_to_list part)
-    pub total : bytes ≡ set_bytes (set_of_keys slab taken ready part)
+  -- what a settle makes of the deliveries at these places: it counts some, and frees the bytes of those that are open no longer
+  pub record Settles (s : Settling) (old new : Slab (OpenDelivery A)) (before after : List (Option ℕ)) (many bytes : ℕ) : Type 0 where
+    pub long : length after ≡ length before
+    pub deliveries : map (at_key new) (keys_of after) ≡ settled_list s (map (at_key old) (keys_of before))
+    pub count : many ≡ count_by (counts s) (map (at_key old) (keys_of before))
+    pub freed : sum_by delivery_bytes (map (at_key new) (keys_of after)) + bytes ≡ sum_by delivery_bytes (map (at_key old) (keys_of before))
+    -- one that stays open keeps its place
+    pub same : ((d : Delivery) → ends s d ≡ false) → after ≡ before
+    -- keys beside them stay keys, with the same deliveries
+    pub others : (front back : List ℕ) → AreKeys old (front ++ keys_of before ++ back) → AreKeys new (front ++ keys_of after ++ back) × (map (at_key new) front ≡ map (at_key old) front) × (map (at_key new) back ≡ map (at_key old) back)
+    pub only : slab_len new + length (keys_of before) ≡ slab_len old + length (keys_of after)
 
--- what was handed up of a delivery
-pub record IsHandedUp {A : Type 0} (taken : Taken A) (d : Delivery) : Type 0 where
-  pub id : taken.id ≡ d.id
-  pub tag : taken.tag ≡ d.tag
-  pub format : taken.format ≡ d.format
-  pub settled : taken.settled ≡ d.settled
-  pub message : taken.message ≡ d.message
+  -- what holds of the keys of a link
+  pub record IsKept (slab : Slab (OpenDelivery A)) (awaiting ready : List ℕ) (unfinished : Option ℕ) (bytes : ℕ) : Type 0 where
+    pub keys : AreKeys slab (awaiting ++ ready ++ option_to_list unfinished)
+    -- nothing else is kept
+    pub only : slab_len slab ≡ length awaiting + length ready + length (option_to_list unfinished)
+    pub total : bytes ≡ set_bytes (set_of_keys slab awaiting ready unfinished)
+
+  -- what holds of their places
+  pub record IsKeptAt (slab : Slab (OpenDelivery A)) (order : List (Option ℕ)) (handed_up : ℕ) (unfinished : Option ℕ) (bytes room : ℕ) : Type 0 where
+    pub kept : IsKept slab (keys_of (take handed_up order)) (keys_of (drop handed_up order)) unfinished bytes
+    pub split : handed_up ≤ length order
+    -- what is ready has not left its place
+    pub filled : AllByRecursion IsSome (drop handed_up order)
+    -- what is unfinished has room for its place
+    pub fits : length order + length (option_to_list unfinished) ≤ room
+
+-- The link. --------------------------------------------------------------------------------------------------------
 
 -- a link of these fields
 abbrev pub link_of : Terms → ℕ → ℕ → Bool → OpenSet → LinkState
-link_of terms credit count marked o = record { terms = terms; credit = credit; count = count; marked = marked; taken = o.taken; ready = o.ready; part = o.part }
+link_of terms credit count draining o = record { terms = terms; credit = credit; delivery_count = count; draining = draining; awaiting = o.awaiting; ready = o.ready; unfinished = o.unfinished }
 
 -- a delivery that a link with these terms may have
 pub record IsShort (terms : Terms) (d : Delivery) : Type 0 where
-  pub tag : length d.tag ≤ 32
-  pub message : length d.message ≤ terms.longest
+  pub delivery_tag : length d.delivery_tag ≤ 32
+  pub message : length d.message ≤ terms.bounds.max_message_size
 
 -- what holds of every link, so that its bytes can be counted
 pub record IsLink (terms : Terms) (credit : ℕ) (o : OpenSet) : Type 0 where
-  pub within : credit + how_many o ≤ terms.allowed
-  pub allowed : terms.allowed < 2 ^ 32
-  pub longest : terms.longest ≤ 2 ^ 30
-  pub taken : AllByRecursion (IsShort terms) o.taken
+  pub within : credit + how_many o ≤ terms.bounds.allowed
+  pub bounded : IsBounded terms.bounds.allowed terms.bounds.max_message_size
+  pub awaiting : AllByRecursion (IsShort terms) o.awaiting
   pub ready : AllByRecursion (IsShort terms) o.ready
-  pub part : AllByRecursion (IsShort terms) (option_to_list o.part)
+  pub unfinished : AllByRecursion (IsShort terms) (option_to_list o.unfinished)

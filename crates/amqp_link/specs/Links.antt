@@ -1,37 +1,41 @@
 -- One link of a sender as its calls show it, in plain numbers and lists, and what each call does to it (AMQP 1.0, part 2, sections 2.6.7 to 2.6.14).
-use Rattle.std.specs.Prelude.{◌≡◌, ℕ, ◌+◌, ◌-◌, ◌%◌, ◌^◌, ◌≤◌, Bool, true, false, not, ◌&&◌, ◌||◌, if◌then◌else◌, nat_eq, nat_lt, nat_le, List, [], ◌∷◌, ◌++◌, length, drop, map, filter, sum_by, Option, Some, None, is_none, option_map, option_to_list, unwrap_or, bytes_eq}
+use Rattle.std.specs.Prelude.{◌≡◌, ℕ, ◌+◌, ◌-◌, ◌%◌, ◌^◌, ◌≤◌, Bool, true, false, not, ◌&&◌, ◌||◌, if◌then◌else◌, nat_eq, nat_lt, nat_le, List, [], ◌∷◌, ◌++◌, length, drop, map, filter, find, sum_by, slice_get, Option, Some, None, is_none, is_some, option_map, option_to_list, unwrap_or, bytes_eq}
 use Rattle.std.specs.List.{list_any, count_by}
 use Rattle.amqp_serial.specs.Numbers.{distance_of}
-use Rattle.amqp_link.specs.declared.transfer.SettleMode.{SettleMode}
-use Rattle.amqp_link.specs.declared.transfer.SettleMode.TheVariants.{First, Second}
-use Rattle.amqp_link.specs.declared.transfer.Terms.{Terms}
-use Rattle.amqp_link.specs.declared.transfer.Transfer.{Transfer}
+use Rattle.amqp_perform.specs.declared.modes.ReceiverSettleMode.{ReceiverSettleMode}
+use Rattle.amqp_perform.specs.declared.modes.ReceiverSettleMode.TheVariants.{First, Second}
+use Rattle.amqp_link.specs.declared.terms.Terms.{Terms}
+use Rattle.amqp_perform.specs.declared.performative.Transfer.{Transfer}
 use Rattle.amqp_link.specs.declared.transfer.LinkFault.{LinkFault}
 use Rattle.amqp_link.specs.declared.transfer.LinkFault.TheVariants.{TransferLimit, MessageSize, InvalidField, NotImplemented, NoMemory}
+use Rattle.amqp_link.specs.declared.settlement.SettleFault.{SettleFault}
+use Rattle.amqp_link.specs.declared.settlement.SettleFault.TheVariants.{NotTaken, AlreadyTold}
+use Rattle.amqp_link.specs.declared.settlement.Standing.{Standing}
+use Rattle.amqp_link.specs.declared.settlement.Standing.TheVariants.{Absent, Untaken, Told, Awaiting}
 use Rattle.amqp_link.specs.declared.transfer.Step.{Step}
-use Rattle.amqp_link.specs.declared.transfer.Step.TheVariants.{Part, Ready, Aborted}
+use Rattle.amqp_link.specs.declared.transfer.Step.TheVariants.{Unfinished, Ready, Aborted}
 
 -- a transfer with its payload [2.7.5]
 pub record Sent : Type 0 where
-  pub id : Option ℕ
-  pub tag : Option (List ℕ)
-  pub format : Option ℕ
+  pub delivery_id : Option ℕ
+  pub delivery_tag : Option (List ℕ)
+  pub message_format : Option ℕ
   pub settled : Bool
   pub more : Bool
-  pub mode : Option SettleMode
+  pub rcv_settle_mode : Option ReceiverSettleMode
   pub resume : Bool
   pub aborted : Bool
   pub payload : List ℕ
 
--- the transfer in hand
+-- what a link reads of the transfer in hand: settled has no default, and an absent one says no more than false [2.7.5]
 abbrev pub sent_of : Transfer → List ℕ → Sent
 sent_of t payload = record {
-  id = t.id;
-  tag = option_map (λ tag. tag.now) t.tag;
-  format = t.format;
-  settled = t.settled;
+  delivery_id = t.delivery_id;
+  delivery_tag = option_map (λ tag. tag.now) t.delivery_tag;
+  message_format = t.message_format;
+  settled = unwrap_or t.settled false;
   more = t.more;
-  mode = t.mode;
+  rcv_settle_mode = t.rcv_settle_mode;
   resume = t.resume;
   aborted = t.aborted;
   payload = payload;
@@ -51,78 +55,89 @@ adds t = if t.aborted then [] else t.payload
 
 -- a delivery, and how far it has come [2.6.12]
 pub record Delivery : Type 0 where
-  pub id : ℕ
-  pub tag : List ℕ
-  pub format : ℕ
-  pub mode : SettleMode
+  pub delivery_id : ℕ
+  pub delivery_tag : List ℕ
+  pub message_format : ℕ
+  pub rcv_settle_mode : ReceiverSettleMode
   pub settled : Bool  -- by either end
   pub told : Bool  -- the sender was told what became of it
   pub message : List ℕ  -- what is kept of it: nothing once it is handed up
 
--- A live link. Its open deliveries are, in the order in which they began, those that were handed up and are not settled, those that are ready to be, and the one whose last transfer hasn't come.
+-- A live link. Its open deliveries are, in the order in which they began, those that were handed up and await settlement, those that are ready to be handed up, and the one whose last transfer hasn't come.
 pub record LinkState : Type 0 where
   pub terms : Terms
   pub credit : ℕ
-  pub count : ℕ  -- the delivery-count
-  pub marked : Bool  -- the sender was asked to use its credit up, and hasn't said that it did
-  pub taken : List Delivery
+  pub delivery_count : ℕ
+  pub draining : Bool  -- the sender was asked to use its credit up, and since then no credit was granted and no flow of it left none
+  pub awaiting : List Delivery
   pub ready : List Delivery
-  pub part : Option Delivery
+  pub unfinished : Option Delivery
 
 -- The open deliveries of a link alone.
 pub record OpenSet : Type 0 where
-  pub taken : List Delivery
+  pub awaiting : List Delivery
   pub ready : List Delivery
-  pub part : Option Delivery
+  pub unfinished : Option Delivery
 
--- these, in the order in which they began
+-- all open deliveries, in the order in which they began
 abbrev pub in_order : OpenSet → List Delivery
-in_order s = s.taken ++ s.ready ++ option_to_list s.part
+in_order s = s.awaiting ++ s.ready ++ option_to_list s.unfinished
 
+-- the open deliveries of a link
 abbrev pub open_set : LinkState → OpenSet
-open_set s = record { taken = s.taken; ready = s.ready; part = s.part }
+open_set s = record { awaiting = s.awaiting; ready = s.ready; unfinished = s.unfinished }
 
--- how many those are
+-- how many open deliveries there are
 abbrev pub how_many : OpenSet → ℕ
-how_many s = length s.taken + length s.ready + length (option_to_list s.part)
+how_many s = length s.awaiting + length s.ready + length (option_to_list s.unfinished)
 
--- the same of a link
+-- the open deliveries of a link, in the order in which they began
 abbrev pub deliveries : LinkState → List Delivery
 deliveries s = in_order (open_set s)
 
+-- how many there are
 abbrev pub open_count : LinkState → ℕ
 open_count s = how_many (open_set s)
 
--- one of them has this id
+-- those that were not handed up
+abbrev pub untaken : OpenSet → List Delivery
+untaken s = s.ready ++ option_to_list s.unfinished
+
+-- the one that is handed up next
+abbrev pub first_ready : LinkState → Option Delivery
+first_ready s = slice_get s.ready 0
+
+-- the delivery has this id
 abbrev pub has_id : ℕ → Delivery → Bool
-has_id id d = nat_eq d.id id
+has_id id d = nat_eq d.delivery_id id
 
 -- the bytes that count as kept of a delivery: 64 for itself, its tag, and its message
 abbrev pub delivery_bytes : Delivery → ℕ
-delivery_bytes d = 64 + length d.tag + length d.message
+delivery_bytes d = 64 + length d.delivery_tag + length d.message
 
--- the bytes that count as kept of a link's deliveries
+-- the bytes that count as kept of open deliveries
 abbrev pub set_bytes : OpenSet → ℕ
 set_bytes s = sum_by delivery_bytes (in_order s)
 
+-- and of a link
 abbrev pub link_bytes : LinkState → ℕ
 link_bytes s = set_bytes (open_set s)
 
 -- a link at its attach
 abbrev pub link_begins : Terms → LinkState
-link_begins terms = record { terms = terms; credit = 0; count = terms.first_count; marked = false; taken = []; ready = []; part = None }
+link_begins terms = record { terms = terms; credit = 0; delivery_count = terms.initial_delivery_count; draining = false; awaiting = []; ready = []; unfinished = None }
 
 -- The settle mode of a delivery that begins so: what it states counts, unless it comes settled, else what the attach stated. [2.7.5]
-abbrev pub mode_at : Terms → Sent → SettleMode
-mode_at terms t = if t.settled then terms.mode else unwrap_or t.mode terms.mode
+abbrev pub mode_at : Terms → Sent → ReceiverSettleMode
+mode_at terms t = if t.settled then terms.rcv_settle_mode else unwrap_or t.rcv_settle_mode terms.rcv_settle_mode
 
 -- the delivery that begins so [2.6.14]
 abbrev pub begun : Terms → Sent → Delivery
 begun terms t = record {
-  id = unwrap_or t.id 0;
-  tag = unwrap_or t.tag [];
-  format = unwrap_or t.format 0;
-  mode = mode_at terms t;
+  delivery_id = unwrap_or t.delivery_id 0;
+  delivery_tag = unwrap_or t.delivery_tag [];
+  message_format = unwrap_or t.message_format 0;
+  rcv_settle_mode = mode_at terms t;
   settled = t.settled;
   told = false;
   message = adds t;
@@ -139,12 +154,14 @@ delivery_after terms (Some d) t = continued d t
 
 -- Faults of a transfer, in this order. -----------------------------------------------------------------
 
-abbrev pub states_second : Option SettleMode → Bool
+-- the transfer asks for mode second
+abbrev pub states_second : Option ReceiverSettleMode → Bool
 states_second None = false
 states_second (Some First) = false
 states_second (Some Second) = true
 
-abbrev pub is_first : SettleMode → Bool
+-- the mode is first [2.8.3]
+abbrev pub is_first : ReceiverSettleMode → Bool
 is_first First = true
 is_first Second = false
 
@@ -153,45 +170,47 @@ abbrev pub is_tag : Option (List ℕ) → Bool
 is_tag None = false
 is_tag (Some tag) = nat_le (length tag) 32
 
--- A head states id and tag; it asks for mode second only where the attach did, or comes settled. [2.7.5]
-abbrev pub is_head : Terms → Sent → Bool
-is_head terms t = not (is_none t.id) && is_tag t.tag && (t.settled || not (is_first terms.mode && states_second t.mode))
+-- A head is well formed: it states id and tag; it asks for mode second only where the attach did, or comes settled. [2.7.5]
+abbrev pub is_formed_head : Terms → Sent → Bool
+is_formed_head terms t = is_some t.delivery_id && is_tag t.delivery_tag && (t.settled || not (is_first terms.rcv_settle_mode && states_second t.rcv_settle_mode))
 
 -- absent, or the same
 abbrev pub agrees : {A : Type 0} → (A → A → Bool) → Option A → A → Bool
 agrees same None here = true
 agrees same (Some there) here = same there here
 
--- a continuation states id, tag and format as the head did, or not at all; its settle mode says nothing [2.7.5]
-abbrev pub is_continuation : Delivery → Sent → Bool
-is_continuation d t = agrees nat_eq t.id d.id && agrees bytes_eq t.tag d.tag && agrees nat_eq t.format d.format
+-- a continuation is well formed: it states id, tag and format as the head did, or not at all; its settle mode says nothing [2.7.5]
+abbrev pub is_formed_continuation : Delivery → Sent → Bool
+is_formed_continuation d t = agrees nat_eq t.delivery_id d.delivery_id && agrees bytes_eq t.delivery_tag d.delivery_tag && agrees nat_eq t.message_format d.message_format
 
+-- a transfer is well formed, where this delivery is unfinished
 abbrev pub is_formed : Terms → Option Delivery → Sent → Bool
-is_formed terms None t = is_head terms t
-is_formed terms (Some d) t = is_continuation d t
+is_formed terms None t = is_formed_head terms t
+is_formed terms (Some d) t = is_formed_continuation d t
 
 -- a head, and no credit for it [2.6.7]
 abbrev pub lacks_credit : LinkState → Bool
-lacks_credit s = is_none s.part && nat_eq s.credit 0
+lacks_credit s = is_none s.unfinished && nat_eq s.credit 0
 
 -- the message would be longer than the link allows [2.7.3]; an aborted transfer adds nothing
 abbrev pub is_too_long : LinkState → Sent → Bool
-is_too_long s t = not t.aborted && nat_lt s.terms.longest (length (delivery_after s.terms s.part t).message)
+is_too_long s t = not t.aborted && nat_lt s.terms.bounds.max_message_size (length (delivery_after s.terms s.unfinished t).message)
 
 -- the first fault of a transfer, if any
 abbrev pub fault_of : LinkState → Sent → Option LinkFault
 fault_of s t =
     if t.resume then Some NotImplemented
-    else (if not (is_formed s.terms s.part t) then Some InvalidField
+    else (if not (is_formed s.terms s.unfinished t) then Some InvalidField
     else (if lacks_credit s then Some TransferLimit
     else (if is_too_long s t then Some MessageSize else None)))
 
 -- A transfer may want memory unless it is aborted, or goes on without a payload.
 abbrev pub may_grow_at : Option Delivery → Sent → Bool
-may_grow_at part t = not t.aborted && (is_none part || not (nat_eq (length t.payload) 0))
+may_grow_at unfinished t = not t.aborted && (is_none unfinished || not (nat_eq (length t.payload) 0))
 
+-- the same on a link
 abbrev pub may_grow : LinkState → Sent → Bool
-may_grow s t = may_grow_at s.part t
+may_grow s t = may_grow_at s.unfinished t
 
 -- Why a transfer is refused: its first fault, or memory that it wants, where it has none.
 abbrev pub IsRefusal : LinkState → Sent → LinkFault → Type 0
@@ -203,20 +222,21 @@ IsRefusal s t NoMemory = (fault_of s t ≡ None) × (may_grow s t ≡ true)
 
 -- what comes of a transfer that is accepted
 abbrev pub step_of : Sent → Step
-step_of t = if t.aborted then Aborted else (if t.more then Part else Ready)
+step_of t = if t.aborted then Aborted else (if t.more then Unfinished else Ready)
 
 -- What happens to a link. ---------------------------------------------------------------------------------
 
+-- one call or frame that was accepted
 pub data LinkEvent : Type 0 where
   Granted : ℕ → LinkEvent  -- so much credit was granted
-  Drains : LinkEvent  -- the sender was asked to use its credit up
-  Came : Sent → LinkEvent  -- a transfer came
-  Counted : Option ℕ → LinkEvent  -- a flow of the sender stated this delivery-count, or none
-  Took : Delivery → LinkEvent  -- this delivery was handed up
-  Named : ℕ → LinkEvent  -- the receiver settled the delivery with this id that was handed up, or told what became of it; that no other open one has the id is the business of the session
-  Covered : ℕ → ℕ → LinkEvent  -- the sender settled the ids from the first to the last
+  DrainAsked : LinkEvent  -- the sender was asked to use its credit up
+  Transferred : Sent → LinkEvent  -- a transfer came
+  FlowStated : Option ℕ → LinkEvent  -- a flow of the sender stated this delivery-count, or none
+  HandedUp : Delivery → LinkEvent  -- this delivery was handed up
+  ReceiverSettled : ℕ → ℕ → LinkEvent  -- the receiver settled the ids from the first to the last, or told what became of them; the link may have none of them
+  SenderSettled : ℕ → ℕ → LinkEvent  -- the sender settled the ids from the first to the last
 
--- how far the delivery-count of a flow moves the known one: not beyond the credit, and not at all where it is absent [2.6.7]
+-- how far the delivery-count of a flow moves the known one: by what it is ahead where that is at most the credit, else not at all, and not where it is absent [2.6.7]
 abbrev pub advance_by : ℕ → ℕ → Option ℕ → ℕ
 advance_by count credit None = 0
 advance_by count credit (Some stated) = if nat_le (distance_of count stated) credit then distance_of count stated else 0
@@ -232,85 +252,114 @@ cost None = 1
 cost (Some d) = 0
 
 -- the open deliveries after an accepted transfer, which leaves this one
-abbrev pub put : OpenSet → Sent → Delivery → OpenSet
-put o t d = record o { ready = o.ready ++ (if completes t then d ∷ [] else []); part = if goes_on t then Some d else None }
+abbrev pub with_delivery : OpenSet → Sent → Delivery → OpenSet
+with_delivery o t d = record o { ready = o.ready ++ (if completes t then d ∷ [] else []); unfinished = if goes_on t then Some d else None }
 
 -- the link with these
-abbrev pub with_set : LinkState → OpenSet → LinkState
-with_set s o = record s { taken = o.taken; ready = o.ready; part = o.part }
+abbrev pub with_open : LinkState → OpenSet → LinkState
+with_open s o = record s { awaiting = o.awaiting; ready = o.ready; unfinished = o.unfinished }
 
 -- the link after an accepted transfer, which leaves this delivery
-abbrev pub placed : LinkState → Sent → Delivery → LinkState
-placed s t d = with_set s (put (open_set s) t d)
+abbrev pub applied : LinkState → Sent → Delivery → LinkState
+applied s t d = with_open s (with_delivery (open_set s) t d)
 
--- the link with its credit and count after an accepted transfer
+-- the link with its credit and delivery-count after an accepted transfer
 abbrev pub charged : LinkState → LinkState
-charged s = record s { credit = s.credit - cost s.part; count = (s.count + cost s.part) % 2 ^ 32 }
+charged s = record s { credit = s.credit - cost s.unfinished; delivery_count = (s.delivery_count + cost s.unfinished) % 2 ^ 32 }
 
 -- a delivery that is handed up stays open until it is settled [2.6.12]
 abbrev pub left_open : Delivery → List Delivery
 left_open d = if d.settled then [] else record d { message = [] } ∷ []
 
--- The receiver's own settle of this id settles a delivery in mode first. [2.7.5, 2.8.3]
-abbrev pub settles : ℕ → Delivery → Bool
-settles id d = is_first d.mode && has_id id d
-
--- In mode second it tells the sender what became of the delivery, and leaves it to the sender to settle. [2.7.5, 2.8.3]
-abbrev pub tells : ℕ → Delivery → Bool
-tells id d = not (is_first d.mode) && has_id id d
-
--- the delivery after it
-abbrev pub told_of : ℕ → Delivery → Delivery
-told_of id d = record d { told = d.told || tells id d }
-
--- The open deliveries after the receiver's own settle of this id, which speaks of those that were handed up: what it settles is open no longer. [2.6.12, 2.8.3]
-abbrev pub named_in : ℕ → OpenSet → OpenSet
-named_in id o = record o { taken = map (told_of id) (filter (λ d. not (settles id d)) o.taken) }
-
 -- the id is one of those from the first to the last; where last is behind first there are none [2.7.6, 2.8.10]
 abbrev pub covers : ℕ → ℕ → ℕ → Bool
 covers first last id = nat_lt (distance_of first last) (2 ^ 31) && nat_le (distance_of first id) (distance_of first last)
 
+-- the delivery's id is one of them
+abbrev pub is_covered : ℕ → ℕ → Delivery → Bool
+is_covered first last d = covers first last d.delivery_id
+
+-- The receiver's own settle of these ids settles a delivery in mode first. [2.7.5, 2.8.3]
+abbrev pub receiver_settles : ℕ → ℕ → Delivery → Bool
+receiver_settles first last d = is_first d.rcv_settle_mode && is_covered first last d
+
+-- In mode second it tells the sender what became of the delivery, and leaves it to the sender to settle. [2.7.5, 2.8.3]
+abbrev pub tells : ℕ → ℕ → Delivery → Bool
+tells first last d = not (is_first d.rcv_settle_mode) && is_covered first last d
+
+-- the delivery after it
+abbrev pub told_by : ℕ → ℕ → Delivery → Delivery
+told_by first last d = record d { told = d.told || tells first last d }
+
+-- The open deliveries after the receiver's own settle of these ids, which speaks of those that were handed up: what it settles is open no longer. [2.6.12, 2.8.3]
+abbrev pub receiver_settled_in : ℕ → ℕ → OpenSet → OpenSet
+receiver_settled_in first last o = record o { awaiting = map (told_by first last) (filter (λ d. not (receiver_settles first last d)) o.awaiting) }
+
+-- how many deliveries it settles or tells of
+abbrev pub named_count : ℕ → ℕ → OpenSet → ℕ
+named_count first last o = count_by (is_covered first last) o.awaiting
+
+-- one of these ids is that of an open delivery that was not handed up
+abbrev pub names_untaken : ℕ → ℕ → OpenSet → Bool
+names_untaken first last o = list_any (is_covered first last) (untaken o)
+
+-- one of them is that of a delivery in mode second of which the sender was told
+abbrev pub names_told : ℕ → ℕ → OpenSet → Bool
+names_told first last o = list_any (λ d. tells first last d && d.told) o.awaiting
+
+-- Why the receiver can't settle these ids, if it can't: it settles what was handed up and is open, and tells the sender of one in mode second once. Ids that no open delivery has are no fault of the link.
+abbrev pub settle_fault : ℕ → ℕ → OpenSet → Option SettleFault
+settle_fault first last o = if names_untaken first last o then Some NotTaken else (if names_told first last o then Some AlreadyTold else None)
+
+-- how a delivery that was handed up stands
+abbrev pub standing_at : Option Delivery → Standing
+standing_at None = Absent
+standing_at (Some d) = if d.told then Told else Awaiting d.rcv_settle_mode
+
+-- How the delivery with this id stands, whose id no other open one has. [2.6.12]
+abbrev pub standing_of : ℕ → OpenSet → Standing
+standing_of id o = if list_any (has_id id) (untaken o) then Untaken else standing_at (find (has_id id) o.awaiting)
+
 -- the delivery after a disposition of the sender with settled true over these ids [2.7.6]
-abbrev pub covered_by : ℕ → ℕ → Delivery → Delivery
-covered_by first last d = record d { settled = d.settled || covers first last d.id }
+abbrev pub sender_settled_by : ℕ → ℕ → Delivery → Delivery
+sender_settled_by first last d = record d { settled = d.settled || is_covered first last d }
 
 -- The open deliveries after it: those that were handed up and are settled now are open no longer, the others are until they are handed up. [2.6.12, 2.7.6]
-abbrev pub covered_in : ℕ → ℕ → OpenSet → OpenSet
-covered_in first last o = record {
-  taken = filter (λ d. not (covers first last d.id)) o.taken;
-  ready = map (covered_by first last) o.ready;
-  part = option_map (covered_by first last) o.part;
+abbrev pub sender_settled_in : ℕ → ℕ → OpenSet → OpenSet
+sender_settled_in first last o = record {
+  awaiting = filter (λ d. not (is_covered first last d)) o.awaiting;
+  ready = map (sender_settled_by first last) o.ready;
+  unfinished = option_map (sender_settled_by first last) o.unfinished;
 }
 
 -- how many open deliveries it settles, handed up or not
-abbrev pub settled_in : ℕ → ℕ → OpenSet → ℕ
-settled_in first last o = count_by (λ d. not d.settled && covers first last d.id) (in_order o)
+abbrev pub newly_settled : ℕ → ℕ → OpenSet → ℕ
+newly_settled first last o = count_by (λ d. not d.settled && is_covered first last d) (in_order o)
 
 -- the link after a flow that moves its count so far
 abbrev pub advanced : LinkState → ℕ → LinkState
-advanced s d = record s { credit = s.credit - d; count = (s.count + d) % 2 ^ 32; marked = s.marked && not (nat_eq (s.credit - d) 0) }
+advanced s d = record s { credit = s.credit - d; delivery_count = (s.delivery_count + d) % 2 ^ 32; draining = if nat_eq (s.credit - d) 0 then false else s.draining }
 
 -- a flow tells that the credit is used up, as the sender was asked to [2.6.7]
 abbrev pub is_drained : LinkState → Option ℕ → Bool
-is_drained s stated = s.marked && nat_eq (s.credit - advance_by s.count s.credit stated) 0
+is_drained s stated = s.draining && nat_eq (s.credit - advance_by s.delivery_count s.credit stated) 0
 
 -- the link after an event
 abbrev pub link_after : LinkState → LinkEvent → LinkState
-link_after s (Granted n) = record s { credit = s.credit + n; marked = false }
-link_after s Drains = record s { marked = true }
-link_after s (Came t) = placed (charged s) t (delivery_after s.terms s.part t)
-link_after s (Counted stated) = advanced s (advance_by s.count s.credit stated)
-link_after s (Took d) = record s { taken = s.taken ++ left_open d; ready = drop 1 s.ready }
-link_after s (Named id) = with_set s (named_in id (open_set s))
-link_after s (Covered first last) = with_set s (covered_in first last (open_set s))
+link_after s (Granted n) = record s { credit = s.credit + n; draining = false }
+link_after s DrainAsked = record s { draining = true }
+link_after s (Transferred t) = applied (charged s) t (delivery_after s.terms s.unfinished t)
+link_after s (FlowStated stated) = advanced s (advance_by s.delivery_count s.credit stated)
+link_after s (HandedUp d) = record s { awaiting = s.awaiting ++ left_open d; ready = drop 1 s.ready }
+link_after s (ReceiverSettled first last) = with_open s (receiver_settled_in first last (open_set s))
+link_after s (SenderSettled first last) = with_open s (sender_settled_in first last (open_set s))
 
--- Whether an event is accepted. The receiver settles what was handed up and is open, and tells the sender of one in mode second once.
+-- whether an event is accepted
 abbrev pub LinkMay : LinkState → LinkEvent → Type 0
-LinkMay s (Granted n) = s.credit + open_count s + n ≤ s.terms.allowed
-LinkMay s Drains = Unit {0}
-LinkMay s (Came t) = fault_of s t ≡ None
-LinkMay s (Counted stated) = is_beyond s.count s.credit stated ≡ false
-LinkMay s (Took d) = (later : List Delivery) × (s.ready ≡ d ∷ later)
-LinkMay s (Named id) = (list_any (has_id id) s.taken ≡ true) × (list_any (λ d. tells id d && d.told) s.taken ≡ false)
-LinkMay s (Covered first last) = Unit {0}
+LinkMay s (Granted n) = s.credit + open_count s + n ≤ s.terms.bounds.allowed
+LinkMay s DrainAsked = Unit {0}
+LinkMay s (Transferred t) = fault_of s t ≡ None
+LinkMay s (FlowStated stated) = is_beyond s.delivery_count s.credit stated ≡ false
+LinkMay s (HandedUp d) = first_ready s ≡ Some d
+LinkMay s (ReceiverSettled first last) = settle_fault first last (open_set s) ≡ None
+LinkMay s (SenderSettled first last) = Unit {0}

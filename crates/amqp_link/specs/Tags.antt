@@ -4,11 +4,13 @@ use Rattle.std.proofs.Common.{refl}
 use Rattle.std.proofs.lemmas.List.{take-append-drop, length-take-le}
 use Rattle.amqp_link.specs.declared.tag.Tag.TheInside.{Inside}
 
+-- so many bytes are the tag's, and the others are zeros
 pub record IsPadded (bytes : List ℕ) (len : ℕ) : Type 0 where
   pub whole : length bytes ≡ 32
   pub within : len ≤ 32
   pub rest : drop len bytes ≡ replicate (32 - len) 0
 
+-- a tag with its zeros
 abbrev pub padded : List ℕ → List ℕ
 padded tag = tag ++ replicate (32 - length tag) 0
 

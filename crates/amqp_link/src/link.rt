@@ -1,14 +1,20 @@
 //! One link that receives.
-ghost use Rattle.std.specs.Prelude.{◌≡◌, ◌<◌, ◌≤◌, ◌+◌, ◌^◌, ◌↔◌, [], ◌∷◌, List, length, Bool, Option, Some, OnOk, OnErr, IfOk, IfErr, IfSome, IfNone, IsTrue, is_none, is_some, true, nat_lt, IsFalse};
+ghost use Rattle.std.specs.Prelude.{◌≡◌, ◌<◌, ◌≤◌, ◌+◌, ◌*◌, ◌^◌, [], length, Option, Some, None, OnOk, OnErr, IfOk, IfErr, IfSome, IfNone, IsSomeAnd, is_none, option_map, true, IsFalse};
 ghost use Rattle.std.specs.List.{list_any};
-ghost use Rattle.amqp_link.specs.Links.{Delivery, LinkState, sent_of, Granted, Drains, Came, Counted, Took, LinkMay, link_after, link_begins, link_bytes, deliveries, open_count, has_id, fault_of, step_of, is_drained, is_beyond, IsRefusal, put, delivery_after, may_grow_at, set_bytes};
+ghost use Rattle.amqp_link.specs.Links.{LinkState, Delivery, sent_of, Granted, DrainAsked, Transferred, FlowStated, HandedUp, ReceiverSettled, SenderSettled, LinkMay, link_after, link_begins, link_bytes, deliveries, open_set, open_count, first_ready, has_id, fault_of, step_of, is_drained, is_beyond, IsRefusal, with_delivery, delivery_after, may_grow_at, set_bytes, named_count, newly_settled, settle_fault, standing_of};
 ghost use Rattle.amqp_link.specs.Links as spec;
-ghost use Rattle.amqp_link.specs.Keeping.{delivery_of, IsHandedUp};
+ghost use Rattle.amqp_link.specs.HandedUps.{IsHandedUp};
+ghost use Rattle.amqp_link.specs.Keeping.{delivery_of};
 
+use crate::judge;
 use crate::message::Message;
-use crate::open_deliveries::{Held, OpenDeliveries};
-use crate::tag::{MAX_TAG, Tag};
-use crate::transfer::{LinkFault, SettleMode, Step, Terms, Transfer};
+use crate::open_deliveries::OpenDeliveries;
+use crate::open_delivery::{Ids, OpenDelivery};
+use crate::settlement::{SettleFault, Standing};
+use crate::tag::Tag;
+use crate::terms::Terms;
+use crate::transfer::{LinkFault, Step};
+use amqp_perform::Transfer;
 use amqp_serial::Serial;
 use std::alloc::{AllocError, Allocator, Global};
 use std::marker::Model;
@@ -21,11 +27,11 @@ pub struct TooMuchCredit;
 #[derive(Drop)]
 pub struct Taken<A: Allocator + Copy = Global> {
     /// The delivery-id.
-    pub id: u32,
+    pub delivery_id: u32,
     /// The delivery-tag.
-    pub tag: Tag,
+    pub delivery_tag: Tag,
     /// The message-format.
-    pub format: u32,
+    pub message_format: u32,
     /// The sender has settled it.
     pub settled: bool,
     /// Its message.
@@ -39,118 +45,9 @@ pub struct Link<A: Allocator + Copy = Global> {
     alloc: A,
     terms: Terms,
     credit: u32,
-    count: u32,
-    marked: bool,
-    set: OpenDeliveries<A>,
-}
-
-/// Whether a transfer may begin a delivery.
-fn is_head(terms: &Terms, transfer: &Transfer<'_>) -> bool
-    ensures { result ≡ spec.is_head terms.now (sent_of transfer.now []) }
-{
-    let tagged = match transfer.tag {
-        None => false,
-        Some(tag) => tag.len() <= MAX_TAG,
-    };
-    let mode = transfer.settled
-        || !(matches!(terms.mode, SettleMode::First)
-            && matches!(transfer.mode, Some(SettleMode::Second)));
-    transfer.id.is_some() && tagged && mode
-}
-
-/// Whether a transfer may go on with this delivery.
-fn is_continuation<A: Allocator + Copy>(held: &Held<A>, transfer: &Transfer<'_>) -> bool
-    ensures { result ≡ spec.is_continuation (delivery_of held.now) (sent_of transfer.now []) }
-{
-    let id = match transfer.id {
-        None => true,
-        Some(id) => held.id == id,
-    };
-    let tag = match transfer.tag {
-        None => true,
-        Some(tag) => tag == held.tag.as_bytes(),
-    };
-    let format = match transfer.format {
-        None => true,
-        Some(format) => held.format == format,
-    };
-    id && tag && format
-}
-
-/// Whether `a + b` is above `most`.
-fn is_above(a: usize, b: usize, most: u32) -> bool
-    ensures { result ≡ nat_lt most (a + b) }
-{
-    let most = most as usize;
-    a > most || b > most - a
-}
-
-/// What comes of a transfer that is accepted.
-fn step(transfer: &Transfer<'_>) -> Step
-    ensures { result ≡ step_of (sent_of transfer.now []) }
-{
-    if transfer.aborted {
-        Step::Aborted
-    } else if transfer.more {
-        Step::Part
-    } else {
-        Step::Ready
-    }
-}
-
-/// The delivery that a transfer begins.
-fn begun<A: Allocator + Copy>(
-    alloc: A,
-    terms: &Terms,
-    transfer: &Transfer<'_>,
-    payload: &[u8],
-) -> Result<Held<A>, AllocError>
-    requires tag { IfSome transfer.now.tag (λ tag. length tag.now ≤ 32) }
-    requires whole { IsFalse transfer.now.aborted }
-    ensures { IfOk result (λ held. delivery_of held ≡ spec.begun terms.now (sent_of transfer.now payload.now)) }
-{
-    let mode = match transfer.mode {
-        Some(mode) if !transfer.settled => mode,
-        _ => terms.mode,
-    };
-    Ok(Held {
-        id: transfer.id.unwrap_or(0),
-        tag: Tag::new(transfer.tag.unwrap_or(&[])),
-        format: transfer.format.unwrap_or(0),
-        mode,
-        settled: transfer.settled,
-        told: false,
-        message: Vec::from_slice(alloc, payload)?,
-    })
-}
-
-/// Puts an accepted transfer to its delivery.
-fn place<A: Allocator + Copy>(
-    alloc: A,
-    set: &mut OpenDeliveries<A>,
-    terms: &Terms,
-    transfer: &Transfer<'_>,
-    payload: &[u8],
-) -> Result<(), AllocError>
-    requires tag { is_none set.old.part ≡ true → IfSome transfer.now.tag (λ tag. length tag.now ≤ 32) }
-    requires fits { IsFalse transfer.now.aborted → set_bytes set.old + 96 + length payload.now < 2 ^ 64 }
-    ensures ok { OnOk result (set.new ≡ put set.old (sent_of transfer.now payload.now) (delivery_after terms.now set.old.part (sent_of transfer.now payload.now))) }
-    ensures err { OnErr result (set.new ≡ set.old) }
-    ensures grows { OnErr result (may_grow_at set.old.part (sent_of transfer.now payload.now) ≡ true) }
-{
-    if transfer.aborted {
-        set.discard();
-        return Ok(());
-    }
-    if set.has_part() {
-        set.extend(transfer.settled, payload)?;
-    } else {
-        set.begin(begun(alloc, terms, transfer, payload)?)?;
-    }
-    if !transfer.more {
-        set.finish();
-    }
-    Ok(())
+    delivery_count: u32,
+    draining: bool,
+    deliveries: OpenDeliveries<A>,
 }
 
 impl<A: Allocator + Copy> Model for Link<A> {
@@ -160,24 +57,25 @@ impl<A: Allocator + Copy> Model for Link<A> {
 
     ghost use Rattle.amqp_link.specs.Keeping.{link_of, IsLink};
 
-    ghost view = { λ a. link_of a.terms a.credit a.count a.marked a.set };
+    ghost view = { λ a. link_of a.terms a.credit a.delivery_count a.draining a.deliveries };
 
-    ghost invariant = { λ a. IsLink a.terms a.credit a.set };
+    ghost invariant = { λ a. IsLink a.terms a.credit a.deliveries };
 }
 
 impl<A: Allocator + Copy> Link<A> {
-    /// A link at its attach [2.6.3].
+    /// A link at its attach [2.6.3]. Takes no memory.
     pub fn attach(alloc: A, terms: Terms) -> Self
-        requires { terms.longest ≤ 2 ^ 30 }
         ensures { result ≡ link_begins terms }
     {
+        let delivery_count = terms.initial_delivery_count;
+        let deliveries = OpenDeliveries::new(alloc);
         Link {
             alloc,
             terms,
             credit: 0,
-            count: terms.first_count,
-            marked: false,
-            set: OpenDeliveries::new(alloc),
+            delivery_count,
+            draining: false,
+            deliveries,
         }
     }
 
@@ -189,102 +87,189 @@ impl<A: Allocator + Copy> Link<A> {
     }
 
     /// The delivery-count [2.6.7].
-    pub fn count(&self) -> u32
-        ensures { result ≡ self.now.count }
+    pub fn delivery_count(&self) -> u32
+        ensures { result ≡ self.now.delivery_count }
     {
-        self.count
+        self.delivery_count
     }
 
-    /// Whether the sender was asked to use its credit up, and has not said that it did.
+    /// Whether the sender was asked to use its credit up, and since then no credit was granted and no flow of
+    /// it left none [2.6.7].
     pub fn is_draining(&self) -> bool
-        ensures { result ≡ self.now.marked }
+        ensures { result ≡ self.now.draining }
     {
-        self.marked
-    }
-
-    /// Asks the sender to use its credit up [2.6.7].
-    pub fn drain(&mut self)
-        ensures { self.new ≡ link_after self.old Drains }
-    {
-        self.marked = true;
+        self.draining
     }
 
     /// Whether the next transfer begins a delivery.
     pub fn next_is_head(&self) -> bool
-        ensures { result ≡ is_none self.now.part }
+        ensures { result ≡ is_none self.now.unfinished }
     {
-        !self.set.has_part()
+        !self.deliveries.has_unfinished()
+    }
+
+    /// The delivery-id of the delivery whose last transfer has not come.
+    pub fn unfinished_id(&self) -> Option<u32>
+        ensures { result ≡ option_map (λ d. d.delivery_id) self.now.unfinished }
+    {
+        Some(self.deliveries.unfinished()?.delivery_id)
+    }
+
+    /// How many deliveries are open: neither given up nor both handed up and settled [2.6.12].
+    pub fn opened(&self) -> u32
+        ensures { result ≡ open_count self.now }
+    {
+        self.deliveries.len() as u32
+    }
+
+    /// How many are ready to be handed up: no more than the link allows.
+    pub fn ready(&self) -> u32
+        ensures value { result ≡ length self.now.ready }
+        ensures most { result ≤ self.now.terms.bounds.allowed }
+    {
+        self.deliveries.ready() as u32
+    }
+
+    /// How much credit can be granted: what is allowed, without the credit and the open deliveries.
+    pub fn room(&self) -> u32
+        ensures { self.now.credit + open_count self.now + result ≡ self.now.terms.bounds.allowed }
+    {
+        self.terms.bounds.allowed() - self.credit - self.opened()
     }
 
     /// Whether an open delivery has this id [2.6.12].
     pub fn has_open(&self, id: u32) -> bool
         ensures { result ≡ list_any (has_id id) (deliveries self.now) }
     {
-        self.set.has_id(id)
+        self.deliveries.has_id(id)
     }
 
     /// The bytes that count as kept: for each open delivery 64, its tag, and what is held of its
     /// message.
     pub fn held(&self) -> u64
-        ensures { result ≡ link_bytes self.now }
+        ensures value { result ≡ link_bytes self.now }
+        ensures most { result ≤ self.now.terms.bounds.allowed * (self.now.terms.bounds.max_message_size + 96) }
     {
-        self.set.bytes()
+        self.deliveries.bytes()
     }
 
-    /// Grants `n` places of credit, and clears the drain mark [2.6.7]. Refused, with nothing changed,
-    /// where credit and open deliveries would be more than the link allows.
+    /// Asks the sender to use its credit up [2.6.7], also where it has none. The flow that says so is the
+    /// caller's to write.
+    pub fn drain(&mut self)
+        ensures { self.new ≡ link_after self.old DrainAsked }
+    {
+        self.draining = true;
+    }
+
+    /// Grants `n` places of credit; the sender is then no longer asked to use its credit up, where `n` is 0
+    /// too [2.6.7]. The flow that says so is the caller's to write. Refused, with nothing changed, where credit
+    /// and open deliveries would be more than the link allows.
     pub fn grant(&mut self, n: u32) -> Result<(), TooMuchCredit>
         ensures may { OnOk result (LinkMay self.old (Granted n)) }
         ensures new { OnOk result (self.new ≡ link_after self.old (Granted n)) }
-        ensures much { OnErr result (self.old.terms.allowed < self.old.credit + open_count self.old + n) }
+        ensures much { OnErr result (self.old.terms.bounds.allowed < self.old.credit + open_count self.old + n) }
         ensures err { OnErr result (self.new ≡ self.old) }
     {
-        let used = u64::from(self.credit) + self.set.len() + u64::from(n);
-        if used > u64::from(self.terms.allowed) {
+        if n > self.room() {
             return Err(TooMuchCredit);
         }
         self.credit += n;
-        self.marked = false;
+        self.draining = false;
         Ok(())
     }
 
     /// Follows the delivery-count that a flow of the sender states [2.6.7], and answers whether the
-    /// sender has used its credit up as it was asked to; the drain mark is then clear. A count that is
+    /// sender has used its credit up as it was asked to, which it then is no longer. A count that is
     /// ahead by more than the credit is refused, with nothing changed; one that is behind says nothing.
     /// For a flow that states none, pass the known one (`laws::absent_count_is_the_known_one`).
     pub fn sender_count(&mut self, stated: u32) -> Result<bool, LinkFault>
-        ensures may { OnOk result (LinkMay self.old (Counted (Some stated))) }
-        ensures new { OnOk result (self.new ≡ link_after self.old (Counted (Some stated))) }
+        ensures may { OnOk result (LinkMay self.old (FlowStated (Some stated))) }
+        ensures new { OnOk result (self.new ≡ link_after self.old (FlowStated (Some stated))) }
         ensures drained { IfOk result (λ drained. drained ≡ is_drained self.old (Some stated)) }
-        ensures beyond { IfErr result (λ e. (e ≡ LinkFault.TransferLimit) × (is_beyond self.old.count self.old.credit (Some stated) ≡ true)) }
+        ensures beyond { IfErr result (λ e. (e ≡ LinkFault.TransferLimit) × (is_beyond self.old.delivery_count self.old.credit (Some stated) ≡ true)) }
         ensures err { OnErr result (self.new ≡ self.old) }
     {
-        let ahead = Serial(self.count).distance(Serial(stated));
+        let known = Serial(self.delivery_count);
+        let ahead = known.distance(Serial(stated));
         if ahead > self.credit && ahead < 1 << 31 {
             return Err(LinkFault::TransferLimit);
         }
         let advance = if ahead <= self.credit { ahead } else { 0 };
         self.credit -= advance;
-        self.count = self.count.wrapping_add(advance);
-        let drained = self.marked && self.credit == 0;
-        self.marked = self.marked && self.credit != 0;
+        self.delivery_count = known.add(advance).0;
+        let drained = self.draining && self.credit == 0;
+        if self.credit == 0 {
+            self.draining = false;
+        }
         Ok(drained)
     }
 
-    /// Hands up the first ready delivery, in the order in which they began; `None` where none is. It
-    /// stays open until it is settled. Takes no memory.
+    /// Hands up the first ready delivery, in the order in which they began; `None` where none is. Unless its
+    /// sender has settled it, it stays open until it is settled. Takes no memory.
     pub fn take(&mut self) -> Option<Taken<A>>
-        ensures none { IfNone result ((self.old.ready ≡ []) × (self.new ≡ self.old)) }
-        ensures may { IfSome result (λ taken. (d : Delivery) × IsHandedUp taken d × LinkMay self.old (Took d) × (self.new ≡ link_after self.old (Took d))) }
+        ensures none { IfNone result ((first_ready self.old ≡ None) × (self.new ≡ self.old)) }
+        ensures some { IfSome result (λ taken. IsSomeAnd (first_ready self.old) (λ d. IsHandedUp taken d × (self.new ≡ link_after self.old (HandedUp d)))) }
     {
-        let held = self.set.take()?;
+        let delivery = self.deliveries.take()?;
         Some(Taken {
-            id: held.id,
-            tag: held.tag,
-            format: held.format,
-            settled: held.settled,
-            message: Message::from_vec(held.message),
+            delivery_id: delivery.delivery_id,
+            delivery_tag: delivery.delivery_tag,
+            message_format: delivery.message_format,
+            settled: delivery.settled,
+            message: Message::from_vec(delivery.message),
         })
+    }
+
+    /// How the delivery with this id stands, as to its settlement by the receiver. No other open delivery has
+    /// the id: that is the business of the session [2.6.12].
+    pub fn standing(&self, id: u32) -> Standing
+        ensures { result ≡ standing_of id (open_set self.now) }
+    {
+        self.deliveries.standing(id)
+    }
+
+    /// Why the receiver can't settle the ids from `first` to `last`: `NotTaken` where an open delivery with
+    /// one of them was not handed up, else `AlreadyTold` where the sender was told of one. `None` where it
+    /// can, also where no open delivery has any of the ids.
+    pub fn settle_fault(&self, first: u32, last: u32) -> Option<SettleFault>
+        ensures { result ≡ settle_fault first last (open_set self.now) }
+    {
+        let ids = Ids { first, last };
+        if self.deliveries.names_untaken(ids) {
+            Some(SettleFault::NotTaken)
+        } else if self.deliveries.names_told(ids) {
+            Some(SettleFault::AlreadyTold)
+        } else {
+            None
+        }
+    }
+
+    /// The receiver settles the ids from `first` to `last` [2.6.12, 2.8.3]: a delivery in mode first is open
+    /// no longer; of one in mode second the sender is told, who settles it. Answers how many open deliveries
+    /// have one of the ids. The disposition that says so is the caller's to write. Refused, with nothing
+    /// changed, where [`Link::settle_fault`] says why. Takes no memory.
+    pub fn settle(&mut self, first: u32, last: u32) -> Result<u32, SettleFault>
+        ensures may { OnOk result (LinkMay self.old (ReceiverSettled first last)) }
+        ensures new { OnOk result (self.new ≡ link_after self.old (ReceiverSettled first last)) }
+        ensures count { IfOk result (λ n. n ≡ named_count first last (open_set self.old)) }
+        ensures refused { IfErr result (λ e. settle_fault first last (open_set self.old) ≡ Some e) }
+        ensures err { OnErr result (self.new ≡ self.old) }
+    {
+        match self.settle_fault(first, last) {
+            Some(fault) => Err(fault),
+            None => Ok(self.deliveries.settle_by_receiver(Ids { first, last }) as u32),
+        }
+    }
+
+    /// The sender settles the ids from `first` to `last` [2.6.12, 2.7.6], also those of deliveries that were
+    /// not handed up, which stay open until they are. For a disposition without last, pass the first twice.
+    /// Answers how many open deliveries it settles that were not settled. Takes no memory.
+    pub fn peer_settled(&mut self, first: u32, last: u32) -> u32
+        ensures new { self.new ≡ link_after self.old (SenderSettled first last) }
+        ensures count { result ≡ newly_settled first last (open_set self.old) }
+        ensures most { result ≤ open_count self.old }
+    {
+        self.deliveries.settle_by_sender(Ids { first, last }) as u32
     }
 
     /// Takes a transfer and its payload [2.6.14]. A refused one changes nothing. The faults are looked
@@ -295,61 +280,122 @@ impl<A: Allocator + Copy> Link<A> {
     /// `NoMemory` is answered only where none of these holds, and never for an aborted transfer, nor for
     /// a later one without payload.
     pub fn transfer(&mut self, transfer: &Transfer<'_>, payload: &[u8]) -> Result<Step, LinkFault>
-        ensures may { OnOk result (LinkMay self.old (Came (sent_of transfer.now payload.now))) }
-        ensures new { OnOk result (self.new ≡ link_after self.old (Came (sent_of transfer.now payload.now))) }
+        ensures may { OnOk result (LinkMay self.old (Transferred (sent_of transfer.now payload.now))) }
+        ensures new { OnOk result (self.new ≡ link_after self.old (Transferred (sent_of transfer.now payload.now))) }
         ensures step { IfOk result (λ step. step ≡ step_of (sent_of transfer.now payload.now)) }
         ensures refused { IfErr result (λ e. IsRefusal self.old (sent_of transfer.now payload.now) e) }
         ensures err { OnErr result (self.new ≡ self.old) }
     {
-        match self.judge(transfer, payload) {
-            Some(fault) => return Err(fault),
-            None => {}
+        if let Some(fault) = self.judge(transfer, payload) {
+            return Err(fault);
         }
         let begins = self.next_is_head();
-        place(self.alloc, &mut self.set, &self.terms, transfer, payload)?;
+        apply(
+            self.alloc,
+            &mut self.deliveries,
+            &self.terms,
+            transfer,
+            payload,
+        )?;
         if begins {
             self.credit -= 1;
-            self.count = self.count.wrapping_add(1);
+            self.delivery_count = self.delivery_count.wrapping_add(1);
         }
-        Ok(step(transfer))
+        Ok(judge::step(transfer))
     }
 
     /// The fault of a transfer, but for want of memory.
     fn judge(&self, transfer: &Transfer<'_>, payload: &[u8]) -> Option<LinkFault>
         ensures { result ≡ fault_of self.now (sent_of transfer.now payload.now) }
     {
-        let part = self.set.part();
+        let unfinished = self.deliveries.unfinished();
         if transfer.resume {
             return Some(LinkFault::NotImplemented);
         }
-        let formed = match part {
-            None => is_head(&self.terms, transfer),
-            Some(held) => is_continuation(held, transfer),
+        let formed = match unfinished {
+            None => judge::is_formed_head(&self.terms, transfer),
+            Some(delivery) => judge::is_formed_continuation(delivery, transfer),
         };
         if !formed {
             return Some(LinkFault::InvalidField);
         }
-        if part.is_none() && self.credit == 0 {
+        if unfinished.is_none() && self.credit == 0 {
             return Some(LinkFault::TransferLimit);
         }
-        let before = match part {
+        let before = match unfinished {
             None => 0,
-            Some(held) => held.message.len(),
+            Some(delivery) => delivery.message.len(),
         };
-        if !transfer.aborted && is_above(before, payload.len(), self.terms.longest) {
+        let most = self.terms.bounds.max_message_size();
+        if !transfer.aborted && judge::is_above(before, payload.len(), most) {
             return Some(LinkFault::MessageSize);
         }
         None
     }
 
-    /// Drops all open deliveries, and answers how many were ready and not handed up. The link's part has
-    /// ended with it: it is no event of the history, and no event follows it.
-    pub fn drop_all(&mut self) -> u32
-        ensures count { result ≡ length self.old.ready }
-        ensures new { self.new ≡ record self.old { taken = []; ready = []; part = None } }
+    /// Drops the link with its open deliveries, and answers how many were ready and not handed up. The link's
+    /// life has ended: its history takes no further event.
+    pub fn drop_all(self) -> u32
+        ensures { result ≡ length self.ready }
     {
-        self.set.clear() as u32
+        self.ready()
     }
+}
+
+/// Puts an accepted transfer to its delivery.
+fn apply<A: Allocator + Copy>(
+    alloc: A,
+    deliveries: &mut OpenDeliveries<A>,
+    terms: &Terms,
+    transfer: &Transfer<'_>,
+    payload: &[u8],
+) -> Result<(), AllocError>
+    requires tag { is_none deliveries.old.unfinished ≡ true → IfSome transfer.now.delivery_tag (λ tag. length tag.now ≤ 32) }
+    requires fits { IsFalse transfer.now.aborted → set_bytes deliveries.old + 96 + length payload.now < 2 ^ 64 }
+    ensures ok { OnOk result (deliveries.new ≡ with_delivery deliveries.old (sent_of transfer.now payload.now) (delivery_after terms.now deliveries.old.unfinished (sent_of transfer.now payload.now))) }
+    ensures err { OnErr result (deliveries.new ≡ deliveries.old) }
+    ensures grows { OnErr result (may_grow_at deliveries.old.unfinished (sent_of transfer.now payload.now) ≡ true) }
+{
+    if transfer.aborted {
+        deliveries.discard();
+        return Ok(());
+    }
+    if deliveries.has_unfinished() {
+        deliveries.extend(judge::is_settled(transfer), payload)?;
+    } else {
+        deliveries.begin(begun(alloc, terms, transfer, payload)?)?;
+    }
+    if !transfer.more {
+        deliveries.finish();
+    }
+    Ok(())
+}
+
+/// The delivery that a transfer begins.
+fn begun<A: Allocator + Copy>(
+    alloc: A,
+    terms: &Terms,
+    transfer: &Transfer<'_>,
+    payload: &[u8],
+) -> Result<OpenDelivery<A>, AllocError>
+    requires tag { IfSome transfer.now.delivery_tag (λ tag. length tag.now ≤ 32) }
+    requires whole { IsFalse transfer.now.aborted }
+    ensures { IfOk result (λ d. delivery_of d ≡ spec.begun terms.now (sent_of transfer.now payload.now)) }
+{
+    let settled = judge::is_settled(transfer);
+    let rcv_settle_mode = match transfer.rcv_settle_mode {
+        Some(mode) if !settled => mode,
+        _ => terms.rcv_settle_mode,
+    };
+    Ok(OpenDelivery {
+        delivery_id: transfer.delivery_id.unwrap_or(0),
+        delivery_tag: Tag::new(transfer.delivery_tag.unwrap_or(&[])),
+        message_format: transfer.message_format.unwrap_or(0),
+        rcv_settle_mode,
+        settled,
+        told: false,
+        message: Vec::from_slice(alloc, payload)?,
+    })
 }
 
 #[cfg(test)]

@@ -1,5 +1,5 @@
 //! A message that was handed up.
-ghost use Rattle.std.specs.Prelude.{◌≡◌, ℕ, length, take, IfOk, OnOk, OnErr, IsTrue, ◌↔◌, []};
+ghost use Rattle.std.specs.Prelude.{◌≡◌, ◌<◌, ◌++◌, ℕ, List, length, take, drop, IfOk, OnOk, OnErr, IsTrue, ◌↔◌, []};
 ghost use Rattle.std.specs.Io.KnownBytes.{Appends};
 
 use std::alloc::{AllocError, Allocator, Global};
@@ -40,6 +40,17 @@ impl<A: Allocator + Copy> Message<A> {
         ensures { IsTrue result ↔ (self.now ≡ []) }
     {
         self.bytes.is_empty()
+    }
+
+    /// Its bytes from `at` on, as many as lie in one piece: some, before its end, and none from there on.
+    pub fn piece(&self, at: usize) -> &[u8]
+        ensures front { (behind : List ℕ) × (drop at self.now ≡ result.now ++ behind) }
+        ensures some { at < length self.now → 0 < length result.now }
+    {
+        match self.bytes.get(at..) {
+            None => &[],
+            Some(piece) => piece,
+        }
     }
 
     /// Its bytes in a new vector.

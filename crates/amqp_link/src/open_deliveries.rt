@@ -1,151 +1,103 @@
 //! The open deliveries of a link.
-ghost use Rattle.std.specs.Prelude.{◌≡◌, ◌<◌, ◌+◌, ◌^◌, ◌||◌, ◌++◌, ◌∷◌, [], List, length, drop, OnOk, OnErr, IfOk, IfSome, IfNone, IsOk, IsSome, is_some, option_map, map};
-ghost use Rattle.std.specs.List.{list_any, AllByRecursion};
-ghost use Rattle.slab.specs.Slab.{get, ContainsKey};
-ghost use Rattle.amqp_link.specs.Links.{Delivery, OpenSet, in_order, set_bytes, delivery_bytes, left_open, has_id, how_many};
-ghost use Rattle.amqp_link.specs.Keeping.{delivery_of, at_key};
+ghost use Rattle.std.specs.Prelude.{◌≡◌, ◌≤◌, ◌<◌, ◌+◌, ◌^◌, ◌||◌, ◌++◌, ◌∷◌, [], List, length, drop, slice_get, OnOk, OnErr, IfSome, IfNone, IsOk, is_some, option_map, option_to_list, Some, None, find, map, count_by, not, ◌&&◌};
+ghost use Rattle.std.specs.List.{list_any};
+ghost use Rattle.amqp_link.specs.Links.{Delivery, OpenSet, in_order, set_bytes, delivery_bytes, left_open, has_id, how_many, untaken, is_covered, sender_settled_by, names_untaken, names_told, named_count, newly_settled, receiver_settled_in, sender_settled_in, standing_of};
+ghost use Rattle.amqp_link.specs.Keeping.{delivery_of, asks_of, counts, settled_list};
 
-use crate::tag::Tag;
-use crate::transfer::SettleMode;
+use crate::open_delivery::{Ids, OpenDelivery, Question, Settler, Settling};
+use crate::places;
+use crate::settlement::Standing;
 use slab::Slab;
 use std::alloc::{AllocError, Allocator, Global};
-use std::collections::VecDeque;
 use std::marker::Model;
-use std::mem;
 
-/// What is held of a delivery.
-#[derive(Drop)]
-pub struct Held<A: Allocator + Copy = Global> {
-    pub id: u32,
-    pub tag: Tag,
-    pub format: u32,
-    pub mode: SettleMode,
-    pub settled: bool,
-    pub told: bool,
-    pub message: Vec<u8, A>,
-}
-
-/// The open deliveries, each under a key of its own, and the keys in link order.
+/// The open deliveries, each under a key of its own, and their places in link order.
 ///
-/// The room that a delivery's key needs where it comes to stand later is made when it begins.
+/// The place that a delivery needs once it is whole is made when it begins. A delivery that is settled leaves
+/// its place empty, so that no other moves; empty places are closed up when a delivery begins, once there is no
+/// room behind them and three in four are empty.
 #[derive(Drop)]
 pub struct OpenDeliveries<A: Allocator + Copy = Global> {
     alloc: A,
-    slab: Slab<Held<A>, A>,
-    /// Handed up, and not settled.
-    taken: Vec<usize, A>,
-    /// Whole, and not handed up.
-    ready: VecDeque<usize, A>,
+    slab: Slab<OpenDelivery<A>, A>,
+    /// Those that are whole, and empty places.
+    order: Vec<Option<usize>, A>,
+    /// So many places are of deliveries that were handed up; those behind them are of ready ones.
+    handed_up: usize,
     /// The last transfer has not come.
-    part: Option<usize>,
+    unfinished: Option<usize>,
     bytes: u64,
 }
 
 impl<A: Allocator + Copy> Model for OpenDeliveries<A> {
     ghost use Rattle.std.specs.Prelude.{vec_capacity};
-    ghost use Rattle.std.specs.VecDeque.{deque_capacity};
     ghost use Rattle.amqp_link.specs.Links.{OpenSet};
 
     ghost Value = { OpenSet };
 
-    ghost use Rattle.amqp_link.specs.Keeping.{set_of_keys, IsKept};
+    ghost use Rattle.amqp_link.specs.Keeping.{set_at, IsKeptAt};
 
-    ghost view = { λ a. set_of_keys a.slab a.taken.items a.ready.items a.part };
+    ghost view = { λ a. set_at a.slab a.order.items a.handed_up a.unfinished };
 
-    ghost invariant = { λ a. IsKept a.slab a.taken.items a.ready.items a.part a.bytes (vec_capacity a.taken) (deque_capacity a.ready) };
+    ghost invariant = { λ a. IsKeptAt a.slab a.order.items a.handed_up a.unfinished a.bytes (vec_capacity a.order) };
 }
 
-/// The bytes that count as kept of a delivery.
-fn bytes_of<A: Allocator + Copy>(held: &Held<A>) -> u64
-    ensures { result ≡ delivery_bytes (delivery_of held.now) }
-{
-    64 + held.tag.as_bytes().len() as u64 + held.message.len() as u64
-}
-
-/// One transfer more of a delivery.
-fn extend<A: Allocator + Copy>(
-    held: &mut Held<A>,
-    settled: bool,
-    payload: &[u8],
-) -> Result<(), AllocError>
-    ensures ok { OnOk result (delivery_of held.new ≡ record (delivery_of held.old) { settled = held.old.settled || settled; message = held.old.message.items ++ payload.now }) }
-    ensures err { OnErr result (delivery_of held.new ≡ delivery_of held.old) }
-    ensures empty { payload.now ≡ [] → IsOk result }
-{
-    held.message.extend_from_slice(payload)?;
-    held.settled = held.settled || settled;
-    Ok(())
-}
-
-/// Moves the message out, and leaves none.
-fn hand_up<A: Allocator + Copy>(alloc: A, held: &mut Held<A>) -> Held<A>
-    ensures result { delivery_of result ≡ delivery_of held.old }
-    ensures left { delivery_of held.new ≡ record (delivery_of held.old) { message = [] } }
-{
-    Held {
-        id: held.id,
-        tag: held.tag,
-        format: held.format,
-        mode: held.mode,
-        settled: held.settled,
-        told: held.told,
-        message: mem::replace(&mut held.message, Vec::new(alloc)),
-    }
-}
-
-/// Whether a delivery under one of these keys has this id.
-fn any_has<A: Allocator + Copy>(slab: &Slab<Held<A>, A>, keys: &[usize], id: u32) -> bool
-    requires { AllByRecursion (ContainsKey slab.now) keys.now }
-    ensures { result ≡ list_any (has_id id) (map (at_key slab.now) keys.now) }
-{
-    for key in keys {
-        if slab[*key].id == id {
-            return true;
-        }
-    }
-    false
-}
+/// Open deliveries beyond which empty places are closed up: of fewer places it is not worth while.
+const FEW: usize = 4;
 
 impl<A: Allocator + Copy> OpenDeliveries<A> {
     /// None is open.
     pub fn new(alloc: A) -> Self
-        ensures { result ≡ record { taken = []; ready = []; part = None } }
+        ensures { result ≡ record { awaiting = []; ready = []; unfinished = None } }
     {
         OpenDeliveries {
             alloc,
             slab: Slab::new(alloc),
-            taken: Vec::new(alloc),
-            ready: VecDeque::new(alloc),
-            part: None,
+            order: Vec::new(alloc),
+            handed_up: 0,
+            unfinished: None,
             bytes: 0,
         }
     }
 
     /// A delivery begins. It takes all the memory that it needs before anything changes, that for
-    /// its place among the others until it is settled too.
-    pub fn begin(&mut self, held: Held<A>) -> Result<(), AllocError>
-        requires none { self.old.part ≡ None }
-        requires fits { set_bytes self.old + delivery_bytes (delivery_of held) < 2 ^ 64 }
-        ensures ok { OnOk result (self.new ≡ record self.old { part = Some (delivery_of held) }) }
+    /// its place among the others too.
+    pub fn begin(&mut self, delivery: OpenDelivery<A>) -> Result<(), AllocError>
+        requires none { self.old.unfinished ≡ None }
+        requires fits { set_bytes self.old + delivery_bytes (delivery_of delivery) < 2 ^ 64 }
+        ensures ok { OnOk result (self.new ≡ record self.old { unfinished = Some (delivery_of delivery) }) }
         ensures err { OnErr result (self.new ≡ self.old) }
     {
+        self.close_up();
         self.slab.reserve(1)?;
-        self.taken.reserve(self.ready.len() + 1)?;
-        self.ready.reserve(1)?;
-        self.bytes += bytes_of(&held);
-        self.part = Some(self.slab.insert_reserved(held));
+        self.order.reserve(1)?;
+        self.bytes += delivery.bytes();
+        self.unfinished = Some(self.slab.insert_reserved(delivery));
         Ok(())
+    }
+
+    /// Closes up the empty places, where there is no room behind them and three in four are empty.
+    fn close_up(&mut self)
+        ensures { self.new ≡ self.old }
+    {
+        let places = self.order.len();
+        if places < self.order.capacity() || places / 4 <= self.slab.len() + FEW {
+            return;
+        }
+        let ready = places - self.handed_up;
+        self.order.retain(|place| place.is_some());
+        self.handed_up = self.order.len() - ready;
     }
 
     /// One transfer more of the delivery that is unfinished.
     pub fn extend(&mut self, settled: bool, payload: &[u8]) -> Result<(), AllocError>
         requires fits { set_bytes self.old + length payload.now < 2 ^ 64 }
-        ensures ok { OnOk result ((d : Delivery) → self.old.part ≡ Some d → self.new ≡ record self.old { part = Some (record d { settled = d.settled || settled; message = d.message ++ payload.now }) }) }
+        ensures ok { OnOk result ((d : Delivery) → self.old.unfinished ≡ Some d → self.new ≡ record self.old { unfinished = Some (record d { settled = d.settled || settled; message = d.message ++ payload.now }) }) }
         ensures err { OnErr result (self.new ≡ self.old) }
         ensures empty { payload.now ≡ [] → IsOk result }
     {
-        if let Some(key) = self.part {
-            extend(&mut self.slab[key], settled, payload)?;
+        if let Some(key) = self.unfinished {
+            self.slab[key].extend(settled, payload)?;
             self.bytes += payload.len() as u64;
         }
         Ok(())
@@ -153,40 +105,42 @@ impl<A: Allocator + Copy> OpenDeliveries<A> {
 
     /// The delivery that is unfinished becomes ready.
     pub fn finish(&mut self)
-        ensures { (d : Delivery) → self.old.part ≡ Some d → self.new ≡ record self.old { ready = self.old.ready ++ d ∷ []; part = None } }
+        ensures { (d : Delivery) → self.old.unfinished ≡ Some d → self.new ≡ record self.old { ready = self.old.ready ++ d ∷ []; unfinished = None } }
     {
-        if let Some(key) = self.part {
-            self.part = None;
-            self.ready.push_back_reserved(key);
+        if let Some(key) = self.unfinished {
+            self.unfinished = None;
+            self.order.push_reserved(Some(key));
         }
     }
 
     /// The delivery that is unfinished goes.
     pub fn discard(&mut self)
-        ensures { self.new ≡ record self.old { part = None } }
+        ensures { self.new ≡ record self.old { unfinished = None } }
     {
-        if let Some(key) = self.part {
-            self.part = None;
-            self.bytes -= bytes_of(&self.slab.remove(key));
+        if let Some(key) = self.unfinished {
+            self.unfinished = None;
+            self.bytes -= self.slab.remove(key).bytes();
         }
     }
 
     /// The first ready delivery, with its message moved out. It stays open unless it is settled.
-    pub fn take(&mut self) -> Option<Held<A>>
-        ensures none { IfNone result ((self.old.ready ≡ []) × (self.new ≡ self.old)) }
-        ensures first { IfSome result (λ held. (later : List Delivery) × (self.old.ready ≡ delivery_of held ∷ later)) }
-        ensures some { IfSome result (λ held. self.new ≡ record self.old { taken = self.old.taken ++ left_open (delivery_of held); ready = drop 1 self.old.ready }) }
+    pub fn take(&mut self) -> Option<OpenDelivery<A>>
+        ensures none { IfNone result ((slice_get self.old.ready 0 ≡ None) × (self.new ≡ self.old)) }
+        ensures first { IfSome result (λ delivery. slice_get self.old.ready 0 ≡ Some (delivery_of delivery)) }
+        ensures some { IfSome result (λ delivery. self.new ≡ record self.old { awaiting = self.old.awaiting ++ left_open (delivery_of delivery); ready = drop 1 self.old.ready }) }
     {
-        let key = self.ready.pop_front()?;
+        let key = (*self.order.get(self.handed_up)?)?;
         if self.slab[key].settled {
-            let held = self.slab.remove(key);
-            self.bytes -= bytes_of(&held);
-            return Some(held);
+            self.order[self.handed_up] = None;
+            self.handed_up += 1;
+            let delivery = self.slab.remove(key);
+            self.bytes -= delivery.bytes();
+            return Some(delivery);
         }
-        let held = hand_up(self.alloc, &mut self.slab[key]);
-        self.taken.push_reserved(key);
-        self.bytes -= held.message.len() as u64;
-        Some(held)
+        self.handed_up += 1;
+        let delivery = self.slab[key].hand_up(self.alloc);
+        self.bytes -= delivery.message.len() as u64;
+        Some(delivery)
     }
 
     /// The bytes that count as kept of all open deliveries.
@@ -196,58 +150,163 @@ impl<A: Allocator + Copy> OpenDeliveries<A> {
         self.bytes
     }
 
-    /// Whether a delivery is unfinished.
-    pub fn has_part(&self) -> bool
-        ensures { result ≡ is_some self.now.part }
-    {
-        self.part.is_some()
-    }
-
     /// The delivery that is unfinished.
-    pub fn part(&self) -> Option<&Held<A>>
-        ensures { option_map (λ held. delivery_of held.now) result ≡ self.now.part }
+    pub fn unfinished(&self) -> Option<&OpenDelivery<A>>
+        ensures { option_map (λ d. delivery_of d.now) result ≡ self.now.unfinished }
     {
-        match self.part {
+        match self.unfinished {
             None => None,
             Some(key) => self.slab.get(key),
         }
     }
 
-    /// How many deliveries are open.
-    pub fn len(&self) -> u64
-        requires { how_many self.now < 2 ^ 32 }
-        ensures { result ≡ how_many self.now }
+    /// Whether a delivery is unfinished.
+    pub fn has_unfinished(&self) -> bool
+        ensures { result ≡ is_some self.now.unfinished }
     {
-        self.taken.len() as u64 + self.ready.len() as u64 + u64::from(self.part.is_some())
+        self.unfinished.is_some()
     }
 
-    /// Drops all, and answers how many were ready.
-    pub fn clear(&mut self) -> usize
-        ensures count { result ≡ length self.old.ready }
-        ensures new { self.new ≡ record { taken = []; ready = []; part = None } }
+    /// How many deliveries are open.
+    pub fn len(&self) -> usize
+        ensures { result ≡ how_many self.now }
     {
-        let ready = self.ready.len();
-        self.slab.clear();
-        self.taken.clear();
-        self.ready.clear();
-        self.part = None;
-        self.bytes = 0;
-        ready
+        self.slab.len()
+    }
+
+    /// How many are ready.
+    pub fn ready(&self) -> usize
+        ensures { result ≡ length self.now.ready }
+    {
+        self.order.len() - self.handed_up
+    }
+
+    /// The first that was handed up of which a question is answered by yes.
+    fn find_handed_up(&self, question: Question) -> Option<&OpenDelivery<A>>
+        ensures { option_map (λ d. delivery_of d.now) result ≡ find (asks_of question) self.now.awaiting }
+    {
+        places::find(&self.slab, &self.order[..self.handed_up], question)
+    }
+
+    /// The first ready one of which a question is answered by yes.
+    fn find_ready(&self, question: Question) -> Option<&OpenDelivery<A>>
+        ensures { option_map (λ d. delivery_of d.now) result ≡ find (asks_of question) self.now.ready }
+    {
+        places::find(&self.slab, &self.order[self.handed_up..], question)
+    }
+
+    /// Whether the delivery that is unfinished answers a question by yes.
+    fn is_unfinished(&self, question: Question) -> bool
+        ensures { result ≡ list_any (asks_of question) (option_to_list self.now.unfinished) }
+    {
+        match self.unfinished() {
+            None => false,
+            Some(delivery) => delivery.answers(question),
+        }
+    }
+
+    /// Whether one that was not handed up answers a question by yes.
+    fn is_untaken(&self, question: Question) -> bool
+        ensures { result ≡ list_any (asks_of question) (untaken self.now) }
+    {
+        self.find_ready(question).is_some() || self.is_unfinished(question)
     }
 
     /// Whether an open delivery has this id.
     pub fn has_id(&self, id: u32) -> bool
         ensures { result ≡ list_any (has_id id) (in_order self.now) }
     {
-        let (front, back) = self.ready.as_slices();
-        let part = match self.part {
-            None => false,
-            Some(key) => self.slab[key].id == id,
+        let question = Question::HasId(id);
+        self.find_handed_up(question).is_some() || self.is_untaken(question)
+    }
+
+    /// How the delivery with this id stands.
+    pub fn standing(&self, id: u32) -> Standing
+        ensures { result ≡ standing_of id self.now }
+    {
+        let question = Question::HasId(id);
+        if self.is_untaken(question) {
+            return Standing::Untaken;
+        }
+        match self.find_handed_up(question) {
+            None => Standing::Absent,
+            Some(delivery) if delivery.told => Standing::Told,
+            Some(delivery) => Standing::Awaiting(delivery.rcv_settle_mode),
+        }
+    }
+
+    /// Whether one that was not handed up has one of these ids.
+    pub fn names_untaken(&self, ids: Ids) -> bool
+        ensures { result ≡ names_untaken ids.first ids.last self.now }
+    {
+        self.is_untaken(Question::IsCovered(ids))
+    }
+
+    /// Whether one of these ids is that of a delivery in mode second of which the sender was told.
+    pub fn names_told(&self, ids: Ids) -> bool
+        ensures { result ≡ names_told ids.first ids.last self.now }
+    {
+        self.find_handed_up(Question::IsTold(ids)).is_some()
+    }
+
+    /// The receiver settles these ids, or tells of them. Answers how many deliveries have one.
+    pub fn settle_by_receiver(&mut self, ids: Ids) -> usize
+        ensures count { result ≡ named_count ids.first ids.last self.old }
+        ensures new { self.new ≡ receiver_settled_in ids.first ids.last self.old }
+    {
+        self.settle_handed_up(Settling {
+            settler: Settler::Receiver,
+            ids,
+        })
+    }
+
+    /// The sender settles these ids. Answers how many deliveries it settles that were not.
+    pub fn settle_by_sender(&mut self, ids: Ids) -> usize
+        ensures count { result ≡ newly_settled ids.first ids.last self.old }
+        ensures new { self.new ≡ sender_settled_in ids.first ids.last self.old }
+    {
+        let handed_up = self.settle_handed_up(Settling {
+            settler: Settler::SenderOfHandedUp,
+            ids,
+        });
+        handed_up + self.settle_ready(ids) + self.settle_unfinished(ids)
+    }
+
+    /// Settles those that were handed up.
+    fn settle_handed_up(&mut self, settling: Settling) -> usize
+        ensures count { result ≡ count_by (counts settling) self.old.awaiting }
+        ensures new { self.new ≡ record self.old { awaiting = settled_list settling self.old.awaiting } }
+        ensures fits { how_many self.old < 2 ^ 63 }
+    {
+        let handed_up = self.order.slice_mut(..self.handed_up);
+        let settled = places::settle(&mut self.slab, handed_up, settling);
+        self.bytes -= settled.freed;
+        settled.count
+    }
+
+    /// The sender settles those that are ready. They stay open.
+    fn settle_ready(&mut self, ids: Ids) -> usize
+        ensures count { result ≡ count_by (λ d. not d.settled && is_covered ids.first ids.last d) self.old.ready }
+        ensures new { self.new ≡ record self.old { ready = map (sender_settled_by ids.first ids.last) self.old.ready } }
+    {
+        let ready = self.order.slice_mut(self.handed_up..);
+        let settling = Settling {
+            settler: Settler::SenderOfUntaken,
+            ids,
         };
-        any_has(&self.slab, self.taken.as_slice(), id)
-            || any_has(&self.slab, front, id)
-            || any_has(&self.slab, back, id)
-            || part
+        places::settle(&mut self.slab, ready, settling).count
+    }
+
+    /// The sender settles the one that is unfinished. It stays open.
+    fn settle_unfinished(&mut self, ids: Ids) -> usize
+        ensures count { result ≡ count_by (λ d. not d.settled && is_covered ids.first ids.last d) (option_to_list self.old.unfinished) }
+        ensures new { self.new ≡ record self.old { unfinished = option_map (sender_settled_by ids.first ids.last) self.old.unfinished } }
+    {
+        let settling = Settling {
+            settler: Settler::SenderOfUntaken,
+            ids,
+        };
+        places::settle_at(&mut self.slab, &mut self.unfinished, settling).count
     }
 }
 

@@ -31,7 +31,7 @@ impl Model for Tag {
 
 impl Tag {
     /// The tag of these bytes.
-    pub fn new(tag: &[u8]) -> Tag
+    pub(crate) fn new(tag: &[u8]) -> Tag
         requires { length tag.now ≤ 32 }
         ensures { result ≡ tag.now }
     {

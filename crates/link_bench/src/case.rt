@@ -2,7 +2,7 @@
 
 use bench_order::Named;
 
-/// The deliveries that stay open on the link while others come and go, 1,024 of them or none.
+/// The deliveries that stay open on the link while others come and go, 1,000 of them or none.
 #[derive(Clone, Copy)]
 pub enum Open {
     /// No other.
@@ -16,8 +16,11 @@ pub enum Open {
 /// What is done with the frames of a message.
 #[derive(Clone, Copy)]
 pub enum Way {
-    /// A link is granted credit, takes the frames and hands the message up.
+    /// A link is granted credit, takes the frames and hands the message up, which its sender has settled.
     Link(Open),
+    /// The receiver settles one of 1,000 deliveries that were handed up, in the middle of them, and the message that
+    /// then comes is handed up in its place, not settled.
+    Settle,
     /// The payloads are copied into a new vector.
     Copy,
 }
@@ -61,11 +64,12 @@ const fn large(name: &'static str, way: Way) -> Case {
 }
 
 /// Every case, in the order in which they are measured.
-pub fn cases() -> [Case; 6] {
+pub fn cases() -> [Case; 7] {
     [
         small("small", Way::Link(Open::No)),
-        small("small-1024-ready", Way::Link(Open::Ready)),
-        small("small-1024-taken", Way::Link(Open::Taken)),
+        small("small-1000-ready", Way::Link(Open::Ready)),
+        small("small-1000-taken", Way::Link(Open::Taken)),
+        small("settle-1000", Way::Settle),
         large("large", Way::Link(Open::No)),
         small("copy-small", Way::Copy),
         large("copy-large", Way::Copy),

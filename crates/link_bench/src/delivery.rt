@@ -1,12 +1,14 @@
 //! One delivery after the other on a link, or copied.
-ghost use Rattle.std.specs.Prelude.{◌≤◌, ◌^◌};
 
 use crate::case::Open;
-use amqp_link::{Link, LinkFault, SettleMode, Step, Terms, TooMuchCredit, Transfer};
+use amqp_link::{
+    Link, LinkBounds, LinkFault, MAX_ALLOWED, SettleFault, Step, Terms, TooMuchCredit,
+};
+use amqp_perform::{ReceiverSettleMode, Transfer};
 use std::alloc::{AllocError, Global};
 
-/// How many deliveries are open before the first one is measured.
-const OPEN: u32 = 1024;
+/// How many deliveries are open before the first one is measured, whose ids are those below it.
+const OPEN: u32 = 1000;
 
 /// Why a delivery did not come through.
 #[derive(Clone, Copy, Debug, Drop)]
@@ -17,6 +19,10 @@ pub enum Stopped {
     Link(LinkFault),
     /// No delivery was ready.
     NothingReady,
+    /// The delivery to be settled was not open.
+    NothingSettled,
+    /// The link refused to settle a delivery.
+    Settle(SettleFault),
 }
 
 impl From<TooMuchCredit> for Stopped {
@@ -31,38 +37,44 @@ impl From<LinkFault> for Stopped {
     }
 }
 
+impl From<SettleFault> for Stopped {
+    fn from(fault: SettleFault) -> Stopped {
+        Stopped::Settle(fault)
+    }
+}
+
 /// What a link is attached with.
-fn terms() -> Terms
-    ensures { result.longest ≤ 2 ^ 30 }
-{
+fn terms() -> Terms {
     Terms {
-        first_count: 0,
-        mode: SettleMode::First,
-        allowed: 2 * OPEN,
-        longest: 1_000_000,
+        initial_delivery_count: 0,
+        rcv_settle_mode: ReceiverSettleMode::First,
+        bounds: LinkBounds::new(MAX_ALLOWED, 1_000_000).unwrap(),
     }
 }
 
 /// A transfer that begins a delivery.
 fn head(id: u32, settled: bool, more: bool) -> Transfer<'static> {
     Transfer {
-        id: Some(id),
-        tag: Some(b"tag".as_slice()),
-        format: Some(0),
-        settled,
+        handle: 0,
+        delivery_id: Some(id),
+        delivery_tag: Some(b"tag".as_slice()),
+        message_format: Some(0),
+        settled: Some(settled),
         more,
-        mode: None,
+        rcv_settle_mode: None,
+        state: &[],
         resume: false,
         aborted: false,
+        batchable: &[],
     }
 }
 
 /// A transfer that goes on with one.
 fn rest(more: bool) -> Transfer<'static> {
     Transfer {
-        id: None,
-        tag: None,
-        format: None,
+        delivery_id: None,
+        delivery_tag: None,
+        message_format: None,
         ..head(0, true, more)
     }
 }
@@ -82,7 +94,7 @@ fn arrive(
     }
     match step {
         Step::Ready => Ok(()),
-        Step::Part | Step::Aborted => Err(Stopped::NothingReady),
+        Step::Unfinished | Step::Aborted => Err(Stopped::NothingReady),
     }
 }
 
@@ -109,9 +121,21 @@ pub fn link_with(alloc: Global, open: Open, payload: &[u8]) -> Result<Link, Stop
     Ok(link)
 }
 
-/// One delivery comes, settled by its sender, and the first that is ready is handed up. Answers how long it was.
-pub fn deliver(link: &mut Link, id: u32, frames: u32, payload: &[u8]) -> Result<u64, Stopped> {
-    arrive(link, id, true, frames, payload)?;
+/// The delivery of this round comes, settled by its sender, and the first that is ready is handed up. Answers how long
+/// that was.
+pub fn deliver(link: &mut Link, round: u32, frames: u32, payload: &[u8]) -> Result<u64, Stopped> {
+    arrive(link, OPEN.wrapping_add(round), true, frames, payload)?;
+    leave(link)
+}
+
+/// Of the deliveries that were handed up the receiver settles the one with as many behind it as before it. Then that
+/// of this round comes in one frame, and is handed up to await settlement. Answers how long it was.
+pub fn settle_and_deliver(link: &mut Link, round: u32, payload: &[u8]) -> Result<u64, Stopped> {
+    let settled = (OPEN / 2).wrapping_add(round);
+    if link.settle(settled, settled)? != 1 {
+        return Err(Stopped::NothingSettled);
+    }
+    arrive(link, OPEN.wrapping_add(round), false, 1, payload)?;
     leave(link)
 }
 

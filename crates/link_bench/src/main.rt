@@ -1,5 +1,4 @@
-//! Times the deliveries of one link, beside a plain copy of the same bytes, and tests a link over an allocator
-//! that refuses.
+//! Times the deliveries of one link, beside a plain copy of the same bytes.
 #![tactic(auto)]
 
 mod case;
@@ -21,8 +20,3 @@ fn main(rt: HostRuntime) -> Result<(), measure::Failure> {
         None => Ok(println!(rt; "{USAGE}")?),
     }
 }
-
-#[cfg(test)]
-mod refusing;
-#[cfg(test)]
-mod tests;

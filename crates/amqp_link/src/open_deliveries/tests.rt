@@ -1,32 +1,32 @@
 use super::*;
 
 /// The bytes that the fields of a delivery hold.
-fn held_by(held: &Held) -> usize {
-    let Held {
-        id: _,
-        tag,
-        format: _,
-        mode: _,
+fn held_by(delivery: &OpenDelivery) -> usize {
+    let OpenDelivery {
+        delivery_id: _,
+        delivery_tag,
+        message_format: _,
+        rcv_settle_mode: _,
         settled: _,
         told: _,
         message,
-    } = held;
-    64 + tag.as_bytes().len() + message.len()
+    } = delivery;
+    64 + delivery_tag.as_bytes().len() + message.len()
 }
 
 /// The bytes that the fields hold, each counted.
-pub fn counted(set: &OpenDeliveries) -> u64 {
+pub fn counted(deliveries: &OpenDeliveries) -> u64 {
     let OpenDeliveries {
         alloc: _,
         slab,
-        taken: _,
-        ready: _,
-        part: _,
+        order: _,
+        handed_up: _,
+        unfinished: _,
         bytes: _,
-    } = set;
+    } = deliveries;
     let mut sum: u64 = 0;
-    for (_, held) in slab.iter() {
-        sum = sum.wrapping_add(held_by(held) as u64);
+    for (_, delivery) in slab.iter() {
+        sum = sum.wrapping_add(held_by(delivery) as u64);
     }
     sum
 }

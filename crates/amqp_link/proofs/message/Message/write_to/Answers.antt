@@ -1,4 +1,4 @@
-use Rattle.std.proofs.Common.{arith, ℕ, ◌+◌, List, take, sym, subst, ◌∙◌}
+use Rattle.std.proofs.Common.{arith, ◌+◌, subst, ◌∙◌}
 use Rattle.std.specs.Io.KnownBytes.{Appends}
 use Rattle.std.proofs.KnownBytes.{Appends-nil, Appends-kept}
 use Rattle.amqp_link.proofs.Writes.{goes_on, still_within, all_written, front_of, at_err}

@@ -1,5 +1,5 @@
 -- So many of the bytes were written as the index says.
-use Rattle.std.proofs.Common.{ℕ, length, take, ◌-◌, ◌≤◌}
+use Rattle.std.proofs.Common.{length, take, ◌-◌, ◌≤◌}
 use Rattle.std.specs.Io.KnownBytes.{Appends}
 use Rattle.amqp_link.proofs.message.Message.write_to.Given as goal
 

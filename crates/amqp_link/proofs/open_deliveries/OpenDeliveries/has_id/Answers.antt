@@ -1,14 +1,21 @@
-use Rattle.amqp_link.proofs.Keys.{here_of, taken_there, ready_there}
+use Rattle.std.proofs.Common.{◌∙◌, ◌++◌}
+use Rattle.std.specs.Prelude.{option_to_list}
+use Rattle.std.proofs.lemmas.List.{append_assoc}
+use Rattle.amqp_link.specs.Links.{has_id}
+use Rattle.amqp_link.specs.Keeping.{delivery_of}
+use Rattle.amqp_link.proofs.PlaceKeys.{found_any, any_before, any_behind}
 use Rattle.amqp_link.proofs.open_deliveries.OpenDeliveries.has_id.Goals as goal
 
-pub index-requires : goal.index-requires
-index-requires g c = here_of c.self.inside.slab _ _ _ c.in-Some.key _ _ _ c.self.invariant c.in-Some.is
+pub returns-then-is_some : goal.returns-then-is_some
+returns-then-is_some g c =
+    let s = c.args.self.now in
+    rw (append_assoc s.awaiting s.ready (option_to_list s.unfinished))
+    (any_before (has_id c.args.id) s.awaiting (s.ready ++ option_to_list s.unfinished) _
+    (c.is_some.ensures ∙ found_any (λ d. delivery_of d.now) (has_id c.args.id) c.find_handed_up.result s.awaiting c.find_handed_up.ensures) c.if-is_some.true)
 
-pub any_has-requires : goal.any_has-requires
-any_has-requires g c = rw c.as_slice.ensures.value (taken_there c.self.inside.slab _ _ _ _ _ _ c.self.invariant)
-
-pub any_has-requires-else-any_has : goal.any_has-requires-else-any_has
-any_has-requires-else-any_has g c = (ready_there c.self.inside.slab _ _ _ _ _ _ _ _ c.self.invariant c.as_slices.ensures.items).0
-
-pub any_has-requires-else-any_has-2 : goal.any_has-requires-else-any_has-2
-any_has-requires-else-any_has-2 g c = (ready_there c.self.inside.slab _ _ _ _ _ _ _ _ c.self.invariant c.as_slices.ensures.items).1
+pub returns-else-is_some : goal.returns-else-is_some
+returns-else-is_some g c =
+    let s = c.args.self.now in
+    rw (append_assoc s.awaiting s.ready (option_to_list s.unfinished))
+    (any_behind (has_id c.args.id) s.awaiting (s.ready ++ option_to_list s.unfinished) _ _
+    (c.is_some.ensures ∙ found_any (λ d. delivery_of d.now) (has_id c.args.id) c.find_handed_up.result s.awaiting c.find_handed_up.ensures) c.if-is_some.false c.is_untaken.ensures)

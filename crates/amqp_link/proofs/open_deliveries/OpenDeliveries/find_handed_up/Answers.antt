@@ -1,0 +1,7 @@
+use Rattle.std.proofs.Common.{refl}
+use Rattle.amqp_link.proofs.Keys.{all_there}
+use Rattle.amqp_link.proofs.KeptSettles.{awaiting_keys}
+use Rattle.amqp_link.proofs.open_deliveries.OpenDeliveries.find_handed_up.Goals as goal
+
+pub find-requires : goal.find-requires
+find-requires g c = all_there c.self.inside.slab _ (rw c.deref.ensures.value (awaiting_keys c.self.inside.slab c.self.inside.order.items _ c.self.inside.handed_up _ _ _ c.self.invariant refl))

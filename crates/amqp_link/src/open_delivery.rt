@@ -1,0 +1,153 @@
+//! What is held of one delivery that is open, and what a settle does to it.
+ghost use Rattle.std.specs.Prelude.{◌≡◌, ◌||◌, ◌++◌, [], not, OnOk, OnErr, IsOk};
+ghost use Rattle.amqp_link.specs.Links.{delivery_bytes, is_first};
+ghost use Rattle.amqp_link.specs.Keeping.{delivery_of, asks_of, ends, turned, counts};
+
+use crate::tag::Tag;
+use amqp_perform::ReceiverSettleMode;
+use amqp_serial::Serial;
+use std::alloc::{AllocError, Allocator, Global};
+use std::mem;
+
+/// What is held of a delivery.
+#[derive(Drop)]
+pub struct OpenDelivery<A: Allocator + Copy = Global> {
+    pub delivery_id: u32,
+    pub delivery_tag: Tag,
+    pub message_format: u32,
+    pub rcv_settle_mode: ReceiverSettleMode,
+    /// The sender has settled it.
+    pub settled: bool,
+    /// The sender was told what became of it.
+    pub told: bool,
+    pub message: Vec<u8, A>,
+}
+
+/// Ids from a first to a last one; none where the last is behind the first [2.7.6].
+#[derive(Clone, Copy)]
+pub struct Ids {
+    pub first: u32,
+    pub last: u32,
+}
+
+/// What is asked of a delivery.
+#[derive(Clone, Copy)]
+pub enum Question {
+    /// It has this id.
+    HasId(u32),
+    /// It has one of these.
+    IsCovered(Ids),
+    /// It has one of these, is in mode second, and the sender was told of it.
+    IsTold(Ids),
+}
+
+/// Who settles a delivery.
+#[derive(Clone, Copy)]
+pub enum Settler {
+    /// The receiver, one that was handed up.
+    Receiver,
+    /// The sender, one that was handed up.
+    SenderOfHandedUp,
+    /// The sender, one that was not.
+    SenderOfUntaken,
+}
+
+/// A settle of some ids.
+#[derive(Clone, Copy)]
+pub struct Settling {
+    pub settler: Settler,
+    pub ids: Ids,
+}
+
+impl<A: Allocator + Copy> OpenDelivery<A> {
+    /// The bytes that count as kept of it.
+    pub fn bytes(&self) -> u64
+        ensures { result ≡ delivery_bytes (delivery_of self.now) }
+    {
+        64 + self.delivery_tag.as_bytes().len() as u64 + self.message.len() as u64
+    }
+
+    /// One transfer more.
+    pub fn extend(&mut self, settled: bool, payload: &[u8]) -> Result<(), AllocError>
+        ensures ok { OnOk result (delivery_of self.new ≡ record (delivery_of self.old) { settled = self.old.settled || settled; message = self.old.message.items ++ payload.now }) }
+        ensures err { OnErr result (delivery_of self.new ≡ delivery_of self.old) }
+        ensures empty { payload.now ≡ [] → IsOk result }
+    {
+        self.message.extend_from_slice(payload)?;
+        self.settled = self.settled || settled;
+        Ok(())
+    }
+
+    /// Moves the message out, and leaves none.
+    pub fn hand_up(&mut self, alloc: A) -> OpenDelivery<A>
+        ensures result { delivery_of result ≡ delivery_of self.old }
+        ensures left { delivery_of self.new ≡ record (delivery_of self.old) { message = [] } }
+    {
+        OpenDelivery {
+            delivery_id: self.delivery_id,
+            delivery_tag: self.delivery_tag,
+            message_format: self.message_format,
+            rcv_settle_mode: self.rcv_settle_mode,
+            settled: self.settled,
+            told: self.told,
+            message: mem::replace(&mut self.message, Vec::new(alloc)),
+        }
+    }
+
+    /// Whether it has one of the ids.
+    fn is_covered(&self, ids: Ids) -> bool
+        ensures { result ≡ asks_of (Question.IsCovered ids) (delivery_of self.now) }
+    {
+        Serial(self.delivery_id).in_range(Serial(ids.first), Serial(ids.last))
+    }
+
+    /// Whether the question is answered by yes.
+    pub fn answers(&self, question: Question) -> bool
+        ensures { result ≡ asks_of question (delivery_of self.now) }
+    {
+        match question {
+            Question::HasId(id) => self.delivery_id == id,
+            Question::IsCovered(ids) => self.is_covered(ids),
+            Question::IsTold(ids) => self.is_second() && self.is_covered(ids) && self.told,
+        }
+    }
+
+    /// Whether it is in mode second [2.8.3].
+    fn is_second(&self) -> bool
+        ensures { result ≡ not (is_first self.now.rcv_settle_mode) }
+    {
+        matches!(self.rcv_settle_mode, ReceiverSettleMode::Second)
+    }
+
+    /// Whether a settle counts it.
+    pub fn counts(&self, settling: Settling) -> bool
+        ensures { result ≡ counts settling (delivery_of self.now) }
+    {
+        match settling.settler {
+            Settler::Receiver => self.is_covered(settling.ids),
+            _ => !self.settled && self.is_covered(settling.ids),
+        }
+    }
+
+    /// Whether it is open no longer after a settle.
+    pub fn ends(&self, settling: Settling) -> bool
+        ensures { result ≡ ends settling (delivery_of self.now) }
+    {
+        match settling.settler {
+            Settler::Receiver => !self.is_second() && self.is_covered(settling.ids),
+            Settler::SenderOfHandedUp => self.is_covered(settling.ids),
+            Settler::SenderOfUntaken => false,
+        }
+    }
+
+    /// What a settle does to one that stays open.
+    pub fn settle(&mut self, settling: Settling)
+        ensures { delivery_of self.new ≡ turned settling (delivery_of self.old) }
+    {
+        match settling.settler {
+            Settler::Receiver => self.told |= self.is_second() && self.is_covered(settling.ids),
+            Settler::SenderOfHandedUp => {}
+            Settler::SenderOfUntaken => self.settled |= self.is_covered(settling.ids),
+        }
+    }
+}

@@ -1,0 +1,80 @@
+//! The places of deliveries in link order, each with the key of its delivery, or empty.
+ghost use Rattle.std.specs.Prelude.{◌≡◌, ◌<◌, ◌^◌, ◌∷◌, [], find, map, option_map, option_to_list, sum_by};
+ghost use Rattle.std.specs.List.{AllByRecursion};
+ghost use Rattle.slab.specs.Slab.{ContainsKey};
+ghost use Rattle.amqp_link.specs.Links.{delivery_bytes};
+ghost use Rattle.amqp_link.specs.Keeping.{delivery_of, at_key, keys_of, AreKeys, asks_of, Settles};
+
+use crate::open_delivery::{OpenDelivery, Question, Settling};
+use slab::Slab;
+use std::alloc::Allocator;
+
+/// What a settle came to.
+#[derive(Clone, Copy)]
+pub struct Settled {
+    /// How many deliveries it counts.
+    pub count: usize,
+    /// The bytes that are no longer kept.
+    pub freed: u64,
+}
+
+/// The first delivery at these places of which a question is answered by yes.
+pub fn find<'a, A: Allocator + Copy>(
+    slab: &'a Slab<OpenDelivery<A>, A>,
+    places: &[Option<usize>],
+    question: Question,
+) -> Option<&'a OpenDelivery<A>>
+    requires { AllByRecursion (ContainsKey slab.now) (keys_of places.now) }
+    ensures { option_map (λ d. delivery_of d.now) result ≡ find (asks_of question) (map (at_key slab.now) (keys_of places.now)) }
+{
+    for place in places {
+        if let Some(key) = place {
+            let delivery = &slab[*key];
+            if delivery.answers(question) {
+                return Some(delivery);
+            }
+        }
+    }
+    None
+}
+
+/// Settles the deliveries at these places. One that is open no longer leaves its place empty.
+pub fn settle<A: Allocator + Copy>(
+    slab: &mut Slab<OpenDelivery<A>, A>,
+    places: &mut [Option<usize>],
+    settling: Settling,
+) -> Settled
+    requires keys { AreKeys slab.old (keys_of places.old) }
+    requires fits { sum_by delivery_bytes (map (at_key slab.old) (keys_of places.old)) < 2 ^ 64 }
+    ensures { Settles settling slab.old slab.new places.old places.new result.count result.freed }
+{
+    let mut all = Settled { count: 0, freed: 0 };
+    for place in places.iter_mut() {
+        let one = settle_at(slab, place, settling);
+        all.count += one.count;
+        all.freed += one.freed;
+    }
+    all
+}
+
+/// Settles the delivery at one place, if there is one.
+pub fn settle_at<A: Allocator + Copy>(
+    slab: &mut Slab<OpenDelivery<A>, A>,
+    place: &mut Option<usize>,
+    settling: Settling,
+) -> Settled
+    requires { AreKeys slab.old (option_to_list place.old) }
+    ensures { Settles settling slab.old slab.new (place.old ∷ []) (place.new ∷ []) result.count result.freed }
+{
+    let Some(key) = *place else {
+        return Settled { count: 0, freed: 0 };
+    };
+    let count = usize::from(slab[key].counts(settling));
+    if !slab[key].ends(settling) {
+        slab[key].settle(settling);
+        return Settled { count, freed: 0 };
+    }
+    *place = None;
+    let freed = slab.remove(key).bytes();
+    Settled { count, freed }
+}
