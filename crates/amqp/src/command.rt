@@ -3,6 +3,9 @@
 use clap::{Arg, ArgMatches, Command};
 use std::alloc::{AllocError, Global};
 
+/// What `amqp --version` names.
+const VERSION: &str = "0.1.0";
+
 /// What a command line asks for.
 #[derive(Clone, Copy, Debug, PartialEq, Eq)]
 pub enum Order<'a> {
@@ -19,6 +22,7 @@ pub fn command_line<'a>(alloc: Global) -> Result<Command<'a>, AllocError> {
         .about("Prints the frames of a file")
         .arg(file)?;
     Command::new(alloc, "amqp")
+        .version(VERSION)
         .about("Reads and speaks AMQP 1.0")
         .subcommand_required(true)
         .arg_required_else_help(true)

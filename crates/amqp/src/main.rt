@@ -2,12 +2,7 @@
 #![tactic(auto)]
 
 mod command;
-mod dump;
-mod lines;
 mod run;
-mod scan;
-mod scanned;
-mod text;
 
 use std::process::ExitCode;
 

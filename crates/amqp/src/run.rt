@@ -4,7 +4,7 @@ ghost use Rattle.std.specs.Prelude.{◌≡◌};
 ghost use Rattle.amqp.specs.declared.run.Fault.TheVariants.{NoMemory};
 
 use crate::command::{Order, command_line, order_of};
-use crate::dump::{DumpFault, dump};
+use amqp_dump::{DumpFault, dump};
 use amqp_frame::Device;
 use clap::error::ErrorKind;
 use std::alloc::AllocError;

@@ -1,338 +1,39 @@
-use crate::dump::{DumpFault, dump};
-use crate::scan::{LIMITS, scan};
-use crate::scanned::Scanned;
-use crate::text::write_value;
-use amqp_frame::{Device, HEADER};
-use amqp_types::{Symbol, Value, decode};
-use std::alloc::{AllocError, Global};
-use std::io;
-use std::io::{Read, Write};
-use std::process::Abort;
+//! The program on a host of its own: the exit statuses, and what stands on standard error.
+
+use crate::run::run;
+use amqp_frame::HEADER;
+use std::alloc::{Alloc, Global};
+use std::cell::RefCell;
+use std::env::FillError;
+use std::fmt::Display;
+use std::fs::{Metadata, OpenFile, OpenOptions};
+use std::io::{self, ErrorKind, Read, Seek, SeekFrom, Write};
+use std::process::ExitCode;
+use std::rt::{Env, Files};
 use std::test::Fail;
 
-/// What `dump` prints of these bytes.
-fn dumped(alloc: Global, mut bytes: &[u8]) -> Result<Vec<u8>, DumpFault> {
-    let mut lines = Vec::new(alloc);
-    let _ = dump(
-        alloc,
-        &mut Device::new(&mut bytes),
-        &mut Device::new(&mut lines),
-    )?;
-    Ok(lines)
+/// A file that gives its bytes, and then ends or fails.
+#[derive(Clone, Copy)]
+struct Bytes<'a> {
+    bytes: &'a [u8],
+    is_broken: bool,
 }
 
-/// The header, and then these bytes.
-fn behind_header(alloc: Global, bytes: &[u8]) -> Result<Vec<u8>, AllocError> {
-    let mut stream = Vec::from_slice(alloc, HEADER.as_slice())?;
-    stream.extend_from_slice(bytes)?;
-    Ok(stream)
-}
-
-/// Asserts that the header and these bytes are printed as the header's line and these lines.
-fn assert_printed(rt: &impl Abort, alloc: Global, frames: &[u8], lines: &[u8]) -> Result<(), Fail> {
-    let mut wanted = Vec::from_slice(alloc, b"header id=0 version=1.0.0\n")?;
-    wanted.extend_from_slice(lines)?;
-    let stream = behind_header(alloc, frames)?;
-    assert_eq!(rt; dumped(alloc, &stream)?, wanted, "{frames:?}");
-    Ok(())
-}
-
-#[test]
-fn prints_a_line_for_each_frame(rt: HostRuntime) -> Result<(), Fail> {
-    let alloc = rt.alloc();
-    let cases: [(&[u8], &[u8]); 10] = [
-        (
-            b"\x00\x00\x00\x0a\x02\x00\x00\x03\x56\x01",
-            b"8 size=10 channel=3 value true payload=0\n",
-        ),
-        (
-            b"\x00\x00\x00\x0c\x03\x00\x00\x00\xff\xff\xff\xff",
-            b"8 size=12 channel=0 empty\n",
-        ),
-        (
-            b"\x00\x00\x00\x0a\x02\x00\x00\x00\x43\xff",
-            b"8 size=10 channel=0 value uint:0 payload=1\n",
-        ),
-        (
-            b"\x00\x00\x00\x0d\x02\x00\x00\x00\x72\x3f\x80\x00\x00",
-            b"8 size=13 channel=0 value float:3f800000 payload=0\n",
-        ),
-        (b"\x00\x00\x00\x08\x01\x00\x00\x00", b"fault: 8 BadOffset\n"),
-        (b"\x00\x00\x00\x20\x01\x00\x00\x00", b"fault: 8 BadOffset\n"),
-        (b"\x00\x00\x00\x20\x02\x01\x00\x00", b"fault: 8 BadType\n"),
-        (b"\x00\x00\x00", b"fault: 8 Cut\n"),
-        (
-            b"\x00\x00\x00\x08\x02\x00\x00\x00\x00\x00\x00\x0b\x02\x00\x00\x00\x56\x02\x40",
-            b"8 size=8 channel=0 empty\nfault: 25 BadBoolean\n",
-        ),
-        (b"", b""),
-    ];
-    for (frames, lines) in cases {
-        assert_printed(&rt, alloc, frames, lines)?;
-    }
-    for stream in [
-        b"".as_slice(),
-        b"AMQP\x00\x01\x00",
-        b"AMQP\x03\x01\x00\x00\x00",
-    ] {
-        let printed = dumped(alloc, stream)?;
-        assert_eq!(rt; printed.as_slice(), b"fault: 0 Header\n".as_slice());
-    }
-    Ok(())
-}
-
-#[test]
-fn prints_bodies_that_hold_others(rt: HostRuntime) -> Result<(), Fail> {
-    let cases: [(&[u8], &[u8]); 4] = [
-        (
-            b"\x00\x00\x00\x0c\x02\x00\x00\x00\x00\x53\x10\x45",
-            b"8 size=12 channel=0 open [] payload=0 invalid\n",
-        ),
-        (
-            b"\x00\x00\x00\x11\x02\x00\x00\x00\x00\x53\x10\xc0\x04\x01\xa1\x02\x61",
-            b"fault: 20 BadSize\n",
-        ),
-        (
-            b"\x00\x00\x00\x23\x02\x00\x00\x00\x00\x53\x10\xc0\x16\x0a\xa1\x01\x61\
-              \x40\x40\x40\x40\x40\x40\x40\x40\xf0\x00\x00\x00\x05\xff\xff\xff\xff\x40",
-            b"fault: 38 TooManyNodes\n",
-        ),
-        (
-            b"\x00\x00\x00\x10\x02\x00\x00\x00\xc1\x06\x04\x43\x40\x52\x00\x40",
-            b"fault: 21 DuplicateKey\n",
-        ),
-    ];
-    for (frames, lines) in cases {
-        assert_printed(&rt, rt.alloc(), frames, lines)?;
-    }
-    let mut deep = Vec::from_slice(rt.alloc(), b"\x00\x00\x00\x30\x02\x00\x00\x00")?;
-    deep.extend_from_slice(&[0; 40])?;
-    assert_printed(&rt, rt.alloc(), &deep, b"fault: 48 TooDeep\n")
-}
-
-#[test]
-fn names_performatives(rt: HostRuntime) -> Result<(), Fail> {
-    let cases: [(&[u8], &[u8]); 6] = [
-        (
-            b"\x00\x00\x00\x11\x02\x00\x00\x00\x00\x53\x10\xc0\x04\x01\xa1\x01\x61\
-              \x00\x00\x00\x14\x02\x00\x00\x00\x00\x53\x11\xc0\x07\x04\x40\x43\x52\x64\x52\x64\
-              \x00\x00\x00\x19\x02\x00\x00\x00\x00\x53\x14\xc0\x09\x06\x43\x43\xa0\x01\x74\x40\x40\x41abc",
-            b"8 size=17 channel=0 open [string:\"a\"] payload=0\n\
-              25 size=20 channel=0 begin [null, uint:0, uint:100, uint:100] payload=0\n\
-              45 size=25 channel=0 transfer [uint:0, uint:0, binary:74, null, null, true] payload=3\n",
-        ),
-        (
-            b"\x00\x00\x00\x20\x02\x00\x00\x00\x00\x53\x12\xc0\x13\x0a\xa1\x01l\x43\x42\x40\x40\
-              \x00\x53\x28\x45\x00\x53\x29\x45\x40\x40\x43",
-            b"8 size=32 channel=0 attach [string:\"l\", uint:0, false, null, null, @ulong:40([]), @ulong:41([]), null, null, uint:0] payload=0\n",
-        ),
-        (
-            b"\x00\x00\x00\x12\x02\x00\x00\x01\x00\x53\x13\xc0\x05\x04\x43\x43\x43\x43\
-              \x00\x00\x00\x10\x02\x00\x00\x00\x00\x53\x15\xc0\x03\x02\x41\x43\
-              \x00\x00\x00\x0f\x02\x00\x00\x00\x00\x53\x16\xc0\x02\x01\x43",
-            b"8 size=18 channel=1 flow [uint:0, uint:0, uint:0, uint:0] payload=0\n\
-              26 size=16 channel=0 disposition [true, uint:0] payload=0\n\
-              42 size=15 channel=0 detach [uint:0] payload=0\n",
-        ),
-        (
-            b"\x00\x00\x00\x0c\x02\x00\x00\x00\x00\x53\x17\x45\
-              \x00\x00\x00\x13\x02\x00\x00\x00\x00\x80\x00\x00\x00\x00\x00\x00\x00\x18\x45\
-              \x00\x00\x00\x1c\x02\x00\x00\x00\x00\xa3\x0famqp:close:list\x45\x07",
-            b"8 size=12 channel=0 end [] payload=0\n\
-              20 size=19 channel=0 close [] payload=0\n\
-              39 size=28 channel=0 close [] payload=1\n",
-        ),
-        (
-            b"\x00\x00\x00\x0e\x02\x00\x00\x00\x00\x53\x18\xa1\x01\x61",
-            b"8 size=14 channel=0 value @ulong:24(string:\"a\") payload=0\n",
-        ),
-        (
-            b"\x00\x00\x00\x10\x02\x00\x00\x00\x00\x53\x18\xc0\x03\x02\x40\x40",
-            b"8 size=16 channel=0 close [null, null] payload=0 invalid\n",
-        ),
-    ];
-    for (frames, lines) in cases {
-        assert_printed(&rt, rt.alloc(), frames, lines)?;
-    }
-    Ok(())
-}
-
-#[test]
-fn scans_the_units(rt: HostRuntime) -> Result<(), Fail> {
-    let alloc = rt.alloc();
-    let stream = behind_header(alloc, b"\x00\x00\x00\x0a\x02\x00\x00\x03\x56\x01\x00")?;
-    let found = scan(alloc, &stream)?;
-    assert_eq!(rt; found.len(), 3);
-    assert!(rt; matches!(&found[0], Scanned::Header));
-    match &found[1] {
-        Scanned::Frame(frame) => {
-            assert_eq!(rt; (frame.place, frame.size, frame.payload), (8, 10, 0));
-            assert_eq!(rt; frame.channel, 3);
-            assert!(rt; matches!(&frame.value, Some(Value::Boolean(true))));
-        }
-        _ => panic!(rt; "no frame"),
-    }
-    assert!(rt; matches!(&found[2], Scanned::Fault(18, _)));
-    Ok(())
-}
-
-#[test]
-fn writes_each_kind_of_value(rt: HostRuntime) -> Result<(), Fail> {
-    let alloc = rt.alloc();
-    let octets = Vec::from_slice(alloc, b"\x00\xab")?;
-    let string = String::from_str(alloc, "a\"\\\u{e9}~ ")?;
-    let name = Symbol::new(Vec::from_slice(alloc, b"a:b\x7f")?).ok_or("no symbol")?;
-    let cases = [
-        (Value::Null, "null"),
-        (Value::Boolean(true), "true"),
-        (Value::Boolean(false), "false"),
-        (Value::Ubyte(255), "ubyte:255"),
-        (Value::Ushort(65535), "ushort:65535"),
-        (Value::Uint(4294967295), "uint:4294967295"),
-        (
-            Value::Ulong(18446744073709551615),
-            "ulong:18446744073709551615",
-        ),
-        (Value::Byte(-128), "byte:-128"),
-        (Value::Short(-32768), "short:-32768"),
-        (Value::Int(-2147483648), "int:-2147483648"),
-        (
-            Value::Long(-9223372036854775808),
-            "long:-9223372036854775808",
-        ),
-        (Value::Float([0x3f, 0x80, 0, 0]), "float:3f800000"),
-        (Value::Double([0xff; 8]), "double:ffffffffffffffff"),
-        (Value::Decimal32([1, 2, 3, 4]), "decimal32:01020304"),
-        (Value::Decimal64([0xa; 8]), "decimal64:0a0a0a0a0a0a0a0a"),
-        (
-            Value::Decimal128([0xb0; 16]),
-            "decimal128:b0b0b0b0b0b0b0b0b0b0b0b0b0b0b0b0",
-        ),
-        (Value::Char('\u{1f600}'), "char:0001f600"),
-        (Value::Timestamp(-1), "timestamp:-1"),
-        (
-            Value::Uuid([0xab; 16]),
-            "uuid:abababab-abab-abab-abab-abababababab",
-        ),
-        (Value::Binary(octets), "binary:00ab"),
-        (Value::String(string), "string:\"a\\x22\\x5c\\xc3\\xa9~ \""),
-        (Value::Symbol(name), "symbol:\"a:b\\x7f\""),
-    ];
-    for (value, wanted) in cases {
-        let mut text = String::new(alloc);
-        write_value(alloc, &mut text, &value)?;
-        assert_eq!(rt; text.as_str(), wanted);
-    }
-    Ok(())
-}
-
-/// Asserts that these bytes are a value with this text.
-fn assert_text(rt: &impl Abort, alloc: Global, bytes: &[u8], wanted: &str) -> Result<(), Fail> {
-    let (value, _) = decode(alloc, bytes, LIMITS)?;
-    let mut text = String::new(alloc);
-    write_value(alloc, &mut text, &value)?;
-    assert_eq!(rt; text.as_str(), wanted);
-    Ok(())
-}
-
-#[test]
-fn writes_values_that_hold_others(rt: HostRuntime) -> Result<(), Fail> {
-    let cases: [(&[u8], &str); 10] = [
-        (b"\x45", "[]"),
-        (b"\xc0\x03\x02\x43\x41", "[uint:0, true]"),
-        (b"\xc0\x03\x02\x45\x45", "[[], []]"),
-        (b"\xc1\x01\x00", "{}"),
-        (
-            b"\xc1\x09\x04\xa3\x01\x61\x43\xa3\x01\x62\x40",
-            "{symbol:\"a\"=uint:0, symbol:\"b\"=null}",
-        ),
-        (
-            b"\xe0\x0a\x02\x70\x00\x00\x00\x01\x00\x00\x00\x02",
-            "array:uint[uint:1, uint:2]",
-        ),
-        (
-            b"\xe0\x07\x01\x00\x53\x24\xc0\x01\x00",
-            "array:@ulong:36 list[[]]",
-        ),
-        (
-            b"\xe0\x09\x00\x00\x53\x24\x00\xa3\x01\x61\x56",
-            "array:@ulong:36 @symbol:\"a\" boolean[]",
-        ),
-        (b"\x00\x53\x24\x45", "@ulong:36([])"),
-        (b"\x00\x44\x00\x53\x01\x42", "@ulong:0(@ulong:1(false))"),
-    ];
-    for (bytes, text) in cases {
-        assert_text(&rt, rt.alloc(), bytes, text)?;
-    }
-    Ok(())
-}
-
-#[test]
-fn writes_the_name_of_each_kind_of_items(rt: HostRuntime) -> Result<(), Fail> {
-    let alloc = rt.alloc();
-    let kinds = [
-        (0x40, "null"),
-        (0x56, "boolean"),
-        (0x50, "ubyte"),
-        (0x60, "ushort"),
-        (0x70, "uint"),
-        (0x80, "ulong"),
-        (0x51, "byte"),
-        (0x61, "short"),
-        (0x71, "int"),
-        (0x81, "long"),
-        (0x72, "float"),
-        (0x82, "double"),
-        (0x74, "decimal32"),
-        (0x84, "decimal64"),
-        (0x94, "decimal128"),
-        (0x73, "char"),
-        (0x83, "timestamp"),
-        (0x98, "uuid"),
-        (0xa0, "binary"),
-        (0xb1, "string"),
-        (0xa3, "symbol"),
-        (0xd0, "list"),
-        (0xc1, "map"),
-        (0xf0, "array"),
-    ];
-    for (code, name) in kinds {
-        let wanted = format!(in alloc; "array:{name}[]")?;
-        assert_text(&rt, alloc, &[0xe0, 2, 0, code], &wanted)?;
-    }
-    Ok(())
-}
-
-/// Gives the header, and then fails.
-#[derive(Drop)]
-struct FailingReader {
-    has_read: bool,
-}
-
-impl Read for FailingReader {
+impl Read for Bytes<'_> {
     fn read(&mut self, buf: &mut [u8]) -> io::Result<usize> {
-        if self.has_read || buf.len() < 8 {
-            return Err(io::Error::from(io::ErrorKind::Other));
+        let count = self.bytes.len().min(buf.len());
+        if count == 0 && self.is_broken {
+            return Err(io::Error::from(ErrorKind::Other));
         }
-        self.has_read = true;
-        buf[..8].copy_from_slice(HEADER.as_slice());
-        Ok(8)
+        buf[..count].copy_from_slice(&self.bytes[..count]);
+        self.bytes = &self.bytes[count..];
+        Ok(count)
     }
 }
 
-/// Takes five bytes, and then none.
-#[derive(Drop)]
-struct FullWriter {
-    has_written: bool,
-}
-
-impl Write for FullWriter {
-    fn write(&mut self, buf: &[u8]) -> io::Result<usize> {
-        if self.has_written {
-            return Ok(0);
-        }
-        self.has_written = true;
-        Ok(buf.len().min(5))
+impl Write for Bytes<'_> {
+    fn write(&mut self, _buf: &[u8]) -> io::Result<usize> {
+        Err(io::Error::from(ErrorKind::Unsupported))
     }
 
     fn flush(&mut self) -> io::Result<()> {
@@ -340,20 +41,226 @@ impl Write for FullWriter {
     }
 }
 
-#[test]
-fn tells_a_reader_or_writer_that_fails(rt: HostRuntime) -> Result<(), Fail> {
-    let alloc = rt.alloc();
-    let mut lines = Vec::new(alloc);
-    let mut reader = Device::new(FailingReader { has_read: false });
-    let result = dump(alloc, &mut reader, &mut Device::new(&mut lines));
-    assert!(rt; matches!(result, Err(DumpFault::Read)));
-    assert!(rt; reader.failed());
-    assert!(rt; lines.is_empty());
+impl Seek for Bytes<'_> {
+    fn seek(&mut self, _to: SeekFrom) -> io::Result<u64> {
+        Err(io::Error::from(ErrorKind::Unsupported))
+    }
+}
 
-    let mut header = HEADER.as_slice();
-    let mut writer = Device::new(FullWriter { has_written: false });
-    let result = dump(alloc, &mut Device::new(&mut header), &mut writer);
-    assert!(rt; matches!(result, Err(DumpFault::Write)));
-    assert!(rt; writer.failed());
+impl OpenFile for Bytes<'_> {
+    fn metadata(&self) -> io::Result<Metadata> {
+        Err(io::Error::from(ErrorKind::Unsupported))
+    }
+
+    fn set_len(&self, _size: u64) -> io::Result<()> {
+        Err(io::Error::from(ErrorKind::Unsupported))
+    }
+
+    fn sync_all(&self) -> io::Result<()> {
+        Ok(())
+    }
+
+    fn sync_data(&self) -> io::Result<()> {
+        Ok(())
+    }
+}
+
+/// A host with these words, this one file if any, and a standard output that may be shut.
+#[derive(Drop)]
+struct Host<'a> {
+    alloc: Global,
+    words: &'a [&'a str],
+    file: Option<Bytes<'a>>,
+    is_shut: bool,
+    out: RefCell<String>,
+    err: RefCell<String>,
+}
+
+/// Appends text to what a stream took.
+fn append(stream: &RefCell<String>, text: impl Display + Drop, end: &str) -> io::Result<()> {
+    match stream.try_borrow_mut() {
+        Ok(mut taken) => {
+            write!(taken, "{text}{end}")?;
+            Ok(())
+        }
+        Err(_) => Err(io::Error::from(ErrorKind::Other)),
+    }
+}
+
+impl Alloc for Host<'_> {
+    type A = Global;
+
+    fn alloc(&self) -> Global {
+        self.alloc
+    }
+}
+
+impl Print for Host<'_> {
+    fn print<D: Display + Drop>(&self, value: D) -> io::Result<()> {
+        append(&self.out, value, "")
+    }
+
+    fn println<D: Display + Drop>(&self, value: D) -> io::Result<()> {
+        append(&self.out, value, "\n")
+    }
+
+    fn write_all(&self, bytes: &[u8]) -> io::Result<()> {
+        if self.is_shut {
+            return Err(io::Error::from(ErrorKind::BrokenPipe));
+        }
+        match std::str::from_utf8(bytes) {
+            Ok(text) => append(&self.out, text, ""),
+            Err(_) => Err(io::Error::from(ErrorKind::InvalidData)),
+        }
+    }
+}
+
+impl Eprint for Host<'_> {
+    fn eprint<D: Display + Drop>(&self, value: D) -> io::Result<()> {
+        append(&self.err, value, "")
+    }
+
+    fn eprintln<D: Display + Drop>(&self, value: D) -> io::Result<()> {
+        append(&self.err, value, "\n")
+    }
+}
+
+impl Env for Host<'_> {
+    fn arg(&self, i: usize, buf: &mut [u8]) -> Result<usize, FillError> {
+        let word = match self.words.get(i) {
+            Some(word) => word.as_bytes(),
+            None => return Err(FillError::NotPresent),
+        };
+        if word.len() > buf.len() {
+            return Err(FillError::TooLong);
+        }
+        buf[..word.len()].copy_from_slice(word);
+        Ok(word.len())
+    }
+
+    fn var(&self, _name: &str, _buf: &mut [u8]) -> Result<usize, FillError> {
+        Err(FillError::NotPresent)
+    }
+
+    fn var_at(&self, _i: usize, _buf: &mut [u8]) -> Result<usize, FillError> {
+        Err(FillError::NotPresent)
+    }
+}
+
+impl<'a> Files for Host<'a> {
+    type File = Bytes<'a>;
+
+    type Dir = Bytes<'a>;
+
+    fn open_file(&self, _how: &OpenOptions, path: &str) -> io::Result<Bytes<'a>> {
+        match self.file {
+            Some(file) if path == "a.amqp" => Ok(file),
+            _ => Err(io::Error::from(ErrorKind::NotFound)),
+        }
+    }
+
+    fn open_dir(&self, _path: &str) -> io::Result<Bytes<'a>> {
+        Err(io::Error::from(ErrorKind::Unsupported))
+    }
+
+    fn metadata(&self, _path: &str) -> io::Result<Metadata> {
+        Err(io::Error::from(ErrorKind::Unsupported))
+    }
+
+    fn symlink_metadata(&self, _path: &str) -> io::Result<Metadata> {
+        Err(io::Error::from(ErrorKind::Unsupported))
+    }
+
+    fn copy(&self, _from: &str, _to: &str) -> io::Result<u64> {
+        Err(io::Error::from(ErrorKind::Unsupported))
+    }
+
+    fn rename(&self, _from: &str, _to: &str) -> io::Result<()> {
+        Err(io::Error::from(ErrorKind::Unsupported))
+    }
+
+    fn remove_file(&self, _path: &str) -> io::Result<()> {
+        Err(io::Error::from(ErrorKind::Unsupported))
+    }
+
+    fn create_dir(&self, _path: &str) -> io::Result<()> {
+        Err(io::Error::from(ErrorKind::Unsupported))
+    }
+
+    fn remove_dir(&self, _path: &str) -> io::Result<()> {
+        Err(io::Error::from(ErrorKind::Unsupported))
+    }
+
+    fn remove_dir_all<B: std::alloc::Allocator>(&self, _alloc: B, _path: &str) -> io::Result<()> {
+        Err(io::Error::from(ErrorKind::Unsupported))
+    }
+}
+
+/// A host whose words are `amqp dump a.amqp`.
+fn dumping<'a>(alloc: Global, words: &'a [&'a str], file: Option<Bytes<'a>>) -> Host<'a> {
+    Host {
+        alloc,
+        words,
+        file,
+        is_shut: false,
+        out: RefCell::new(String::new(alloc)),
+        err: RefCell::new(String::new(alloc)),
+    }
+}
+
+const LINE: &str = "header id=0 version=1.0.0\n";
+
+#[test]
+fn answers_by_status_and_standard_error(rt: HostRuntime) -> Result<(), Fail> {
+    let alloc = rt.alloc();
+    let words = ["amqp", "dump", "a.amqp"];
+    let whole = Bytes {
+        bytes: HEADER.as_slice(),
+        is_broken: false,
+    };
+    let cut = Bytes {
+        bytes: b"AMQP\x00\x01\x00\x00\x00",
+        is_broken: false,
+    };
+    let broken = Bytes {
+        bytes: HEADER.as_slice(),
+        is_broken: true,
+    };
+    let cases = [
+        (Some(whole), ExitCode::SUCCESS, LINE, ""),
+        (
+            Some(cut),
+            ExitCode::FAILURE,
+            "header id=0 version=1.0.0\nfault: 8 Cut\n",
+            "",
+        ),
+        (Some(broken), ExitCode::FAILURE, LINE, "fault: Read\n"),
+        (None, ExitCode::FAILURE, "", "fault: Open\n"),
+    ];
+    for (file, status, out, err) in cases {
+        let host = dumping(alloc, &words, file);
+        assert!(rt; run(&host) == status);
+        assert_eq!(rt; host.out.into_inner().as_str(), out);
+        assert_eq!(rt; host.err.into_inner().as_str(), err);
+    }
+    let mut host = dumping(alloc, &words, Some(whole));
+    host.is_shut = true;
+    assert!(rt; run(&host) == ExitCode::FAILURE);
+    assert_eq!(rt; host.err.into_inner().as_str(), "fault: Write\n");
+    Ok(())
+}
+
+#[test]
+fn answers_a_command_line(rt: HostRuntime) -> Result<(), Fail> {
+    let alloc = rt.alloc();
+    let host = dumping(alloc, &["amqp", "--version"], None);
+    assert!(rt; run(&host) == ExitCode::SUCCESS);
+    assert_eq!(rt; host.out.into_inner().as_str(), "amqp 0.1.0\n");
+    let lines: [&[&str]; 3] = [&["amqp"], &["amqp", "dump"], &["amqp", "dump", "a", "b"]];
+    for words in lines {
+        let host = dumping(alloc, words, None);
+        assert!(rt; run(&host) == ExitCode::from(2));
+        assert_eq!(rt; host.out.into_inner().as_str(), "");
+    }
     Ok(())
 }

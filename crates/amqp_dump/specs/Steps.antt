@@ -1,0 +1,52 @@
+-- What was told of a stream while its bytes come.
+use Rattle.std.specs.Prelude.{◌≡◌, ℕ, ◌+◌, true, false, List, [], ◌∷◌, ◌++◌, length, take, Option, Some, None}
+use Rattle.std.specs.List.{flat_map, list_any}
+use Rattle.amqp_frame.specs.Units.{StreamUnit, bytes_of}
+use Rattle.amqp_frame.specs.Splits.{SplitterState, Waits, WentBy, IsHeld, IsOver}
+use Rattle.amqp_dump.specs.declared.scan.Scanner.{Scanner}
+use Rattle.amqp_dump.specs.declared.scan.TheConstants.{MAX_FRAME}
+use Rattle.amqp_dump.specs.declared.scanned.Scanned.{Scanned}
+use Rattle.amqp_dump.specs.Entries.{Entry, entry_of, is_fault, unit_entry, whole_entries, Tells}
+
+-- this is told of the unit that waits
+pub record TellsWaiting (place : ℕ) (s : SplitterState) (item : Scanned) : Type 0 where
+  pub unit : StreamUnit
+  pub waits : Waits s unit
+  pub told : entry_of item ≡ unit_entry place unit
+
+-- the unit that waits, if one waits
+abbrev pub IsWaiting : ℕ → SplitterState → Option Scanned → Type 0
+IsWaiting place s None = (u : StreamUnit) → Waits s u → ⊥
+IsWaiting place s (Some item) = TellsWaiting place s item
+
+-- how many bytes a scanner took
+abbrev pub taken_by : Scanner → ℕ
+taken_by s = s.place + length s.splitter.filled
+
+-- less than a unit came of what is due
+pub record IsReady (s : Scanner) : Type 0 where
+  pub limit : s.splitter.limit ≡ MAX_FRAME
+  pub held : IsHeld s.splitter.limit s.splitter.stage s.splitter.filled
+  pub due : IsOver s.splitter.stage → ⊥
+  pub none : (u : StreamUnit) → Waits s.splitter u → ⊥
+
+-- these bytes came, and each whole unit among them was told of, of which none is a fault
+pub record HasTold (s : Scanner) (bytes : List ℕ) (entries : List Entry) : Type 0 where
+  pub units : List StreamUnit
+  pub went : WentBy s.splitter units bytes
+  pub ready : IsReady s
+  pub place : s.place ≡ length (flat_map bytes_of units)
+  pub told : entries ≡ whole_entries 0 units
+  pub clean : list_any is_fault entries ≡ false
+
+-- what is told of the bytes of a piece up to an end, where these bytes and entries came before: nothing once the piece is taken
+abbrev pub GoesOn : List ℕ → ℕ → Scanner → List ℕ → List Entry → Option Scanned → Type 0
+GoesOn piece end s before entries None = HasTold s (before ++ piece) entries
+GoesOn piece end s before entries (Some item) =
+    (is_fault (entry_of item) ≡ false → HasTold s (before ++ take end piece) (entries ++ entry_of item ∷ []))
+    × (is_fault (entry_of item) ≡ true → Tells (before ++ piece) (entries ++ entry_of item ∷ []))
+
+-- behind what is no fault the scanner is ready again
+abbrev pub IsReadyBehind : Scanner → Option Scanned → Type 0
+IsReadyBehind s None = IsReady s
+IsReadyBehind s (Some item) = is_fault (entry_of item) ≡ false → IsReady s

@@ -1,0 +1,18 @@
+//! The dump of one direction of a connection: a line for its header, for each of its frames, and for the first
+//! fault.
+//!
+//! [`dump`] reads from a `Device`, prints the lines of all frames that came, and reads again.
+//! `specs/Entries.antt` has what is told of a stream, `specs/Printing.antt` what is printed of it.
+#![tactic(auto)]
+
+mod lines;
+mod printer;
+mod scan;
+mod scanned;
+mod text;
+
+pub use printer::{DumpFault, dump};
+pub use scan::{LIMITS, MAX_FRAME};
+
+#[cfg(test)]
+mod tests;

@@ -1,0 +1,134 @@
+//! The lines that `dump` prints, one for each unit of a stream.
+
+ghost use Rattle.std.specs.Prelude.{IfOk, string_bytes};
+ghost use Rattle.amqp_dump.specs.Entries.{entry_of};
+ghost use Rattle.amqp_dump.specs.Printing.{IsLineOf};
+
+use crate::scanned::{Scanned, ScannedFrame, StreamFault};
+use crate::text::write_value;
+use amqp_frame::FrameFault;
+use amqp_perform::Descriptor;
+use amqp_types::{ReadFault, Value};
+use std::alloc::{AllocError, Global};
+use std::fmt::Write;
+
+/// How many bytes are reserved for a line.
+const LINE: usize = 256;
+
+/// The line of a unit or a fault, with its newline.
+pub fn line_of(alloc: Global, item: &Scanned) -> Result<String, AllocError>
+    ensures { IfOk result (λ line. IsLineOf (entry_of item.now) (string_bytes line)) }
+{
+    let mut line = String::with_capacity(alloc, LINE)?;
+    match item {
+        Scanned::Header => write!(line, "header id=0 version=1.0.0")?,
+        Scanned::Frame(frame) => write_frame(alloc, &mut line, frame)?,
+        Scanned::Fault(place, fault) => write!(line, "fault: {place} {}", name_of(*fault))?,
+    }
+    line.push('\n')?;
+    Ok(line)
+}
+
+/// Appends `PLACE size=N channel=C`, and then ` empty` or what the body says.
+fn write_frame(alloc: Global, out: &mut String, frame: &ScannedFrame) -> Result<(), AllocError> {
+    let ScannedFrame {
+        place,
+        size,
+        channel,
+        ..
+    } = frame;
+    write!(out, "{place} size={size} channel={channel} ")?;
+    match &frame.value {
+        None => write!(out, "empty"),
+        Some(value) => write_body(alloc, out, value, frame),
+    }
+}
+
+/// Appends the value at the front of a body and the length of what follows it: a performative as its name and
+/// its list, with ` invalid` at the end where a field is, any other value behind `value`.
+fn write_body(
+    alloc: Global,
+    out: &mut String,
+    value: &Value,
+    frame: &ScannedFrame,
+) -> Result<(), AllocError> {
+    let performative = named_list(value);
+    let (name, shown) = performative.unwrap_or(("value", value));
+    write!(out, "{name} ")?;
+    write_value(alloc, out, shown)?;
+    write!(out, " payload={}", frame.payload)?;
+    if performative.is_some() && !frame.is_performative {
+        write!(out, " invalid")?;
+    }
+    Ok(())
+}
+
+/// The name of the performative that describes the value, and its list; none where it is no list, or is not
+/// described as a performative. [2.7]
+fn named_list(value: &Value) -> Option<(&'static str, &Value)> {
+    let (descriptor, list) = match value {
+        Value::Described(descriptor, list) => (descriptor, list),
+        _ => return None,
+    };
+    let list: &Value = list;
+    match list {
+        Value::List(_) => Some((performative_name(descriptor)?, list)),
+        _ => None,
+    }
+}
+
+fn performative_name(descriptor: &Value) -> Option<&'static str> {
+    let descriptor = match descriptor {
+        Value::Ulong(code) => Descriptor::of_code(*code)?,
+        Value::Symbol(symbol) => Descriptor::of_symbol(symbol.as_bytes())?,
+        _ => return None,
+    };
+    match descriptor {
+        Descriptor::Open => Some("open"),
+        Descriptor::Begin => Some("begin"),
+        Descriptor::Attach => Some("attach"),
+        Descriptor::Flow => Some("flow"),
+        Descriptor::Transfer => Some("transfer"),
+        Descriptor::Disposition => Some("disposition"),
+        Descriptor::Detach => Some("detach"),
+        Descriptor::End => Some("end"),
+        Descriptor::Close => Some("close"),
+        _ => None,
+    }
+}
+
+/// The name of a fault, as it is printed.
+fn name_of(fault: StreamFault) -> &'static str {
+    match fault {
+        StreamFault::Header => "Header",
+        StreamFault::Cut => "Cut",
+        StreamFault::Frame(fault) => name_of_frame_fault(fault),
+        StreamFault::Value(fault) => name_of_read_fault(fault),
+    }
+}
+
+fn name_of_frame_fault(fault: FrameFault) -> &'static str {
+    match fault {
+        FrameFault::TooSmall => "TooSmall",
+        FrameFault::TooLarge => "TooLarge",
+        FrameFault::BadOffset => "BadOffset",
+        FrameFault::BadType => "BadType",
+    }
+}
+
+fn name_of_read_fault(fault: ReadFault) -> &'static str {
+    match fault {
+        ReadFault::Truncated(_) => "Truncated",
+        ReadFault::UnknownCode(_) => "UnknownCode",
+        ReadFault::BadSize(_) => "BadSize",
+        ReadFault::BadCount(_) => "BadCount",
+        ReadFault::BadText(_) => "BadText",
+        ReadFault::BadSymbol(_) => "BadSymbol",
+        ReadFault::BadChar(_) => "BadChar",
+        ReadFault::BadBoolean(_) => "BadBoolean",
+        ReadFault::DuplicateKey(_) => "DuplicateKey",
+        ReadFault::TooDeep(_) => "TooDeep",
+        ReadFault::TooManyNodes(_) => "TooManyNodes",
+        ReadFault::NoMemory => "NoMemory",
+    }
+}

@@ -1,0 +1,275 @@
+//! `amqp dump`: the header and the frames of one direction of a connection, printed as lines while they come.
+
+ghost use Rattle.std.specs.Prelude.{◌≡◌, ◌≢◌, ◌↔◌, ℕ, ◌+◌, ◌-◌, ◌^◌, ◌<◌, ◌≤◌, ◌⊎◌, ◌++◌, [], List, Option, true, false, length, take, IsTrue, IfOk, IfSome, OnOk, OnErr, Ok, Err, string_bytes};
+ghost use Rattle.std.specs.Io.KnownBytes.{IsAtEnd, Consumes, Keeps, Appends};
+ghost use Rattle.amqp_frame.specs.Devices.{device_inner, has_failed, has_ended, reads_left, reads_ahead};
+ghost use Rattle.amqp_dump.specs.Entries.{entry_of, is_fault};
+ghost use Rattle.amqp_dump.specs.Steps.{IsReady, HasTold, taken_by};
+ghost use Rattle.amqp_dump.specs.Printing.{Prints, HasPrinted, IsDump, BeginsDump, Dumps, BreaksOff, Shows};
+ghost use Rattle.amqp_dump.specs.declared.printer.DumpFault.TheVariants.{NoMemory};
+
+use crate::lines::line_of;
+use crate::scan::Scanner;
+use crate::scanned::Scanned;
+use amqp_frame::Device;
+use std::alloc::{AllocError, Global};
+use std::io::{Read, Write};
+use thiserror::Error;
+
+/// How many bytes are read, and how many are printed, at a time.
+const PIECE: usize = 65536;
+
+/// Why a dump did not come to its end.
+#[derive(Debug, Drop, Error)]
+pub enum DumpFault {
+    /// The input could not be read.
+    #[error("Read")]
+    Read,
+    /// The lines could not be written.
+    #[error("Write")]
+    Write,
+    /// The input has 2^64 - 1 bytes or more.
+    #[error("TooLong")]
+    TooLong,
+    /// Memory was refused.
+    #[error("NoMemory")]
+    NoMemory,
+}
+
+impl From<AllocError> for DumpFault {
+    ghost from_gives = { λ _ e. e ≡ NoMemory };
+
+    fn from(_e: AllocError) -> DumpFault {
+        DumpFault::NoMemory
+    }
+}
+
+/// Prints a line for the header, for each frame and for the first fault, which is the last line. Before each
+/// read the lines of all frames that came are written. Behind a fault nothing is read. True where no fault was
+/// printed. Neither device has failed before.
+///
+/// # Errors
+///
+/// `Read` and `Write` where that device has failed, `TooLong` where the reader gives 2^64 - 1 bytes or more, and
+/// `NoMemory`. What was written is then a beginning of the dump; after `Read` it is the lines of all frames that
+/// came.
+pub fn dump<R: Read + Drop, W: Write + Drop>(
+    alloc: Global,
+    reader: &mut Device<R>,
+    writer: &mut Device<W>,
+) -> Result<bool, DumpFault>
+    requires reader { ¬ (IsTrue (has_failed reader.old)) }
+    requires writer { ¬ (IsTrue (has_failed writer.old)) }
+    ensures read { (result ≡ Err DumpFault.Read) ↔ IsTrue (has_failed reader.new) }
+    ensures write { (result ≡ Err DumpFault.Write) ↔ IsTrue (has_failed writer.new) }
+    ensures ended { result ≡ Ok true → IsTrue (has_ended reader.new) }
+
+    // What is written is of the bytes that came, and holds whatever would follow them.
+    ensures dumped { IfOk result (Dumps (R.remaining (device_inner reader.old)) (R.remaining (device_inner reader.new)) (W.contents (device_inner writer.old)) (W.contents (device_inner writer.new)) (has_ended reader.new)) }
+    ensures begun { OnErr result (BreaksOff (R.remaining (device_inner reader.old)) (R.remaining (device_inner reader.new)) (W.contents (device_inner writer.old)) (W.contents (device_inner writer.new)) (has_ended reader.new)) }
+    ensures shown { result ≡ Err DumpFault.Read → Shows (R.remaining (device_inner reader.old)) (R.remaining (device_inner reader.new)) (W.contents (device_inner writer.old)) (W.contents (device_inner writer.new)) }
+    ensures long { result ≡ Err DumpFault.TooLong → (bytes : List ℕ) × Consumes (R.remaining (device_inner reader.old)) (R.remaining (device_inner reader.new)) bytes × (2 ^ 64 - 1 ≤ length bytes) }
+
+    // A reader that was not yet asked gave all that it had, or what it had left changes nothing.
+    ensures end { has_ended reader.old ≡ false → reads_left reader.old ≡ 2 ^ 64 - 1 → result ≡ Ok true → IsAtEnd (R.remaining (device_inner reader.new)) }
+    ensures whole { has_ended reader.old ≡ false → reads_left reader.old ≡ 2 ^ 64 - 1 → IfOk result (λ clean. IfSome (R.remaining (device_inner reader.old)) (λ stream. IsDump (W.contents (device_inner writer.old)) (W.contents (device_inner writer.new)) stream true clean)) }
+{
+    let mut scanner = Scanner::new(alloc)?;
+    let mut lines = String::with_capacity(alloc, PIECE)?;
+    let mut piece = vec![in alloc; 0u8; PIECE]?;
+    print_all(alloc, reader, &mut scanner, &mut piece, &mut lines, writer)
+}
+
+/// Reads into `piece` until the reader ends or a fault was printed, and prints what comes. True where no fault
+/// was printed.
+fn print_all<R: Read + Drop, W: Write + Drop>(
+    alloc: Global,
+    reader: &mut Device<R>,
+    scanner: &mut Scanner,
+    piece: &mut [u8],
+    lines: &mut String,
+    writer: &mut Device<W>,
+) -> Result<bool, DumpFault>
+    requires reader { ¬ (IsTrue (has_failed reader.old)) }
+    requires writer { ¬ (IsTrue (has_failed writer.old)) }
+    requires some { 0 < length piece.old }
+    requires none { HasTold scanner.old [] [] }
+    requires empty { string_bytes lines.old ≡ [] }
+    ensures read { (result ≡ Err DumpFault.Read) ↔ IsTrue (has_failed reader.new) }
+    ensures write { (result ≡ Err DumpFault.Write) ↔ IsTrue (has_failed writer.new) }
+    ensures ended { result ≡ Ok true → IsTrue (has_ended reader.new) }
+
+    // What is written is of the bytes that came, and holds whatever would follow them.
+    ensures dumped { IfOk result (Dumps (R.remaining (device_inner reader.old)) (R.remaining (device_inner reader.new)) (W.contents (device_inner writer.old)) (W.contents (device_inner writer.new)) (has_ended reader.new)) }
+    ensures begun { OnErr result (BreaksOff (R.remaining (device_inner reader.old)) (R.remaining (device_inner reader.new)) (W.contents (device_inner writer.old)) (W.contents (device_inner writer.new)) (has_ended reader.new)) }
+    ensures shown { result ≡ Err DumpFault.Read → Shows (R.remaining (device_inner reader.old)) (R.remaining (device_inner reader.new)) (W.contents (device_inner writer.old)) (W.contents (device_inner writer.new)) }
+    ensures long { result ≡ Err DumpFault.TooLong → (bytes : List ℕ) × Consumes (R.remaining (device_inner reader.old)) (R.remaining (device_inner reader.new)) bytes × (2 ^ 64 - 1 ≤ length bytes) }
+
+    // A reader that was not yet asked gave all that it had, or what it had left changes nothing.
+    ensures end { has_ended reader.old ≡ false → reads_left reader.old ≡ 2 ^ 64 - 1 → result ≡ Ok true → IsAtEnd (R.remaining (device_inner reader.new)) }
+    ensures whole { has_ended reader.old ≡ false → reads_left reader.old ≡ 2 ^ 64 - 1 → IfOk result (λ clean. IfSome (R.remaining (device_inner reader.old)) (λ stream. IsDump (W.contents (device_inner writer.old)) (W.contents (device_inner writer.new)) stream true clean)) }
+{
+    while !reader.ended() {
+        let count = match read_piece(reader, piece, scanner.taken()) {
+            Ok(count) => count,
+            Err(fault) => return Err(fault),
+        };
+        let is_over = print_piece(alloc, scanner, &piece[..count], lines, writer)?;
+        if is_over {
+            return Ok(false);
+        }
+    }
+    print_end(alloc, scanner, lines, writer)
+}
+
+/// Reads into the front of `piece`, and answers how many bytes came. So many were taken before.
+fn read_piece<R: Read + Drop>(
+    reader: &mut Device<R>,
+    piece: &mut [u8],
+    taken: usize,
+) -> Result<usize, DumpFault>
+    requires unmarked { ¬ (IsTrue (has_failed reader.old)) }
+    requires some { 0 < length piece.old }
+    requires going { has_ended reader.old ≡ false }
+    requires short { taken < 2 ^ 64 - 1 }
+    ensures read { (result ≡ Err DumpFault.Read) ↔ IsTrue (has_failed reader.new) }
+    ensures write { result ≢ Err DumpFault.Write }
+    ensures bound { IfOk result (λ n. n ≤ length piece.new) }
+    ensures short { IfOk result (λ n. taken + n < 2 ^ 64 - 1) }
+    ensures bytes { IfOk result (λ n. Consumes (R.remaining (device_inner reader.old)) (R.remaining (device_inner reader.new)) (take n piece.new)) }
+    ensures came { OnErr result ((bytes : List ℕ) × Consumes (R.remaining (device_inner reader.old)) (R.remaining (device_inner reader.new)) bytes) }
+    ensures kept { result ≡ Err DumpFault.Read → Keeps (R.remaining (device_inner reader.old)) (R.remaining (device_inner reader.new)) }
+    ensures memory { result ≢ Err DumpFault.NoMemory }
+    ensures long { result ≡ Err DumpFault.TooLong → (bytes : List ℕ) × Consumes (R.remaining (device_inner reader.old)) (R.remaining (device_inner reader.new)) bytes × (2 ^ 64 - 1 ≤ taken + length bytes) }
+    ensures zero { IfOk result (λ n. (n ≡ 0) ↔ IsTrue (has_ended reader.new)) }
+    ensures end { 0 < reads_left reader.old → result ≡ Ok 0 → IsAtEnd (R.remaining (device_inner reader.new)) }
+    ensures counts { reads_left reader.new ≡ reads_left reader.old - 1 }
+    ensures fewer { OnOk result (reads_ahead reader.new < reads_ahead reader.old) }
+{
+    match reader.read(piece) {
+        Ok(count) if count < usize::MAX - taken => Ok(count),
+        Ok(_) => Err(DumpFault::TooLong),
+        Err(_) => Err(DumpFault::Read),
+    }
+}
+
+/// Prints the units that end in `piece`, and says whether the last one is a fault. No line waits.
+fn print_piece<W: Write + Drop>(
+    alloc: Global,
+    scanner: &mut Scanner,
+    piece: &[u8],
+    lines: &mut String,
+    writer: &mut Device<W>,
+) -> Result<bool, DumpFault>
+    requires unmarked { ¬ (IsTrue (has_failed writer.old)) }
+    requires ready { IsReady scanner.old }
+    requires fits { taken_by scanner.old + length piece.now < 2 ^ 64 }
+    requires empty { string_bytes lines.old ≡ [] }
+    ensures read { result ≢ Err DumpFault.Read }
+    ensures short { result ≢ Err DumpFault.TooLong }
+    ensures write { (result ≡ Err DumpFault.Write) ↔ IsTrue (has_failed writer.new) }
+    ensures empty { OnOk result (string_bytes lines.new ≡ []) }
+    ensures ready { result ≡ Ok false → IsReady scanner.new }
+    ensures on { (held : Option (List ℕ)) (before : List ℕ) → HasPrinted held (W.contents (device_inner writer.old)) [] scanner.old before → result ≡ Ok false
+        → HasPrinted held (W.contents (device_inner writer.new)) [] scanner.new (before ++ piece.now) }
+    ensures fault { (held : Option (List ℕ)) (before : List ℕ) → HasPrinted held (W.contents (device_inner writer.old)) [] scanner.old before → result ≡ Ok true
+        → IsDump held (W.contents (device_inner writer.new)) (before ++ piece.now) false false }
+    ensures begun { (held : Option (List ℕ)) (before : List ℕ) → HasPrinted held (W.contents (device_inner writer.old)) [] scanner.old before
+        → OnErr result (BeginsDump held (W.contents (device_inner writer.new)) (before ++ piece.now) false) }
+{
+    let mut at = 0;
+    while let Some(item) = scanner.next(alloc, piece, &mut at)? {
+        let is_fault = print_unit(alloc, item, lines, writer)?;
+        if is_fault {
+            return Ok(true);
+        }
+    }
+    write_lines(lines, writer)?;
+    Ok(false)
+}
+
+/// Prints what is told of a stream that ends here, and says whether it is no fault. No line waits.
+fn print_end<W: Write + Drop>(
+    alloc: Global,
+    scanner: &Scanner,
+    lines: &mut String,
+    writer: &mut Device<W>,
+) -> Result<bool, DumpFault>
+    requires unmarked { ¬ (IsTrue (has_failed writer.old)) }
+    requires ready { IsReady scanner.now }
+    requires empty { string_bytes lines.old ≡ [] }
+    ensures read { result ≢ Err DumpFault.Read }
+    ensures short { result ≢ Err DumpFault.TooLong }
+    ensures write { (result ≡ Err DumpFault.Write) ↔ IsTrue (has_failed writer.new) }
+    ensures dumped { (held : Option (List ℕ)) (bytes : List ℕ) → HasPrinted held (W.contents (device_inner writer.old)) [] scanner.now bytes
+        → IfOk result (λ clean. IsDump held (W.contents (device_inner writer.new)) bytes true clean) }
+    ensures begun { (held : Option (List ℕ)) (bytes : List ℕ) → HasPrinted held (W.contents (device_inner writer.old)) [] scanner.now bytes
+        → OnErr result (BeginsDump held (W.contents (device_inner writer.new)) bytes true) }
+{
+    match scanner.end() {
+        Some(item) => {
+            print_unit(alloc, item, lines, writer)?;
+            Ok(false)
+        }
+        None => Ok(true),
+    }
+}
+
+/// Appends the line of a unit to those that wait, and writes them where they are many or the last is a
+/// fault. Says whether it is one.
+fn print_unit<W: Write + Drop>(
+    alloc: Global,
+    item: Scanned,
+    lines: &mut String,
+    writer: &mut Device<W>,
+) -> Result<bool, DumpFault>
+    requires { ¬ (IsTrue (has_failed writer.old)) }
+    ensures read { result ≢ Err DumpFault.Read }
+    ensures short { result ≢ Err DumpFault.TooLong }
+    ensures write { (result ≡ Err DumpFault.Write) ↔ IsTrue (has_failed writer.new) }
+    ensures fault { IfOk result (λ b. b ≡ is_fault (entry_of item)) }
+    ensures empty { result ≡ Ok true → string_bytes lines.new ≡ [] }
+    ensures printed { OnOk result (Prints (entry_of item) (W.contents (device_inner writer.old)) (W.contents (device_inner writer.new)) (string_bytes lines.old) (string_bytes lines.new)) }
+    ensures begun { OnErr result (Keeps (W.contents (device_inner writer.old)) (W.contents (device_inner writer.new))
+        ⊎ ((missing : List ℕ) × Prints (entry_of item) (W.contents (device_inner writer.old)) (W.contents (device_inner writer.new)) (string_bytes lines.old) missing)) }
+{
+    let line = line_of(alloc, &item)?;
+    lines.push_str(&line)?;
+    let is_fault = item.is_fault();
+    if is_fault || lines.len() >= PIECE {
+        write_lines(lines, writer)?;
+    }
+    Ok(is_fault)
+}
+
+/// Writes the lines that wait.
+fn write_lines<W: Write + Drop>(lines: &mut String, writer: &mut Device<W>) -> Result<(), DumpFault>
+    requires { ¬ (IsTrue (has_failed writer.old)) }
+    ensures write { OnErr result (result ≡ Err DumpFault.Write) }
+    ensures failed { (result ≡ Err DumpFault.Write) ↔ IsTrue (has_failed writer.new) }
+    ensures empty { OnOk result (string_bytes lines.new ≡ []) }
+    ensures written { OnOk result (Appends (W.contents (device_inner writer.old)) (W.contents (device_inner writer.new)) (string_bytes lines.old)) }
+    ensures begun { OnErr result ((written missing : List ℕ) × Appends (W.contents (device_inner writer.old)) (W.contents (device_inner writer.new)) written × (string_bytes lines.old ≡ written ++ missing)) }
+{
+    write_out(lines.as_bytes(), writer)?;
+    lines.clear();
+    Ok(())
+}
+
+/// Writes all of the bytes.
+fn write_out<W: Write + Drop>(bytes: &[u8], writer: &mut Device<W>) -> Result<(), DumpFault>
+    requires { ¬ (IsTrue (has_failed writer.old)) }
+    ensures write { OnErr result (result ≡ Err DumpFault.Write) }
+    ensures failed { (result ≡ Err DumpFault.Write) ↔ IsTrue (has_failed writer.new) }
+    ensures written { OnOk result (Appends (W.contents (device_inner writer.old)) (W.contents (device_inner writer.new)) bytes.now) }
+    ensures begun { OnErr result ((written missing : List ℕ) × Appends (W.contents (device_inner writer.old)) (W.contents (device_inner writer.new)) written × (bytes.now ≡ written ++ missing)) }
+{
+    let mut at = 0;
+    while at < bytes.len() {
+        match writer.write(&bytes[at..]) {
+            Ok(count) => at += count,
+            Err(_) => return Err(DumpFault::Write),
+        }
+    }
+    Ok(())
+}

@@ -1,0 +1,201 @@
+//! The units of a stream: its header and its frames, each with its place and the value that its body
+//! begins with.
+
+ghost use Rattle.std.specs.Prelude.{◌≡◌, ◌≢◌, ℕ, ◌+◌, ◌-◌, ◌^◌, ◌<◌, ◌≤◌, true, List, [], ◌++◌, length, take, is_some, IfOk, OnOk, IfSome};
+ghost use Rattle.amqp_frame.specs.Splits.{IsOver};
+ghost use Rattle.amqp_perform.specs.Reading.{body_at};
+ghost use Rattle.amqp_types.specs.Places.{place_of};
+ghost use Rattle.amqp_dump.specs.Entries.{Entry, entry_of, is_fault, header_entry, body_entry, told_entries, TellsOf};
+ghost use Rattle.amqp_dump.specs.Steps.{IsWaiting, IsReady, IsReadyBehind, HasTold, GoesOn, taken_by};
+
+use crate::scanned::{Scanned, ScannedFrame, StreamFault};
+use amqp_frame::{Frame, HEADER, Splitter};
+use amqp_perform::read_body;
+use amqp_types::{Limits, ReadFault, decode};
+use std::alloc::{AllocError, Global};
+
+/// The largest frame that is read, in bytes.
+pub const MAX_FRAME: usize = 1048576;
+
+/// How much of the value at the front of a body is read.
+pub const LIMITS: Limits = Limits {
+    depth: 32,
+    nodes: 65536,
+};
+
+/// Tells of the units of a stream, however its bytes come: frames of at most [`MAX_FRAME`] bytes, and values
+/// within [`LIMITS`], 32 levels of depth and 65536 nodes.
+#[derive(Drop)]
+pub struct Scanner {
+    splitter: Splitter,
+    /// Where the unit that is due begins: bytes from the first one of the stream.
+    place: usize,
+}
+
+impl Scanner {
+    /// A scanner at the start of a stream. It takes memory for the largest frame, and none for frames after that.
+    pub fn new(alloc: Global) -> Result<Self, AllocError>
+        ensures { IfOk result (λ s. HasTold s [] []) }
+    {
+        Ok(Scanner {
+            splitter: Splitter::new(alloc, MAX_FRAME)?,
+            place: 0,
+        })
+    }
+
+    /// How many bytes were taken.
+    pub fn taken(&self) -> usize
+        requires { taken_by self.now < 2 ^ 64 }
+        ensures { result ≡ taken_by self.now }
+    {
+        self.place + self.splitter.len()
+    }
+
+    /// Takes bytes of `piece` from `at` on, to the end of the unit that is due, and tells of that unit. `at`
+    /// goes to that end. None where the bytes end first, all of them taken. It is not called behind a fault.
+    ///
+    /// # Errors
+    ///
+    /// Memory for the value at the front of a body was refused. The scanner may then not be used again.
+    pub fn next(
+        &mut self,
+        alloc: Global,
+        piece: &[u8],
+        at: &mut usize,
+    ) -> Result<Option<Scanned>, AllocError>
+        requires ready { IsReady self.old }
+        requires within { at.old ≤ length piece.now }
+        requires fits { taken_by self.old + (length piece.now - at.old) < 2 ^ 64 }
+        ensures within { OnOk result (at.new ≤ length piece.now) }
+        ensures some { IfOk result (λ item. IfSome item (λ _. at.old < at.new)) }
+        ensures taken { OnOk result (taken_by self.new + (length piece.now - at.new) ≡ taken_by self.old + (length piece.now - at.old)) }
+        ensures ready { IfOk result (IsReadyBehind self.new) }
+        ensures told { (before : List ℕ) (entries : List Entry) → HasTold self.old (before ++ take at.old piece.now) entries → IfOk result (GoesOn piece.now at.new self.new before entries) }
+    {
+        let count = self.splitter.push(&piece[*at..]);
+        *at += count;
+        match waiting_unit(alloc, &self.splitter, self.place)? {
+            Some(item) => {
+                self.place += self.splitter.len();
+                self.splitter.drop_frame();
+                Ok(Some(item))
+            }
+            None => Ok(None),
+        }
+    }
+
+    /// What is told of a stream that ends here: a fault, or nothing where it ends behind a unit.
+    pub fn end(&self) -> Option<Scanned>
+        requires ready { IsReady self.now }
+        ensures fault { IfSome result (λ item. is_fault (entry_of item) ≡ true) }
+        ensures told { (bytes : List ℕ) (entries : List Entry) → HasTold self.now bytes entries → TellsOf bytes (entries ++ told_entries result) }
+    {
+        if self.place == 0 {
+            Some(Scanned::Fault(0, StreamFault::Header))
+        } else if self.splitter.is_empty() {
+            None
+        } else {
+            Some(Scanned::Fault(self.place, StreamFault::Cut))
+        }
+    }
+}
+
+/// The unit that waits in the splitter.
+fn waiting_unit(
+    alloc: Global,
+    splitter: &Splitter,
+    place: usize,
+) -> Result<Option<Scanned>, AllocError>
+    requires fits { place + length splitter.now.filled < 2 ^ 64 }
+    requires due { IsOver splitter.now.stage → ⊥ }
+    ensures { IfOk result (IsWaiting place splitter.now) }
+{
+    if let Some(header) = splitter.header() {
+        return Ok(Some(told_header(place, &header)));
+    }
+    match splitter.frame() {
+        Some(Ok(frame)) => Ok(Some(told_frame(alloc, place, splitter.len(), frame)?)),
+        Some(Err(fault)) => Ok(Some(Scanned::Fault(place, StreamFault::Frame(fault)))),
+        None => Ok(None),
+    }
+}
+
+/// The eight bytes in the header's place.
+fn told_header(place: usize, header: &[u8]) -> Scanned
+    ensures { entry_of result ≡ header_entry place header.now }
+{
+    if header == HEADER.as_slice() {
+        Scanned::Header
+    } else {
+        Scanned::Fault(place, StreamFault::Header)
+    }
+}
+
+/// A frame of `size` bytes, with the value at the front of its body, or the fault there.
+fn told_frame(
+    alloc: Global,
+    place: usize,
+    size: usize,
+    frame: Frame<'_>,
+) -> Result<Scanned, AllocError>
+    requires fits { place + size < 2 ^ 64 }
+    requires body { length frame.body.now ≤ size }
+    ensures { IfOk result (λ item. entry_of item ≡ body_entry place size frame.entry.channel (size - length frame.entry.body.now) frame.entry.body.now) }
+{
+    if frame.body.is_empty() {
+        return Ok(Scanned::Frame(ScannedFrame {
+            place,
+            size,
+            channel: frame.channel,
+            value: None,
+            is_performative: false,
+            payload: 0,
+        }));
+    }
+    match decode(alloc, frame.body, LIMITS) {
+        Ok((value, length)) => Ok(Scanned::Frame(ScannedFrame {
+            place,
+            size,
+            channel: frame.channel,
+            value: Some(value),
+            is_performative: says_performative(frame.body),
+            payload: frame.body.len() - length,
+        })),
+        Err(fault) => {
+            let inside = place_in_body(fault)?;
+            let body = place + (size - frame.body.len());
+            Ok(Scanned::Fault(body + inside, StreamFault::Value(fault)))
+        }
+    }
+}
+
+/// Whether a body begins with a performative whose fields are valid. [2.7]
+fn says_performative(body: &[u8]) -> bool
+    ensures { result ≡ is_some (body_at body.now) }
+{
+    match read_body(body) {
+        Ok(_) => true,
+        Err(_) => false,
+    }
+}
+
+/// The place of a fault, in bytes from the first one of the body.
+fn place_in_body(fault: ReadFault) -> Result<usize, AllocError>
+    ensures place { IfOk result (λ place. place ≡ place_of fault) }
+    ensures memory { OnOk result (fault ≢ ReadFault.NoMemory) }
+{
+    match fault {
+        ReadFault::Truncated(place)
+        | ReadFault::UnknownCode(place)
+        | ReadFault::BadSize(place)
+        | ReadFault::BadCount(place)
+        | ReadFault::BadText(place)
+        | ReadFault::BadSymbol(place)
+        | ReadFault::BadChar(place)
+        | ReadFault::BadBoolean(place)
+        | ReadFault::DuplicateKey(place)
+        | ReadFault::TooDeep(place)
+        | ReadFault::TooManyNodes(place) => Ok(place),
+        ReadFault::NoMemory => Err(AllocError),
+    }
+}

@@ -1,0 +1,57 @@
+//! What is told of a stream.
+
+ghost use Rattle.std.specs.Prelude.{◌≡◌};
+ghost use Rattle.amqp_dump.specs.Entries.{entry_of, is_fault};
+
+use amqp_frame::FrameFault;
+use amqp_types::{ReadFault, Value};
+
+/// A unit of a stream, or the fault that ends it.
+#[derive(Debug, Drop)]
+pub enum Scanned {
+    /// The header of AMQP 1.0, which is the first unit. [2.2]
+    Header,
+    /// A frame. [2.3.1]
+    Frame(ScannedFrame),
+    /// A fault, and its place: bytes from the first one of the stream.
+    Fault(usize, StreamFault),
+}
+
+/// A frame and what its body begins with.
+#[derive(Debug, Drop)]
+pub struct ScannedFrame {
+    /// Where the frame begins: bytes from the first one of the stream.
+    pub place: usize,
+    /// The length of the whole frame, in bytes.
+    pub size: usize,
+    pub channel: u16,
+    /// The value at the front of the body; none where there is no body.
+    pub value: Option<Value>,
+    /// Whether the body begins with a performative whose fields are valid. [2.7]
+    pub is_performative: bool,
+    /// How many bytes follow the value.
+    pub payload: usize,
+}
+
+/// Why a stream is not read on.
+#[derive(Clone, Copy, Debug, PartialEq, Eq)]
+pub enum StreamFault {
+    /// The first eight bytes are not the header of AMQP 1.0, or there are fewer.
+    Header,
+    /// The stream ends inside a frame.
+    Cut,
+    /// A frame that is none.
+    Frame(FrameFault),
+    /// A body whose front spells no value, or none within the limits. The place in the fault counts from
+    /// the first byte of the body.
+    Value(ReadFault),
+}
+
+impl Scanned {
+    /// Whether the stream is not read on behind this.
+    pub fn is_fault(&self) -> bool
+        ensures { result ≡ is_fault (entry_of self.now) }
+    {
+        matches!(self, Scanned::Fault(..))
+    }
+}
