@@ -11,6 +11,8 @@ const VERSION: &str = "0.1.0";
 pub enum Order<'a> {
     /// To print the frames of this file.
     Dump { file: &'a str },
+    /// To send this file as one message to the listener at this address.
+    Send { address: &'a str, file: &'a str },
 }
 
 /// The command line that `amqp` takes.
@@ -21,16 +23,31 @@ pub fn command_line<'a>(alloc: Global) -> Result<Command<'a>, AllocError> {
     let dump = Command::new(alloc, "dump")
         .about("Prints the frames of a file")
         .arg(file)?;
+    let message = Arg::new(alloc, "FILE").required(true).help("The message");
+    let address = Arg::new(alloc, "ADDR")
+        .long("to")
+        .required(true)
+        .help("Where the receiver listens: HOST:PORT");
+    let send = Command::new(alloc, "send")
+        .about("Sends a file as one message, and prints what became of it")
+        .arg(address)?
+        .arg(message)?;
     Command::new(alloc, "amqp")
         .version(VERSION)
         .about("Reads and speaks AMQP 1.0")
         .subcommand_required(true)
         .arg_required_else_help(true)
-        .subcommand(dump)
+        .subcommand(dump)?
+        .subcommand(send)
 }
 
 /// What a command line asks for that was read as one of [`command_line`]. None where it names no command.
 pub fn order_of<'a>(matches: &ArgMatches<'a>) -> Option<Order<'a>> {
+    if let Some(send) = matches.subcommand_matches("send") {
+        let address = send.get_str("ADDR")?;
+        let file = send.get_str("FILE")?;
+        return Some(Order::Send { address, file });
+    }
     let dump = matches.subcommand_matches("dump")?;
     let file = dump.get_str("FILE")?;
     Some(Order::Dump { file })

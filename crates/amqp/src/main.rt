@@ -3,6 +3,8 @@
 
 mod command;
 mod run;
+mod send;
+mod send_file;
 
 use std::process::ExitCode;
 

@@ -4,10 +4,13 @@ ghost use Rattle.std.specs.Prelude.{◌≡◌};
 ghost use Rattle.amqp.specs.declared.run.Fault.TheVariants.{NoMemory};
 
 use crate::command::{Order, command_line, order_of};
+use crate::send::Fate;
+use crate::send_file::{FileFault, send_file};
 use amqp_dump::{DumpFault, dump};
 use amqp_frame::Device;
 use clap::error::ErrorKind;
 use std::alloc::AllocError;
+use std::net::Net;
 use std::process::ExitCode;
 use std::rt::{Env, Files};
 use std::{env, fs, io};
@@ -25,6 +28,8 @@ enum Fault {
     NoMemory,
     #[error(transparent)]
     Dump(DumpFault),
+    #[error(transparent)]
+    Send(FileFault),
 }
 
 impl From<AllocError> for Fault {
@@ -37,7 +42,7 @@ impl From<AllocError> for Fault {
 
 /// Runs the program. The exit status is 0 for success, 1 for a fault and 2 for a command line that asks for
 /// no command; what went wrong stands on standard error, but for the fault in a dumped stream.
-pub fn run<R: Print + Eprint + Env + Files + AllocGlobal>(rt: &R) -> ExitCode {
+pub fn run<R: Print + Eprint + Env + Files + Net + AllocGlobal>(rt: &R) -> ExitCode {
     match obey(rt) {
         Ok(status) => status,
         Err(fault) => {
@@ -48,7 +53,7 @@ pub fn run<R: Print + Eprint + Env + Files + AllocGlobal>(rt: &R) -> ExitCode {
 }
 
 /// Does what the command line asks for.
-fn obey<R: Print + Eprint + Env + Files + AllocGlobal>(rt: &R) -> Result<ExitCode, Fault> {
+fn obey<R: Print + Eprint + Env + Files + Net + AllocGlobal>(rt: &R) -> Result<ExitCode, Fault> {
     let words = match words(rt) {
         Ok(words) => words,
         Err(error) => return refuse_words(rt, &error),
@@ -59,6 +64,7 @@ fn obey<R: Print + Eprint + Env + Files + AllocGlobal>(rt: &R) -> Result<ExitCod
     };
     match order_of(&matches) {
         Some(Order::Dump { file }) => dump_file(rt, file),
+        Some(Order::Send { address, file }) => send(rt, address, file),
         None => Ok(ExitCode::from(USAGE)),
     }
 }
@@ -103,4 +109,21 @@ fn dump_file<R: Print + Files + AllocGlobal>(rt: &R, path: &str) -> Result<ExitC
         Ok(false) => Ok(ExitCode::FAILURE),
         Err(fault) => Err(Fault::Dump(fault)),
     }
+}
+
+/// Sends a file, and prints what became of it on standard output.
+fn send<R: Print + Files + Net + AllocGlobal>(
+    rt: &R,
+    address: &str,
+    path: &str,
+) -> Result<ExitCode, Fault> {
+    let fate = match send_file(rt, address, path) {
+        Ok(fate) => fate,
+        Err(fault) => return Err(Fault::Send(fault)),
+    };
+    let _ = println!(rt; "{fate}");
+    Ok(match fate {
+        Fate::Accepted => ExitCode::SUCCESS,
+        _ => ExitCode::FAILURE,
+    })
 }

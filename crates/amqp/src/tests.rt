@@ -8,6 +8,7 @@ use std::env::FillError;
 use std::fmt::Display;
 use std::fs::{Metadata, OpenFile, OpenOptions};
 use std::io::{self, ErrorKind, Read, Seek, SeekFrom, Write};
+use std::net::{Net, SocketAddr, TcpListener, TcpStream};
 use std::process::ExitCode;
 use std::rt::{Env, Files};
 use std::test::Fail;
@@ -196,8 +197,23 @@ impl<'a> Files for Host<'a> {
     }
 }
 
-/// A host whose words are `amqp dump a.amqp`.
-fn dumping<'a>(alloc: Global, words: &'a [&'a str], file: Option<Bytes<'a>>) -> Host<'a> {
+/// It reaches no other.
+impl Net for Host<'_> {
+    type Stream = TcpStream;
+
+    type Listener = TcpListener;
+
+    fn bind(&self, _addr: SocketAddr) -> io::Result<TcpListener> {
+        Err(io::Error::from(ErrorKind::Unsupported))
+    }
+
+    fn connect(&self, _addr: SocketAddr) -> io::Result<TcpStream> {
+        Err(io::Error::from(ErrorKind::ConnectionRefused))
+    }
+}
+
+/// A host whose words are these.
+fn host_of<'a>(alloc: Global, words: &'a [&'a str], file: Option<Bytes<'a>>) -> Host<'a> {
     Host {
         alloc,
         words,
@@ -238,12 +254,12 @@ fn answers_by_status_and_standard_error(rt: HostRuntime) -> Result<(), Fail> {
         (None, ExitCode::FAILURE, "", "fault: Open\n"),
     ];
     for (file, status, out, err) in cases {
-        let host = dumping(alloc, &words, file);
+        let host = host_of(alloc, &words, file);
         assert!(rt; run(&host) == status);
         assert_eq!(rt; host.out.into_inner().as_str(), out);
         assert_eq!(rt; host.err.into_inner().as_str(), err);
     }
-    let mut host = dumping(alloc, &words, Some(whole));
+    let mut host = host_of(alloc, &words, Some(whole));
     host.is_shut = true;
     assert!(rt; run(&host) == ExitCode::FAILURE);
     assert_eq!(rt; host.err.into_inner().as_str(), "fault: Write\n");
@@ -251,14 +267,34 @@ fn answers_by_status_and_standard_error(rt: HostRuntime) -> Result<(), Fail> {
 }
 
 #[test]
+fn says_that_no_receiver_listens(rt: HostRuntime) -> Result<(), Fail> {
+    let words = ["amqp", "send", "--to", "127.0.0.1:5672", "a.amqp"];
+    let file = Bytes {
+        bytes: b"hi",
+        is_broken: false,
+    };
+    for file in [Some(file), None] {
+        let host = host_of(rt.alloc(), &words, file);
+        assert!(rt; run(&host) == ExitCode::FAILURE);
+        assert_eq!(rt; host.err.into_inner().as_str(), "fault: Open\n");
+    }
+    Ok(())
+}
+
+#[test]
 fn answers_a_command_line(rt: HostRuntime) -> Result<(), Fail> {
     let alloc = rt.alloc();
-    let host = dumping(alloc, &["amqp", "--version"], None);
+    let host = host_of(alloc, &["amqp", "--version"], None);
     assert!(rt; run(&host) == ExitCode::SUCCESS);
     assert_eq!(rt; host.out.into_inner().as_str(), "amqp 0.1.0\n");
-    let lines: [&[&str]; 3] = [&["amqp"], &["amqp", "dump"], &["amqp", "dump", "a", "b"]];
+    let lines: [&[&str]; 4] = [
+        &["amqp"],
+        &["amqp", "dump"],
+        &["amqp", "dump", "a", "b"],
+        &["amqp", "send", "a"],
+    ];
     for words in lines {
-        let host = dumping(alloc, words, None);
+        let host = host_of(alloc, words, None);
         assert!(rt; run(&host) == ExitCode::from(2));
         assert_eq!(rt; host.out.into_inner().as_str(), "");
     }

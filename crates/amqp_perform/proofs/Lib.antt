@@ -20,3 +20,4 @@ pub mod TrimLaws
 pub mod WrittenLaws
 pub mod StateLaws
 pub mod Writable
+pub mod Lengths

@@ -19,15 +19,16 @@ use Rattle.amqp_types.specs.Spelling.{Spells, size_len}
 use Rattle.amqp_types.specs.Trees.{Tree, Number, Octets, depth_of}
 use Rattle.amqp_types.proofs.Canons.{canonical_spells}
 use Rattle.amqp_perform.specs.declared.descriptor.Descriptor.{Descriptor}
+use Rattle.amqp_perform.specs.declared.descriptor.Descriptor.TheVariants as of_type
 use Rattle.amqp_perform.specs.declared.performative.Performative.{Performative}
-use Rattle.amqp_perform.specs.declared.performative.Performative.TheVariants as performative
 use Rattle.amqp_perform.specs.Again.{IsOfField, AreOfFields}
 use Rattle.amqp_perform.specs.Bodies.{BodyOf}
 use Rattle.amqp_perform.specs.Cells.{Cell, Absent, Whole, Bytes, Span, ◌>>=◌, is_null, value_cell, typed_cell, absent_cell, with_absence, field_cell, cells_of}
 use Rattle.amqp_perform.specs.Descriptors.{code_of, by_code}
-use Rattle.amqp_perform.specs.Frames.{null_text, kind_of, cell_text, written_text, field_text, field_texts, trimmed, list_text, described_text, performative_texts, performative_text, written_cells}
+use Rattle.amqp_perform.specs.Frames.{null_text, kind_of, cell_text, written_text, field_text, field_texts, trimmed, list_text, described_text, performative_text, written_cells}
 use Rattle.amqp_perform.specs.Items.{Item, text_of, AreSpelled, SpellsList}
 use Rattle.amqp_perform.specs.Performatives.{type_of}
+use Rattle.amqp_perform.specs.Said.{Said, said, said_texts, said_text, MayBeSaid}
 use Rattle.amqp_perform.specs.Tables.{FieldType, boolean, ubyte_to, ushort, uint_from, binary, string, symbol, anything, Absence, mandatory, optional, default, Field, open_fields, begin_fields, attach_fields, flow_fields, transfer_fields, disposition_fields, detach_fields, end_fields, close_fields, fields_of}
 use Rattle.amqp_perform.proofs.Steps.{bind_some}
 use Rattle.amqp_perform.proofs.TrimLaws.{texts_of, AreCells, null_spelled, trim, AreBelow, below}
@@ -149,11 +150,11 @@ block_long s n content =
     omega (arith, a, b, length-bytes_high_first (size_len s) (size_len s + length content), length-bytes_high_first (size_len s) n)
 
 -- a list with an item is not the empty one
-some_shortest : (n : ℕ) (content : List ℕ) → 0 < n → shortest (shell.List n) content ≡ sized kind.List (shell.List n) content
+pub some_shortest : (n : ℕ) (content : List ℕ) → 0 < n → shortest (shell.List n) content ≡ sized kind.List (shell.List n) content
 some_shortest n content lt = rw (ne_eqb n 0 (omega arith)) refl
 
 -- a list is longer than its items
-list_long : (texts : List (List ℕ)) → length (concat texts) + 1 ≤ length (list_text texts)
+pub list_long : (texts : List (List ℕ)) → length (concat texts) + 1 ≤ length (list_text texts)
 list_long [] = omega arith
 list_long (text ∷ texts) =
     let n = length (text ∷ texts) in
@@ -189,17 +190,22 @@ record IsKnown (d : Descriptor) (fs : List Field) : Type 0 where
   found : by_code (code_of d) ≡ Some d
   small : code_of d < 256
 
-known : (p : Performative) → (fs : List Field) × (fields_of (type_of p) ≡ Some fs) × IsKnown (type_of p) fs
+known : (d : Descriptor) (fs : List Field) → fields_of d ≡ Some fs → IsKnown d fs
 unfolding by_code
-known (performative.Open p) = (open_fields, refl, record { few = omega arith; found = refl; small = omega arith })
-known (performative.Begin p) = (begin_fields, refl, record { few = omega arith; found = refl; small = omega arith })
-known (performative.Attach p) = (attach_fields, refl, record { few = omega arith; found = refl; small = omega arith })
-known (performative.Flow p) = (flow_fields, refl, record { few = omega arith; found = refl; small = omega arith })
-known (performative.Transfer p) = (transfer_fields, refl, record { few = omega arith; found = refl; small = omega arith })
-known (performative.Disposition p) = (disposition_fields, refl, record { few = omega arith; found = refl; small = omega arith })
-known (performative.Detach p) = (detach_fields, refl, record { few = omega arith; found = refl; small = omega arith })
-known (performative.End p) = (end_fields, refl, record { few = omega arith; found = refl; small = omega arith })
-known (performative.Close p) = (close_fields, refl, record { few = omega arith; found = refl; small = omega arith })
+known of_type.Open fs e = subst (λ (z : List Field). IsKnown of_type.Open z) (same_Some open_fields fs e) (record { few = omega arith; found = refl; small = omega arith })
+known of_type.Begin fs e = subst (λ (z : List Field). IsKnown of_type.Begin z) (same_Some begin_fields fs e) (record { few = omega arith; found = refl; small = omega arith })
+known of_type.Attach fs e = subst (λ (z : List Field). IsKnown of_type.Attach z) (same_Some attach_fields fs e) (record { few = omega arith; found = refl; small = omega arith })
+known of_type.Flow fs e = subst (λ (z : List Field). IsKnown of_type.Flow z) (same_Some flow_fields fs e) (record { few = omega arith; found = refl; small = omega arith })
+known of_type.Transfer fs e = subst (λ (z : List Field). IsKnown of_type.Transfer z) (same_Some transfer_fields fs e) (record { few = omega arith; found = refl; small = omega arith })
+known of_type.Disposition fs e = subst (λ (z : List Field). IsKnown of_type.Disposition z) (same_Some disposition_fields fs e) (record { few = omega arith; found = refl; small = omega arith })
+known of_type.Detach fs e = subst (λ (z : List Field). IsKnown of_type.Detach z) (same_Some detach_fields fs e) (record { few = omega arith; found = refl; small = omega arith })
+known of_type.End fs e = subst (λ (z : List Field). IsKnown of_type.End z) (same_Some end_fields fs e) (record { few = omega arith; found = refl; small = omega arith })
+known of_type.Close fs e = subst (λ (z : List Field). IsKnown of_type.Close z) (same_Some close_fields fs e) (record { few = omega arith; found = refl; small = omega arith })
+known of_type.Error fs e = absurd (cc e)
+known of_type.Accepted fs e = absurd (cc e)
+known of_type.Rejected fs e = absurd (cc e)
+known of_type.Released fs e = absurd (cc e)
+known of_type.Modified fs e = absurd (cc e)
 
 -- no more items than fields
 no_more : (fs : List Field) (xs : List Item) (cells : List Cell) → cells_of fs xs ≡ Some cells → length xs ≤ length fs
@@ -243,12 +249,13 @@ described_says d fields cells payload table is h lt =
       left.2.cells_are,
     )
 
+pub said_says : (s : Said) (payload : List ℕ) → MayBeSaid s → length (said_text s) < 2 ^ 32 → BodyOf (said_text s ++ payload) s.type s.cells payload
+said_says s payload may lt =
+    let texts : said_texts s ≡ field_texts may.fields s.cells = ap (λ (o : Option (List Field)). field_texts (unwrap_or o []) s.cells) may.table in
+    let text : said_text s ≡ described_text s.type (field_texts may.fields s.cells) = ap (described_text s.type) texts in
+    subst (λ (b : List ℕ). BodyOf (b ++ payload) s.type s.cells payload) (sym text)
+    (described_says s.type may.fields s.cells payload may.table (known s.type may.fields may.table) may.each (subst (λ (b : List ℕ). length b < 2 ^ 32) text lt))
+
 pub written_says : (p : Performative) (fields : List Field) (payload : List ℕ) → fields_of (type_of p) ≡ Some fields → AreOfFields fields (written_cells p) → length (performative_text p) < 2 ^ 32
     → BodyOf (performative_text p ++ payload) (type_of p) (written_cells p) payload
-written_says p fields payload table h lt =
-    let k = known p in
-    let is = subst (λ (fs : List Field). IsKnown (type_of p) fs) (same_Some k.0 fields (sym k.1 ∙ table)) k.2 in
-    let texts : performative_texts p ≡ field_texts fields (written_cells p) = ap (λ (o : Option (List Field)). field_texts (unwrap_or o []) (written_cells p)) table in
-    let text : performative_text p ≡ described_text (type_of p) (field_texts fields (written_cells p)) = ap (described_text (type_of p)) texts in
-    subst (λ (b : List ℕ). BodyOf (b ++ payload) (type_of p) (written_cells p) payload) (sym text)
-    (described_says (type_of p) fields (written_cells p) payload table is h (subst (λ (b : List ℕ). length b < 2 ^ 32) text lt))
+written_says p fields payload table each lt = said_says (said p) payload (record { fields = fields; table = table; each = each }) lt

@@ -9,3 +9,4 @@ pub mod Frames
 pub mod Conditions
 pub mod Outcomes
 pub mod Again
+pub mod Said

@@ -1,6 +1,7 @@
 //! Laws of bodies and of written frames: calls without effect, whose contracts are the laws.
 
-ghost use Rattle.std.specs.Prelude.{◌≡◌, ℕ, ◌^◌, ◌<◌, ◌≤◌, List, ◌++◌, length, slice_index, Some, None};
+ghost use Rattle.std.specs.Prelude.{◌≡◌, ℕ, ◌+◌, ◌^◌, ◌<◌, ◌≤◌, List, [], ◌∷◌, ◌++◌, length, slice_index, Some, None};
+ghost use Rattle.std.specs.List.{concat};
 ghost use Rattle.amqp_frame.specs.Units.{IsFrame, channel_of, body_of};
 ghost use Rattle.amqp_types.specs.Trees.{ListOf, depth_of};
 ghost use Rattle.amqp_perform.specs.declared.condition.Condition.{Condition};
@@ -10,14 +11,15 @@ ghost use Rattle.amqp_perform.specs.Again.{AreOfFields};
 ghost use Rattle.amqp_perform.specs.declared.descriptor.Descriptor.{Descriptor};
 ghost use Rattle.amqp_perform.specs.declared.descriptor.Descriptor.TheVariants.{Error};
 ghost use Rattle.amqp_perform.specs.Bodies.{BodyOf, Body, IsFaultOf};
-ghost use Rattle.amqp_perform.specs.Cells.{Cell};
+ghost use Rattle.amqp_perform.specs.Cells.{Cell, Whole, Bytes};
 ghost use Rattle.amqp_perform.specs.Conditions.{condition_span, condition_of, condition_in};
-ghost use Rattle.amqp_perform.specs.Frames.{performative_text, written_cells, frame_of};
+ghost use Rattle.amqp_perform.specs.Frames.{null_text, cell_text, trimmed, list_text, list_frame, performative_text, written_cells, frame_of};
 ghost use Rattle.amqp_perform.specs.Items.{Item, trees_of, SpellsDescribed};
 ghost use Rattle.amqp_perform.specs.Outcomes.{outcome_span, outcome_of, outcome_in};
 ghost use Rattle.amqp_perform.specs.Performatives.{type_of};
 ghost use Rattle.amqp_perform.specs.Reading.{body_at, fault_of};
-ghost use Rattle.amqp_perform.specs.Tables.{Field, fields_of};
+ghost use Rattle.amqp_perform.specs.Said.{Said, said, said_texts, said_text, said_frame, MayBeSaid};
+ghost use Rattle.amqp_perform.specs.Tables.{FieldType, uint, Field, fields_of};
 
 /// Reading is the grammar's: a body is read as a performative and a payload exactly if it says them. [2.7]
 pub fn reading_is_exact()
@@ -43,6 +45,45 @@ pub fn written_is_read()
 pub fn written_is_a_frame()
     ensures { (channel max : ℕ) (p : Performative) (payload : List ℕ) → channel < 2 ^ 16 → length (frame_of channel p payload) < 2 ^ 32 → length (frame_of channel p payload) ≤ max
         → IsFrame max (frame_of channel p payload) × (channel_of (frame_of channel p payload) ≡ channel) × (body_of (frame_of channel p payload) ≡ performative_text p ++ payload) }
+{}
+
+/// What is written for a performative in hand is told by its type and its fields alone, wherever it lies. [2.7]
+pub fn written_by_its_fields()
+    ensures text { (p : Performative) → performative_text p ≡ said_text (said p) }
+    ensures frame { (channel : ℕ) (p : Performative) (payload : List ℕ) → frame_of channel p payload ≡ said_frame channel (said p) payload }
+{}
+
+/// The body of a canonical frame says the fields that were written, and is read so. [2.7]
+pub fn said_is_read()
+    ensures body { (s : Said) (payload : List ℕ) → MayBeSaid s → length (said_text s) < 2 ^ 32 → BodyOf (said_text s ++ payload) s.type s.cells payload }
+    ensures read { (s : Said) (payload : List ℕ) → MayBeSaid s → length (said_text s) < 2 ^ 32 → body_at (said_text s ++ payload) ≡ Some (s.type, s.cells, payload) }
+{}
+
+/// The canonical frame of fields is one frame of the stream, on its channel, with their spelling and the payload as
+/// its body. [2.3.1]
+pub fn said_is_a_frame()
+    ensures { (channel max : ℕ) (s : Said) (payload : List ℕ) → channel < 2 ^ 16 → length (said_frame channel s payload) < 2 ^ 32 → length (said_frame channel s payload) ≤ max
+        → IsFrame max (said_frame channel s payload) × (channel_of (said_frame channel s payload) ≡ channel) × (body_of (said_frame channel s payload) ≡ said_text s ++ payload) }
+{}
+
+/// How long a canonical frame is: eleven bytes, the list of its fields without the nulls at the end, and the payload.
+/// So a payload adds its own length, and a frame is at most twenty bytes longer than its fields and its payload. [2.3.1; 1.6.22]
+pub fn frames_are_as_long()
+    ensures parts { (channel : ℕ) (s : Said) (payload : List ℕ) → length (said_frame channel s payload) ≡ 11 + length (list_text (trimmed (said_texts s))) + length payload }
+    ensures payload { (channel : ℕ) (s : Said) (payload : List ℕ) → length (said_frame channel s payload) ≡ length (said_frame channel s []) + length payload }
+    ensures most { (channel : ℕ) (s : Said) (payload : List ℕ) → length (said_frame channel s payload) ≤ 20 + length (concat (said_texts s)) + length payload }
+{}
+
+/// A uint takes at most five bytes, and a binary, a string or a symbol at most five more than it has. [1.6.6, 1.6.19 to 1.6.21]
+pub fn fields_are_as_long()
+    ensures numbers { (n : ℕ) → length (cell_text uint (Whole n)) ≤ 5 }
+    ensures octets { (type : FieldType) (octets : List ℕ) → length (cell_text type (Bytes octets)) ≤ 5 + length octets }
+{}
+
+/// A field that is left out makes a frame no longer, whatever the field was. [1.4]
+pub fn a_null_adds_no_more()
+    ensures { (channel : ℕ) (d : Descriptor) (before behind : List (List ℕ)) (text payload : List ℕ) → 0 < length text
+        → length (list_frame channel d (before ++ null_text ∷ behind) payload) ≤ length (list_frame channel d (before ++ text ∷ behind) payload) }
 {}
 
 /// What is read may be written: each field of a body that is made of bytes meets what `written_is_read` asks of

@@ -40,6 +40,9 @@ rest_found depth bytes rest fits is =
     let r = value_sound depth (outermost bytes) 1 None bytes s.0 fits s.1 in
     (s.0.0, r.text, r.spelled, r.takes.parts ∙ ap (λ (b : List ℕ). r.text ++ b) s.2, r.deep)
 
+pub tree_again : (depth : ℕ) (t : Tree) (text rest : List ℕ) → Spells t text → depth_of t ≤ depth → value_of depth None (text ++ rest) ≡ Ok (t, None, rest)
+tree_again depth t text rest spelled deep = value_again t depth (outermost (text ++ rest)) 1 None text rest spelled deep tt (λ c. absurd c)
+
 pub rest_again : (depth : ℕ) (t : Tree) (text rest : List ℕ) → Spells t text → depth_of t ≤ depth → after (value_of depth None (text ++ rest)) ≡ Ok rest
 rest_again depth t text rest spelled deep = ap after (value_again t depth (outermost (text ++ rest)) 1 None text rest spelled deep tt (λ c. absurd c))
 

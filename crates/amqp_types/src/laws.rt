@@ -43,6 +43,8 @@ pub fn reading_is_exact()
         → (t : Tree) × (text : List ℕ) × Spells t text × (bytes ≡ text ++ rest) × (depth_of t ≤ depth) }
     ensures skip_only { (depth : ℕ) (t : Tree) (text rest : List ℕ) → Spells t text → depth_of t ≤ depth
         → after (value_of depth None (text ++ rest)) ≡ Ok rest }
+    ensures value_only { (depth : ℕ) (t : Tree) (text rest : List ℕ) → Spells t text → depth_of t ≤ depth
+        → value_of depth None (text ++ rest) ≡ Ok (t, None, rest) }
 {}
 
 /// Bytes are misread where the reading function meets the fault, and nowhere else. [1.2]

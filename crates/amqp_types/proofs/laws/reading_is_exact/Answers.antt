@@ -1,4 +1,4 @@
-use Rattle.amqp_types.proofs.Calls.{decoded_found, decoded_again, rest_found, rest_again}
+use Rattle.amqp_types.proofs.Calls.{decoded_found, decoded_again, rest_found, rest_again, tree_again}
 use Rattle.amqp_types.proofs.laws.reading_is_exact.Goals as goal
 
 pub returns-clause-found : goal.returns-clause-found
@@ -12,3 +12,6 @@ returns-clause-skip_found c = rest_found
 
 pub returns-clause-skip_only : goal.returns-clause-skip_only
 returns-clause-skip_only c = rest_again
+
+pub returns-clause-value_only : goal.returns-clause-value_only
+returns-clause-value_only c = tree_again

@@ -1,0 +1,26 @@
+-- What stands in a field, seen from a performative in hand and from its cells.
+use Rattle.std.proofs.Common.{◌≡◌, ℕ, Bool, true, false, List, [], ◌∷◌, Option, Some, None, refl, is_some, unwrap_or}
+use Rattle.amqp_perform.specs.Performatives.{flag, span, optional_whole}
+use Rattle.amqp_send.specs.Tellings.{number, maybe, is_there, is_set, span_of}
+
+pub number_is : (n : Option ℕ) → number (optional_whole n) ≡ unwrap_or n 0
+number_is None = refl
+number_is (Some n) = refl
+
+pub there_is : (n : Option ℕ) → is_there (optional_whole n) ≡ is_some n
+there_is None = refl
+there_is (Some n) = refl
+
+pub maybe_is : (n : Option ℕ) → maybe (optional_whole n) ≡ n
+maybe_is None = refl
+maybe_is (Some n) = refl
+
+pub set_is : (b : Bool) → is_set (flag b) ≡ b
+set_is true = refl
+set_is false = refl
+
+pub span_is : (text : List ℕ) → span_of (span text) ≡ text
+span_is [] = refl
+span_is (b ∷ text) = refl
+
+pub ruleset fields_are = (number_is, there_is, maybe_is, set_is, span_is)

@@ -1,0 +1,13 @@
+-- What stands in the frames of a sender may stand there, so that they are read as they were written (AMQP 1.0, part 2, section 2.7).
+use Rattle.std.specs.Prelude.{ℕ, ◌^◌, ◌<◌, ◌≤◌, length, Option, Some, None}
+use Rattle.amqp_send.specs.Sendings.{SendTerms, frame, open_said, begin_said, attach_said}
+
+abbrev pub IsSmall : Option ℕ → Type 0
+IsSmall None = Unit {0}
+IsSmall (Some n) = n < 2 ^ 32
+
+-- the frames of the opening fit each receiver, whatever it accepts [2.7.1]
+pub record IsOpening (terms : SendTerms) : Type 0 where
+  pub first : length (frame (open_said terms.container_id)) ≤ 512
+  pub second : length (frame begin_said) ≤ 512
+  pub third : length (frame (attach_said terms.name)) ≤ 512

@@ -1,0 +1,132 @@
+-- What the units of the receiver's bytes tell a sender (AMQP 1.0, part 2, sections 2.2 and 2.7).
+use Rattle.std.specs.Prelude.{ℕ, ◌≤◌, ◌==◌, Bool, true, false, if◌then◌else◌, List, [], ◌∷◌, Option, Some, None, unwrap_or}
+use Rattle.amqp_frame.specs.Units.{StreamUnit, HeaderUnit, FrameUnit, FaultUnit, body_of, due_after}
+use Rattle.amqp_frame.specs.declared.units.Stage.{Stage}
+use Rattle.amqp_frame.specs.declared.units.Stage.TheVariants.{Header, Frames, Refused, Faulty}
+use Rattle.amqp_perform.specs.declared.descriptor.Descriptor.{Descriptor}
+use Rattle.amqp_perform.specs.declared.descriptor.Descriptor.TheVariants as of_type
+use Rattle.amqp_perform.specs.declared.outcome.Outcome.{Outcome}
+use Rattle.amqp_perform.specs.Cells.{Cell, Absent, Whole, Span}
+use Rattle.amqp_perform.specs.Conditions.{condition_of}
+use Rattle.amqp_perform.specs.Outcomes.{outcome_of}
+use Rattle.amqp_perform.specs.Reading.{body_at}
+use Rattle.amqp_send.specs.declared.telling.Told.{Told}
+use Rattle.amqp_send.specs.declared.telling.Told.TheVariants.{Nothing, Opened, Begun, Flowed, Disposed, Left, Closed, Unread}
+
+-- ---- what stands in a field
+
+-- a number, 0 where it is absent
+abbrev pub number : Cell → ℕ
+number (Whole n) = n
+number _ = 0
+
+abbrev pub maybe : Cell → Option ℕ
+maybe (Whole n) = Some n
+maybe _ = None
+
+abbrev pub is_there : Cell → Bool
+is_there Absent = false
+is_there _ = true
+
+abbrev pub is_set : Cell → Bool
+is_set (Whole n) = n == 1
+is_set _ = false
+
+abbrev pub span_of : Cell → List ℕ
+span_of (Span text) = text
+span_of _ = []
+
+-- ---- what a performative tells
+
+-- [2.7.1]
+abbrev pub open_told : List Cell → Told
+open_told (container ∷ hostname ∷ max_frame_size ∷ rest) = Opened (number max_frame_size)
+open_told _ = Nothing
+
+-- [2.7.2]
+abbrev pub begin_told : List Cell → Told
+begin_told (remote_channel ∷ next_outgoing_id ∷ incoming_window ∷ rest) = Begun (number next_outgoing_id) (number incoming_window)
+begin_told _ = Nothing
+
+-- a flow with a handle is of the link [2.7.4]
+abbrev pub flow_told : List Cell → Told
+flow_told (next ∷ window ∷ outgoing ∷ outgoing_window ∷ handle ∷ count ∷ credit ∷ available ∷ drain ∷ echo ∷ rest) =
+    Flowed (record {
+      next_incoming_id = number next;
+      incoming_window = number window;
+      of_link = is_there handle;
+      delivery_count = number count;
+      link_credit = number credit;
+      drain = is_set drain;
+      echo = is_set echo;
+    })
+flow_told _ = Nothing
+
+-- a disposition of the receiver that has an outcome, or settles [2.7.6]
+abbrev pub disposed : ℕ → ℕ → Bool → Option Outcome → Told
+disposed first last settled (Some outcome) = Disposed first last (Some outcome)
+disposed first last settled None = if settled then Disposed first last None else Nothing
+
+abbrev pub disposition_told : List Cell → Told
+disposition_told (role ∷ first ∷ last ∷ settled ∷ state ∷ rest) =
+    if is_set role then disposed (number first) (unwrap_or (maybe last) (number first)) (is_set settled) (outcome_of (span_of state)) else Nothing
+disposition_told _ = Nothing
+
+-- [2.7.7]
+abbrev pub detach_told : List Cell → Told
+detach_told (handle ∷ closed ∷ error ∷ rest) = Left (condition_of (span_of error))
+detach_told _ = Nothing
+
+-- [2.7.8]
+abbrev pub end_told : List Cell → Told
+end_told (error ∷ rest) = Left (condition_of (span_of error))
+end_told _ = Nothing
+
+-- [2.7.9]
+abbrev pub close_told : List Cell → Told
+close_told (error ∷ rest) = Closed (condition_of (span_of error))
+close_told _ = Nothing
+
+abbrev pub told_by : Descriptor → List Cell → Told
+told_by of_type.Open cells = open_told cells
+told_by of_type.Begin cells = begin_told cells
+told_by of_type.Flow cells = flow_told cells
+told_by of_type.Disposition cells = disposition_told cells
+told_by of_type.Detach cells = detach_told cells
+told_by of_type.End cells = end_told cells
+told_by of_type.Close cells = close_told cells
+told_by _ cells = Nothing
+
+-- ---- what a unit tells
+
+abbrev pub told_read : Option (Descriptor × List Cell × List ℕ) → Told
+told_read None = Unread
+told_read (Some x) = told_by x.0 x.1
+
+-- a frame without a body tells nothing [2.4.5]
+abbrev pub told_in : List ℕ → Told
+told_in [] = Nothing
+told_in (b ∷ bytes) = told_read (body_at (b ∷ bytes))
+
+abbrev pub told_at : Stage → Told
+told_at Frames = Nothing
+told_at Header = Unread
+told_at Refused = Unread
+told_at (Faulty fault) = Unread
+
+-- the acceptable header tells nothing [2.2]
+abbrev pub told_of : StreamUnit → Told
+told_of (HeaderUnit bytes) = told_at (due_after (HeaderUnit bytes))
+told_of (FrameUnit bytes) = told_in (body_of bytes)
+told_of (FaultUnit fault bytes) = Unread
+
+-- a max-frame-size that is told is at least 512 [2.7.1]
+abbrev pub IsLawful : Told → Type 0
+IsLawful (Opened n) = 512 ≤ n
+IsLawful Nothing = Unit {0}
+IsLawful (Begun next incoming_window) = Unit {0}
+IsLawful (Flowed l) = Unit {0}
+IsLawful (Disposed first last outcome) = Unit {0}
+IsLawful (Left c) = Unit {0}
+IsLawful (Closed c) = Unit {0}
+IsLawful Unread = Unit {0}

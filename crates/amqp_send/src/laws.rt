@@ -1,0 +1,63 @@
+//! What holds of every sender, whoever keeps it. The calls do nothing: their contracts are the laws.
+ghost use Rattle.std.specs.Prelude.{◌≡◌, ℕ, ◌^◌, ◌<◌, ◌≤◌, Bool, List, [], ◌∷◌, ◌++◌, length, false};
+ghost use Rattle.amqp_perform.specs.Said.{MayBeSaid};
+ghost use Rattle.amqp_send.specs.declared.flow_state.FlowState.{FlowState};
+ghost use Rattle.amqp_send.specs.Flows.{most};
+ghost use Rattle.amqp_send.specs.Frames.{IsSmall, IsOpening};
+ghost use Rattle.amqp_send.specs.Histories.{Deed, IsHistory, AllMayGo, IsLawfulEvent, Accepted, after_all, history, deeds};
+ghost use Rattle.amqp_send.specs.Lengths.{Lengths, NullIsLeast};
+ghost use Rattle.amqp_send.specs.Sendings.{SendTerms, Message, Sending, SendEvent, SendMay, send_after, can_write, frame, begin_said, flow_said, close_said, transfer_said, is_last, next_frame};
+
+use amqp_perform::laws::{a_null_adds_no_more, fields_are_as_long, frames_are_as_long};
+
+/// One event more: the sender is what its longer history gives. What was moved out and what waits is the header,
+/// the opening, the answers to flows, and the transfers of the messages, which are those that were taken over, in
+/// order, each once. Each transfer went where the window had a place and, if it begins a delivery, credit was
+/// there, both by the last flow [2.5.6, 2.6.7].
+pub fn history_goes_on()
+    ensures { (terms : SendTerms) (h : List Deed) (s : Sending) (e : SendEvent) → IsHistory terms h s → AllMayGo h → 512 ≤ s.flow.max_frame_size → IsLawfulEvent e → SendMay s e
+        → IsHistory terms (deeds s e ++ h) (send_after s e) × AllMayGo (deeds s e ++ h) × (512 ≤ (send_after s e).flow.max_frame_size) }
+{
+    lengths_of_frames();
+}
+
+/// After any list of accepted events the sender is what the counts and selections over the whole history give,
+/// and no frame is left unwritten that may be written.
+pub fn steps_give_the_history()
+    ensures is { (terms : SendTerms) (es : List SendEvent) → Accepted terms es → IsHistory terms (history terms es) (after_all terms es) }
+    ensures may { (terms : SendTerms) (es : List SendEvent) → Accepted terms es → AllMayGo (history terms es) }
+    ensures written { (terms : SendTerms) (es : List SendEvent) → Accepted terms es → can_write (after_all terms es) ≡ false }
+{
+    lengths_of_frames();
+}
+
+/// How long the frames are that a sender writes.
+pub fn lengths_of_frames()
+    ensures lengths { Lengths }
+    ensures null { NullIsLeast }
+{
+    a_null_adds_no_more();
+    frames_are_as_long();
+    fields_are_as_long();
+}
+
+/// The frames that a sender writes say what may be said, so that they are read as they were written. [2.7]
+pub fn frames_may_be_said()
+    ensures begin { MayBeSaid begin_said }
+    ensures flow { (f : FlowState) (drain : Bool) → IsSmall f.peer_next_outgoing_id → f.next_outgoing_id < 2 ^ 32 → f.delivery_count < 2 ^ 32 → MayBeSaid (flow_said f drain) }
+    ensures transfer { (id : ℕ) (begun more : Bool) → id < 2 ^ 32 → MayBeSaid (transfer_said id begun more) }
+    ensures close { MayBeSaid close_said }
+{}
+
+/// Each frame of the opening has at most 512 bytes, which each receiver accepts, a flow at most 64, and a close
+/// 12; no transfer is longer than the receiver accepts, and each that more follow is exactly as long as a frame
+/// may be. [2.7.1]
+pub fn frames_are_within()
+    ensures opening { (terms : SendTerms) → length terms.container_id ≤ 255 → length terms.name ≤ 255 → IsOpening terms }
+    ensures flow { (f : FlowState) (drain : Bool) → length (frame (flow_said f drain)) ≤ 64 }
+    ensures close { length (frame close_said) ≡ 12 }
+    ensures transfer { (f : FlowState) (m : Message) → 512 ≤ f.max_frame_size → (length (next_frame f m) ≤ 4096) × (length (next_frame f m) ≤ f.max_frame_size) }
+    ensures full { (f : FlowState) (m : Message) → 512 ≤ f.max_frame_size → is_last f m ≡ false → length (next_frame f m) ≡ most f }
+{
+    lengths_of_frames();
+}

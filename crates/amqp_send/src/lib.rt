@@ -1,0 +1,24 @@
+//! A sender for tests: one connection, one session and one link, over which it sends one message at a time
+//! [AMQP 1.0, part 2].
+//!
+//! [`Sender::new`] writes the protocol header; then as they come [`Sender::offer`] takes a message over,
+//! [`Sender::feed`] takes the receiver's bytes and tells what they bring, and [`Sender::output`] moves out what
+//! is to be sent. `specs/Sendings.antt` has its state, the frames that it writes and what each event does to
+//! it; `specs/Tellings.antt` what the receiver's units tell it.
+#![tactic(auto)]
+
+mod config;
+mod flow_state;
+mod frames;
+pub mod laws;
+mod news;
+mod outgoing;
+mod output;
+mod sender;
+mod sending;
+mod talk;
+mod telling;
+
+pub use config::SendConfig;
+pub use news::{News, OfferFault};
+pub use sender::Sender;

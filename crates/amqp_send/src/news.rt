@@ -1,0 +1,27 @@
+//! What a sender tells its caller.
+
+use amqp_perform::{Condition, Outcome};
+
+/// What a unit of the receiver's bytes brought.
+#[derive(Clone, Copy, Debug, PartialEq, Eq)]
+pub enum News {
+    /// The receiver told what became of the deliveries from `first` to `last`: an outcome, or none where it
+    /// settled them without one [2.7.6, 3.4].
+    Disposition {
+        first: u32,
+        last: u32,
+        outcome: Option<Outcome>,
+    },
+    /// The sender ended: by a detach, an end or a close, with the condition of its error, or `Other` where it
+    /// has none; or by a header or bytes that can't be read, with `Other`.
+    Ended(Condition),
+}
+
+/// Why a message is not taken over.
+#[derive(Clone, Copy, Debug, PartialEq, Eq)]
+pub enum OfferFault {
+    /// The last frame of another message is not yet in the pipe.
+    Busy,
+    /// The sender ended, or it was closed, which has the condition `Other`.
+    Ended(Condition),
+}

@@ -1,0 +1,157 @@
+//! The message that is being sent, frame by frame [2.6.14].
+ghost use Rattle.std.specs.Prelude.{◌≡◌, ◌≤◌, ◌+◌, ◌++◌, length, drop, take, Some, None, true, false};
+ghost use Rattle.amqp_perform.specs.Said.{said_frame};
+ghost use Rattle.amqp_send.specs.Flows as flows;
+ghost use Rattle.amqp_send.specs.Sendings as spec;
+ghost use Rattle.amqp_send.specs.Sendings.{Message, is_last, next_frame, left_of, heads_of, may_go, transfer_said};
+
+use crate::flow_state::FlowState;
+use crate::frames::transfer;
+use crate::laws::lengths_of_frames;
+use crate::output::Output;
+use std::alloc::{Allocator, Global};
+use std::marker::Model;
+
+/// A message, and how much of it stands in frames.
+#[derive(Drop)]
+pub struct Outgoing<A: Allocator + Copy = Global> {
+    bytes: Vec<u8, A>,
+    /// So many bytes stand in frames.
+    at: usize,
+    /// The first frame is written.
+    begun: bool,
+}
+
+impl<A: Allocator + Copy> Model for Outgoing<A> {
+    ghost use Rattle.std.specs.Prelude.{◌≤◌, length, drop};
+    ghost use Rattle.amqp_send.specs.Sendings.{Message};
+
+    ghost Value = { Message };
+
+    ghost view = { λ a. record { rest = drop a.at a.bytes.items; begun = a.begun } };
+
+    ghost invariant = { λ a. a.at ≤ length a.bytes.items };
+}
+
+/// How much of a message goes into its next frame.
+#[derive(Clone, Copy)]
+pub struct Part {
+    pub len: usize,
+    /// No frame follows.
+    pub last: bool,
+}
+
+impl<A: Allocator + Copy> Outgoing<A> {
+    /// A message of which no frame is written.
+    pub fn new(bytes: Vec<u8, A>) -> Self
+        ensures { result ≡ record { rest = bytes.items; begun = false } }
+    {
+        Outgoing {
+            bytes,
+            at: 0,
+            begun: false,
+        }
+    }
+
+    /// What stands in no frame.
+    fn rest(&self) -> &[u8]
+        ensures { result.now ≡ self.now.rest }
+    {
+        &self.bytes[self.at..]
+    }
+
+    /// Whether its first frame is written.
+    fn is_begun(&self) -> bool
+        ensures { result ≡ self.now.begun }
+    {
+        self.begun
+    }
+
+    /// So much more of it stands in a frame.
+    fn advance(&mut self, len: usize)
+        requires { len ≤ length self.old.rest }
+        ensures { self.new ≡ record { rest = drop len self.old.rest; begun = true } }
+    {
+        self.at += len;
+        self.begun = true;
+    }
+}
+
+/// How much of the message goes into its next frame: all that is left where that fits one, and else as much as
+/// fills one that more follow.
+fn share<A: Allocator + Copy>(
+    message: &Outgoing<A>,
+    flow: FlowState,
+    output: &mut Output<A>,
+) -> Part
+    ensures len { result.len ≡ spec.share flow message.now }
+    ensures last { result.last ≡ is_last flow message.now }
+    ensures same { output.new ≡ output.old }
+{
+    let most = flow.most();
+    let tag = flow.delivery_id.to_be_bytes();
+    let begun = message.is_begun();
+    let last = transfer(flow.delivery_id, &tag, begun, false);
+    if output.measure(&last, message.rest(), most).is_some() {
+        return Part {
+            len: message.rest().len(),
+            last: true,
+        };
+    }
+    let head = transfer(flow.delivery_id, &tag, begun, true);
+    let head_len = output.measure(&head, &[], most).unwrap_or(most);
+    Part {
+        len: most - head_len,
+        last: false,
+    }
+}
+
+/// Puts the frame with this share of the message into the output, where there is room for it.
+fn put_part<A: Allocator + Copy>(
+    message: &Outgoing<A>,
+    flow: FlowState,
+    part: Part,
+    output: &mut Output<A>,
+) -> bool
+    requires least { 512 ≤ flow.max_frame_size }
+    requires len { part.len ≡ spec.share flow message.now }
+    requires last { part.last ≡ is_last flow message.now }
+    ensures fits { result ≡ spec.fits output.old (next_frame flow message.now) }
+    ensures new { output.new ≡ spec.put output.old (next_frame flow message.now) }
+{
+    lengths_of_frames();
+    let tag = flow.delivery_id.to_be_bytes();
+    let frame = transfer(flow.delivery_id, &tag, message.is_begun(), !part.last);
+    output.put(&frame, &message.rest()[..part.len])
+}
+
+/// Writes the next frame of the message into the output, where credit, for a first frame, a place in the window
+/// and room are there, and answers whether they are, and what is left of the message. Where they are not nothing
+/// changes.
+pub fn write_frame_of<A: Allocator + Copy>(
+    mut message: Outgoing<A>,
+    flow: &mut FlowState,
+    output: &mut Output<A>,
+) -> (bool, Option<Outgoing<A>>)
+    requires { 512 ≤ flow.old.max_frame_size }
+    ensures goes { result.0 ≡ may_go flow.old output.old message }
+    ensures output { output.new ≡ spec.output_behind flow.old output.old message }
+    ensures flow { flow.new ≡ spec.flow_behind flow.old output.old message }
+    ensures left { result.1 ≡ spec.message_behind flow.old output.old message }
+{
+    lengths_of_frames();
+    let begun = message.is_begun();
+    if !begun && flow.credit() == 0 || flow.window() == 0 {
+        return (false, Some(message));
+    }
+    let part = share(&message, *flow, output);
+    if !put_part(&message, *flow, part, output) {
+        return (false, Some(message));
+    }
+    *flow = flow.transferred(if begun { 0 } else { 1 });
+    if part.last {
+        return (true, None);
+    }
+    message.advance(part.len);
+    (true, Some(message))
+}

@@ -1,0 +1,108 @@
+//! What waits to be sent.
+ghost use Rattle.std.specs.Prelude.{◌≡◌, ◌≤◌, ◌+◌, ◌++◌, [], min, length, take, drop, IfOk};
+ghost use Rattle.std.specs.Option.{SomeIff};
+ghost use Rattle.amqp_perform.specs.Said.{said, said_frame};
+ghost use Rattle.amqp_send.specs.Sendings as spec;
+ghost use Rattle.amqp_send.specs.Sendings.{pipe_size, frame, fits};
+
+use crate::flow_state::MAX_FRAME_SIZE;
+use amqp_perform::{Performative, write_frame};
+use circular_buffer::HeapCircularBuffer;
+use std::alloc::{AllocError, Allocator, Global};
+use std::marker::Model;
+
+/// How many bytes may wait.
+const PIPE_SIZE: usize = 8192;
+
+/// The bytes that wait to be sent, at most 8192, and one frame's room in which a frame is put together. Only
+/// `new` takes memory.
+#[derive(Drop)]
+pub struct Output<A: Allocator + Copy = Global> {
+    pipe: HeapCircularBuffer<u8, A>,
+    scratch: Vec<u8, A>,
+}
+
+impl<A: Allocator + Copy> Model for Output<A> {
+    ghost use Rattle.std.specs.Prelude.{ℕ, List, ◌≡◌, ◌≤◌, length};
+
+    ghost Value = { List ℕ };
+
+    ghost view = { λ a. a.pipe.items };
+
+    ghost invariant = { λ a. (a.pipe.capacity ≡ 8192) × (length a.pipe.items ≤ 8192) × (length a.scratch.items ≡ 4096) };
+}
+
+impl<A: Allocator + Copy> Output<A> {
+    /// Nothing waits.
+    pub fn new(alloc: A) -> Result<Self, AllocError>
+        ensures { IfOk result (λ a. a ≡ []) }
+    {
+        Ok(Output {
+            pipe: HeapCircularBuffer::with_capacity(alloc, PIPE_SIZE)?,
+            scratch: Vec::from_elem(alloc, 0, MAX_FRAME_SIZE as usize)?,
+        })
+    }
+
+    /// How many bytes more may wait.
+    pub fn room(&self) -> usize
+        ensures { length self.now + result ≡ pipe_size }
+    {
+        PIPE_SIZE - self.pipe.len()
+    }
+
+    /// Puts bytes behind those that wait.
+    pub fn put_bytes(&mut self, bytes: &[u8])
+        requires { length self.old + length bytes.now ≤ pipe_size }
+        ensures { self.new ≡ self.old ++ bytes.now }
+    {
+        self.pipe.fill_from_slice(bytes);
+    }
+
+    /// How long a frame would be, where that is at most `most`.
+    pub fn measure(
+        &mut self,
+        performative: &Performative<'_>,
+        payload: &[u8],
+        most: usize,
+    ) -> Option<usize>
+        requires { most ≤ 4096 }
+        ensures len { SomeIff result (length (said_frame 0 (said performative.now) payload.now) ≤ most) (length (said_frame 0 (said performative.now) payload.now)) }
+        ensures same { self.new ≡ self.old }
+    {
+        write_frame(0, performative, payload, &mut self.scratch[..most])
+    }
+
+    /// Puts a frame behind the bytes that wait, where there is room for it whole, and answers whether there
+    /// is. Without room nothing changes.
+    pub fn put(&mut self, performative: &Performative<'_>, payload: &[u8]) -> bool
+        requires { length (said_frame 0 (said performative.now) payload.now) ≤ 4096 }
+        ensures fits { result ≡ fits self.old (said_frame 0 (said performative.now) payload.now) }
+        ensures new { self.new ≡ spec.put self.old (said_frame 0 (said performative.now) payload.now) }
+    {
+        match write_frame(0, performative, payload, self.scratch.as_mut_slice()) {
+            Some(len) if len <= PIPE_SIZE - self.pipe.len() => {
+                self.pipe.fill_from_slice(&self.scratch[..len]);
+                true
+            }
+            _ => false,
+        }
+    }
+
+    /// Puts a frame without payload, for which there is room, behind the bytes that wait.
+    pub fn append(&mut self, performative: &Performative<'_>)
+        requires short { length (frame (said performative.now)) ≤ 4096 }
+        requires room { length self.old + length (frame (said performative.now)) ≤ pipe_size }
+        ensures { self.new ≡ self.old ++ frame (said performative.now) }
+    {
+        self.put(performative, &[]);
+    }
+
+    /// Moves the first bytes that wait into `out`, as many as it holds, and answers how many.
+    pub fn read_into(&mut self, out: &mut [u8]) -> usize
+        ensures count { result ≡ min (length out.old) (length self.old) }
+        ensures read { out.new ≡ take result self.old ++ drop result out.old }
+        ensures left { self.new ≡ drop result self.old }
+    {
+        self.pipe.read_into(out)
+    }
+}

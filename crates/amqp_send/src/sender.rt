@@ -1,0 +1,153 @@
+//! A sender over one connection.
+ghost use Rattle.std.specs.Prelude.{◌≡◌, ◌≤◌, ◌<◌, ◌++◌, ℕ, min, [], length, take, drop, IfOk, IfErr, OnOk, IsTrue, IsFalse, Some, None, true, false, ◌↔◌};
+ghost use Rattle.std.specs.String.{string_bytes};
+ghost use Rattle.amqp_frame.specs.Splits.{IsHeld, IsUnchanged, IsEmptied, TakesNothing, Waits};
+ghost use Rattle.amqp_frame.specs.Units.{StreamUnit, IsRest, due_after};
+ghost use Rattle.amqp_frame.specs.declared.units.Stage.{Stage};
+ghost use Rattle.amqp_send.specs.Calls.{SenderState, taken};
+ghost use Rattle.amqp_send.specs.Keeping.{terms_of};
+ghost use Rattle.amqp_send.specs.Tellings.{told_of, IsLawful};
+ghost use Rattle.amqp_send.specs.Sendings.{sending_begins, SendEvent, send_after, sent_news, offer_fault, has_room, may_close, can_write, left_to_send};
+
+use crate::config::SendConfig;
+use crate::flow_state::MAX_FRAME_SIZE;
+use crate::laws::lengths_of_frames;
+use crate::news::{News, OfferFault};
+use crate::sending::Sending;
+use crate::telling::told_by_unit;
+use amqp_frame::Splitter;
+use std::alloc::{AllocError, Allocator, Global};
+use std::marker::Model;
+
+/// How much room the pipe must have before a unit is acted upon.
+const ANSWER_ROOM: usize = 64;
+
+/// A sender over one connection, with one session on channel 0 and one link on handle 0 [2.4, 2.5, 2.6].
+///
+/// It sends one message at a time, each as one delivery: a first frame goes where the receiver gave credit, and
+/// each frame where a place is left in its window and room in the output pipe of 8192 bytes. Only
+/// [`Sender::new`] takes memory.
+#[derive(Drop)]
+pub struct Sender<A: Allocator + Copy = Global> {
+    input: Splitter<A>,
+    sending: Sending<A>,
+}
+
+impl<A: Allocator + Copy> Model for Sender<A> {
+    ghost use Rattle.amqp_send.specs.Calls.{SenderState, IsSender};
+
+    ghost Value = { SenderState };
+
+    ghost view = { λ a. record { input = a.input; sending = a.sending } };
+
+    ghost invariant = { λ a. IsSender a.input a.sending };
+}
+
+impl<A: Allocator + Copy> Sender<A> {
+    /// A sender that has written the protocol header [2.2]. The opening follows once the receiver's header has
+    /// come. Takes all the memory that the sender ever needs; an error where that is refused.
+    pub fn new(alloc: A, config: SendConfig<A>) -> Result<Self, AllocError>
+        requires container_id { length (string_bytes config.container_id) ≤ 255 }
+        requires name { length (string_bytes config.name) ≤ 255 }
+        ensures { IfOk result (λ s. s ≡ record { input = record { limit = 4096; stage = Stage.Header; filled = []; room = 4096 }; sending = sending_begins (terms_of config) }) }
+    {
+        Ok(Sender {
+            input: Splitter::new(alloc, MAX_FRAME_SIZE as usize)?,
+            sending: Sending::new(alloc, config)?,
+        })
+    }
+
+    /// Takes a message over, which is sent as the receiver allows. It comes back with `Busy` while the last
+    /// frame of another one is not yet in the pipe, and with `Ended` once the sender has ended or was closed;
+    /// the sender is then unchanged.
+    pub fn offer(&mut self, message: Vec<u8, A>) -> Result<(), (OfferFault, Vec<u8, A>)>
+        ensures ok { OnOk result ((offer_fault self.old.sending ≡ None) × (self.new ≡ record self.old { sending = send_after self.old.sending (SendEvent.Offered message.items) })) }
+        ensures err { IfErr result (λ e. (offer_fault self.old.sending ≡ Some e.0) × (e.1.items ≡ message.items) × (self.new ≡ self.old)) }
+        ensures written { can_write self.new.sending ≡ false }
+    {
+        if let Some(fault) = self.sending.offer_fault() {
+            return Err((fault, message));
+        }
+        self.sending.offer(message);
+        self.sending.write_all();
+        Ok(())
+    }
+
+    /// Takes bytes of the receiver up to the end of its header, of one frame, or to the byte that shows that
+    /// there is none, and answers how many, with what they brought. A unit that is whole is acted upon, and the
+    /// frames that may then be written are, if the pipe has 64 bytes of room; otherwise it waits, no byte is
+    /// taken while it does, and the next call tries it again.
+    pub fn feed(&mut self, piece: &[u8]) -> (usize, Option<News>)
+        ensures bound { result.0 ≤ length piece.now }
+
+        // It takes all that it may.
+        ensures all { result.0 < length piece.now → TakesNothing (taken self.old.input (take result.0 piece.now)) }
+        ensures full { TakesNothing self.old.input → result.0 ≡ 0 }
+        ensures early { (k : ℕ) → k < result.0 → IsRest self.old.input.limit self.old.input.stage (self.old.input.filled ++ take k piece.now) }
+
+        // A unit is acted upon where there is room.
+        ensures acted { (u : StreamUnit) → Waits (taken self.old.input (take result.0 piece.now)) u → has_room self.old.sending ≡ true
+            → IsEmptied (taken self.old.input (take result.0 piece.now)) self.new.input (due_after u) × (self.new.sending ≡ send_after self.old.sending (SendEvent.Acted u)) × (result.1 ≡ sent_news self.old.sending u) }
+        ensures waits { has_room self.old.sending ≡ false
+            → IsUnchanged (taken self.old.input (take result.0 piece.now)) self.new.input × (self.new.sending ≡ self.old.sending) × (result.1 ≡ None) }
+        ensures none { ((u : StreamUnit) → Waits (taken self.old.input (take result.0 piece.now)) u → ⊥)
+            → IsUnchanged (taken self.old.input (take result.0 piece.now)) self.new.input × (self.new.sending ≡ self.old.sending) × (result.1 ≡ None) }
+        ensures lawful { (u : StreamUnit) → Waits (taken self.old.input (take result.0 piece.now)) u → has_room self.old.sending ≡ true → IsLawful (told_of u) }
+        ensures written { can_write self.new.sending ≡ false }
+    {
+        let used = self.input.push(piece);
+        (used, self.act())
+    }
+
+    /// Acts upon the unit that waits, if one does and the pipe has room for an answer.
+    fn act(&mut self) -> Option<News>
+        ensures acted { (u : StreamUnit) → Waits self.old.input u → has_room self.old.sending ≡ true
+            → IsEmptied self.old.input self.new.input (due_after u) × (self.new.sending ≡ send_after self.old.sending (SendEvent.Acted u)) × (result ≡ sent_news self.old.sending u) }
+        ensures waits { has_room self.old.sending ≡ false → (self.new ≡ self.old) × (result ≡ None) }
+        ensures none { ((u : StreamUnit) → Waits self.old.input u → ⊥) → (self.new ≡ self.old) × (result ≡ None) }
+        ensures lawful { (u : StreamUnit) → Waits self.old.input u → has_room self.old.sending ≡ true → IsLawful (told_of u) }
+        ensures written { can_write self.new.sending ≡ false }
+    {
+        if self.sending.room() < ANSWER_ROOM {
+            return None;
+        }
+        let told = told_by_unit(&self.input)?;
+        self.input.drop_frame();
+        let news = self.sending.hear(told);
+        self.sending.write_all();
+        news
+    }
+
+    /// Moves the first bytes that wait to be sent into `out`, as many as it holds, and answers how many. The
+    /// frames for which there is room then are written behind the others, so that more may wait after the call.
+    pub fn output(&mut self, out: &mut [u8]) -> usize
+        ensures count { result ≡ min (length out.old) (length self.old.sending.unsent) }
+        ensures read { out.new ≡ take result self.old.sending.unsent ++ drop result out.old }
+        ensures new { self.new ≡ record self.old { sending = send_after self.old.sending (SendEvent.Moved result) } }
+        ensures written { can_write self.new.sending ≡ false }
+
+        // So a loop that moves all out ends.
+        ensures less { 0 < result → left_to_send self.new.sending < left_to_send self.old.sending }
+    {
+        lengths_of_frames();
+        let count = self.sending.read_into(out);
+        self.sending.write_all();
+        count
+    }
+
+    /// Closes the connection [2.4.3]: writes the close and answers true, and after that only the receiver's
+    /// close counts. False, with nothing changed, before the opening is written, once the sender was closed or
+    /// has ended, and where the pipe has fewer than 12 bytes of room.
+    pub fn close(&mut self) -> bool
+        ensures may { result ≡ may_close self.old.sending }
+        ensures closed { IsTrue result → self.new ≡ record self.old { sending = send_after self.old.sending SendEvent.Left_off } }
+        ensures unchanged { IsFalse result → self.new ≡ self.old }
+        ensures written { can_write self.new.sending ≡ false }
+    {
+        let closed = self.sending.close();
+        if closed {
+            self.sending.write_all();
+        }
+        closed
+    }
+}

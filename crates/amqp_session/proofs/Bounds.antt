@@ -1,0 +1,108 @@
+-- What a session keeps, counted over its history, and how much that is at most.
+use Rattle.std.proofs.Common.{arith, ◌≡◌, ℕ, zero, suc, ◌+◌, ◌*◌, ◌<◌, ◌≤◌, not, List, ◌∷◌, length, filter, refl, ap, add-mul}
+use Rattle.std.specs.Prelude.{sum_by}
+use Rattle.std.specs.List.{count_by}
+use Rattle.std.proofs.lemmas.List.Sums.{sum_by-cons}
+use Rattle.amqp_link.specs.Bounds.{Bounds}
+use Rattle.amqp_link.specs.declared.terms.Terms.{Terms}
+use Rattle.amqp_link.specs.Links.{LinkEvent, link_bytes, open_set, newly_settled, named_count}
+use Rattle.amqp_link.specs.Laws.{is_named_by}
+use Rattle.amqp_link.specs.Histories as link
+use Rattle.amqp_session.specs.declared.slot.Slot.{Slot}
+use Rattle.amqp_session.specs.declared.slot.Slot.TheVariants.{Free, Live, Waits}
+use Rattle.amqp_session.specs.declared.terms.SessionTerms.{SessionTerms}
+use Rattle.amqp_session.specs.Places.{Life, IfLive, tabulate, life_state}
+use Rattle.amqp_session.specs.Sessions.{Attached, LiveLink, SessionEvent, handles, slot_bytes, session_bytes}
+use Rattle.amqp_session.specs.Histories.{part, live_state, state_of, IsSoundPart, Sound}
+use Rattle.amqp_session.specs.Faults.{is_free, slot_settled, settled_count}
+use Rattle.amqp_session.specs.Laws.{parts, used_count, part_bytes, part_settled, slot_named, named_total, part_named}
+
+-- what the links owe
+abbrev pub LinkBound : Type 0
+LinkBound = (terms : Terms) (h : List LinkEvent) → link.Sound terms h → link_bytes (link.state_of terms h) ≤ terms.bounds.allowed * (terms.bounds.max_message_size + 96)
+
+abbrev pub LinkBytes : Type 0
+LinkBytes = (terms : Terms) (h : List LinkEvent) → link_bytes (link.state_of terms h) ≡ sum_by (link.kept_bytes h) (filter (link.is_open terms h) (link.groups h))
+
+abbrev pub LinkSettles : Type 0
+LinkSettles = (terms : Terms) (h : List LinkEvent) (first last : ℕ) →
+    newly_settled first last (open_set (link.state_of terms h)) ≡ length (filter (link.is_settled_by terms h first last) (link.groups h))
+
+abbrev pub LinkNames : Type 0
+LinkNames = (terms : Terms) (h : List LinkEvent) (first last : ℕ) →
+    named_count first last (open_set (link.state_of terms h)) ≡ length (filter (is_named_by terms h first last) (link.groups h))
+
+-- Sums over a table. --------------------------------------------------------------------------------------------------------
+
+-- two sums over tables are one, where each place gives the same
+sums_same : {S T : Type 0} (p : S → ℕ) (q : T → ℕ) (f : ℕ → S) (g : ℕ → T) → ((k : ℕ) → p (f k) ≡ q (g k)) → (k n : ℕ) → sum_by p (tabulate k n f) ≡ sum_by q (tabulate k n g)
+sums_same p q f g same k zero = refl
+sums_same p q f g same k (suc n) =
+    omega (arith, sum_by-cons p (f k) (tabulate (suc k) n f), sum_by-cons q (g k) (tabulate (suc k) n g), same k, sums_same p q f g same (suc k) n)
+
+-- 1 for a handle in use
+abbrev used : Slot LiveLink → ℕ
+used x = link.one_if (not (is_free x))
+
+sum_within : (most : ℕ) (f : ℕ → Slot LiveLink) (k n : ℕ) → ((j : ℕ) → j < k + n → slot_bytes (f j) ≤ used (f j) * most) →
+    sum_by slot_bytes (tabulate k n f) ≤ count_by (λ x. not (is_free x)) (tabulate k n f) * most
+sum_within most f k zero each = omega arith
+sum_within most f k (suc n) each =
+    let rest = tabulate (suc k) n f in
+    let here = each k (omega arith) in
+    let later = sum_within most f (suc k) n (λ j l. each j (omega (arith, l))) in
+    let count : count_by (λ x. not (is_free x)) (f k ∷ rest) ≡ used (f k) + count_by (λ x. not (is_free x)) rest = sum_by-cons used (f k) rest in
+    let product : count_by (λ x. not (is_free x)) (f k ∷ rest) * most ≡ (used (f k) + count_by (λ x. not (is_free x)) rest) * most = ap (λ (n : ℕ). n * most) count in
+    omega (arith, here, later, sum_by-cons slot_bytes (f k) rest, product, add-mul (used (f k)) (count_by (λ x. not (is_free x)) rest) most)
+
+-- The session. --------------------------------------------------------------------------------------------------------------
+
+abbrev most_of : Bounds → ℕ
+most_of b = 1407 + b.allowed * (b.max_message_size + 96)
+
+part_within : LinkBound → (terms : SessionTerms) (p : Slot (Life Attached LinkEvent)) → IfLive (λ l. IsSoundPart terms l.0 l.1) p →
+    slot_bytes (life_state live_state p) ≤ used (life_state live_state p) * most_of terms.bounds
+part_within bound terms Free sound = omega arith
+part_within bound terms (Live l) sound =
+    let kept = bound l.0.terms l.1 sound.link in
+    let same : most_of l.0.terms.bounds ≡ most_of terms.bounds = ap most_of sound.attached.bounds in omega (arith, kept, same, sound.attached.name, sound.attached.ends)
+part_within bound terms Waits sound = omega arith
+
+pub held_within : LinkBound → (terms : SessionTerms) (h : List SessionEvent) → Sound terms h →
+    session_bytes (state_of terms h) ≤ 64 + used_count (state_of terms h) * (1407 + terms.bounds.allowed * (terms.bounds.max_message_size + 96))
+held_within bound terms h sound =
+    let each = λ (j : ℕ) (l : j < handles terms). part_within bound terms (part j h) (sound.links j l) in
+    let all = sum_within (most_of terms.bounds) (λ handle. life_state live_state (part handle h)) 0 (handles terms) (λ j l. each j (omega (arith, l))) in omega (arith, all)
+
+-- what the links show together is what their parts do, where it is so for each
+of_parts : (p : Slot LiveLink → ℕ) (q : Slot (Life Attached LinkEvent) → ℕ) (terms : SessionTerms) (h : List SessionEvent) →
+    ((x : Slot (Life Attached LinkEvent)) → p (life_state live_state x) ≡ q x) → sum_by p (state_of terms h).links ≡ sum_by q (parts terms h)
+of_parts p q terms h same = sums_same p q (λ handle. life_state live_state (part handle h)) (λ handle. part handle h) (λ k. same (part k h)) 0 (handles terms)
+
+bytes_same : LinkBytes → (p : Slot (Life Attached LinkEvent)) → slot_bytes (life_state live_state p) ≡ part_bytes p
+bytes_same law Free = refl
+bytes_same law (Live l) = omega (arith, law l.0.terms l.1)
+bytes_same law Waits = refl
+
+pub bytes_counted : LinkBytes → (terms : SessionTerms) (h : List SessionEvent) → session_bytes (state_of terms h) ≡ 64 + sum_by part_bytes (parts terms h)
+bytes_counted law terms h =
+    let all = of_parts slot_bytes part_bytes terms h (bytes_same law) in omega (arith, all)
+
+settled_same : LinkSettles → (first last : ℕ) (p : Slot (Life Attached LinkEvent)) → slot_settled first last (life_state live_state p) ≡ part_settled first last p
+settled_same law first last Free = refl
+settled_same law first last (Live l) = law l.0.terms l.1 first last
+settled_same law first last Waits = refl
+
+pub settled_counted : LinkSettles → (terms : SessionTerms) (h : List SessionEvent) (first last : ℕ) →
+    settled_count (state_of terms h) first last ≡ sum_by (part_settled first last) (parts terms h)
+settled_counted law terms h first last =
+    of_parts (slot_settled first last) (part_settled first last) terms h (settled_same law first last)
+
+named_same : LinkNames → (first last : ℕ) (p : Slot (Life Attached LinkEvent)) → slot_named first last (life_state live_state p) ≡ part_named first last p
+named_same law first last Free = refl
+named_same law first last (Live l) = law l.0.terms l.1 first last
+named_same law first last Waits = refl
+
+pub named_counted : LinkNames → (terms : SessionTerms) (h : List SessionEvent) (first last : ℕ) → named_total first last (state_of terms h) ≡ sum_by (part_named first last) (parts terms h)
+named_counted law terms h first last =
+    of_parts (slot_named first last) (part_named first last) terms h (named_same law first last)

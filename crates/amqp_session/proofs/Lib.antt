@@ -1,0 +1,15 @@
+pub mod Places
+pub mod Ids
+pub mod Standings
+pub mod Accepts
+pub mod Padded
+pub mod States
+pub mod Dones
+pub mod Lengths
+pub mod Coordinators
+pub mod Steps
+pub mod Counts
+pub mod Bounds
+pub mod Lives
+pub mod Names
+pub mod Outcomes

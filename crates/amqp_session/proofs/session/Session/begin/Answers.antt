@@ -1,0 +1,6 @@
+use Rattle.amqp_session.proofs.Dones.{apart_begins}
+use Rattle.amqp_session.proofs.session.Session.begin.Goals as goal
+
+pub invariant_of-result : goal.invariant_of-result
+invariant_of-result g c =
+    apart_begins c.begin.result c.args.terms c.begin.ensures

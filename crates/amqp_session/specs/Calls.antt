@@ -1,0 +1,96 @@
+-- What a session does with a call of its application: why it is refused, or the event that it is, and what it says (AMQP 1.0, part 2, sections 2.5.6, 2.6.6, 2.6.7 and 2.6.12).
+use Rattle.std.specs.Prelude.{ℕ, ◌+◌, ◌^◌, Bool, true, false, nat_le, nat_lt, List, [], ◌∷◌, Option, Some, None, is_none}
+use Rattle.amqp_perform.specs.declared.outcome.Outcome.{Outcome}
+use Rattle.amqp_perform.specs.declared.modes.ReceiverSettleMode.TheVariants.{First}
+use Rattle.amqp_link.specs.declared.settlement.Standing.{Standing}
+use Rattle.amqp_link.specs.declared.settlement.Standing.TheVariants.{Absent, Untaken, Told, Awaiting}
+use Rattle.amqp_link.specs.Links.{Delivery, LinkState, Granted, DrainAsked, HandedUp, first_ready, open_set, open_count, standing_of}
+use Rattle.amqp_session.specs.declared.fault.CallFault.{CallFault}
+use Rattle.amqp_session.specs.declared.fault.CallFault.TheVariants as refused
+use Rattle.amqp_session.specs.declared.slot.Slot.{Slot}
+use Rattle.amqp_session.specs.declared.slot.Slot.TheVariants.{Free, Live, Waits}
+use Rattle.amqp_perform.specs.Said.{Said}
+use Rattle.amqp_session.specs.Frames.{detach_said, disposition_said}
+use Rattle.amqp_session.specs.Sessions.{LiveLink, SessionState, slot_at, SessionEvent, session_after}
+use Rattle.amqp_session.specs.Sessions as event
+use Rattle.amqp_session.specs.Faults.{where_so, session_flow, link_flow}
+
+pub data Call : Type 0 where
+  Widen : ℕ → Call  -- so many places more for the window
+  Grant : ℕ → ℕ → Call  -- the link with this handle gets so much credit more
+  Drain : ℕ → Call  -- its sender is asked to use its credit up
+  Take : ℕ → Call  -- its first ready delivery is handed up
+  Settle : ℕ → Outcome → Call  -- what became of the delivery with this id
+  Detach : ℕ → Call  -- the link is ended
+
+-- Settling. -----------------------------------------------------------------------------------------------------------
+
+-- what an open delivery of the session with this id is to its receiver: the standing on the first link that has one
+abbrev pub slot_standing : ℕ → Slot LiveLink → Standing
+slot_standing id Free = Absent
+slot_standing id (Live l) = standing_of id (open_set l.link)
+slot_standing id Waits = Absent
+
+abbrev pub or_later : Standing → Standing → Standing
+or_later Absent later = later
+or_later standing later = standing
+
+abbrev pub standing_in : ℕ → List (Slot LiveLink) → Standing
+standing_in id [] = Absent
+standing_in id (s ∷ slots) = or_later (slot_standing id s) (standing_in id slots)
+
+-- Refusals. -----------------------------------------------------------------------------------------------------------------
+
+-- a fault of the link at a handle, where one is live there
+abbrev pub at_link : Slot LiveLink → (LinkState → Option CallFault) → Option CallFault
+at_link Free test = Some refused.NoLink
+at_link (Live l) test = test l.link
+at_link Waits test = Some refused.NoLink
+
+abbrev pub standing_fault : Standing → Option CallFault
+standing_fault Absent = Some refused.NoDelivery
+standing_fault Untaken = Some refused.NotTaken
+standing_fault Told = Some refused.AlreadyTold
+standing_fault (Awaiting mode) = None
+
+abbrev pub call_fault : SessionState → Call → Option CallFault
+call_fault s (Widen n) = where_so (nat_le (2 ^ 31) (s.window + n)) refused.WindowTooWide
+call_fault s (Grant handle n) = at_link (slot_at s handle) (λ l. where_so (nat_lt l.terms.bounds.allowed (l.credit + open_count l + n)) refused.TooMuchCredit)
+call_fault s (Drain handle) = at_link (slot_at s handle) (λ l. None)
+call_fault s (Take handle) = at_link (slot_at s handle) (λ l. where_so (is_none (first_ready l)) refused.NothingReady)
+call_fault s (Settle id outcome) = standing_fault (standing_in id s.links)
+call_fault s (Detach handle) = at_link (slot_at s handle) (λ l. None)
+
+-- What an accepted call is, and says. ------------------------------------------------------------------------------------------
+
+-- the first ready delivery is handed up
+abbrev pub first_taken : ℕ → Option Delivery → SessionEvent
+first_taken handle None = event.Ignored  -- refused
+first_taken handle (Some d) = event.Called handle (HandedUp d)
+
+abbrev pub take_event : ℕ → Slot LiveLink → SessionEvent
+take_event handle Free = event.Ignored  -- refused
+take_event handle (Live l) = first_taken handle (first_ready l.link)
+take_event handle Waits = event.Ignored
+
+abbrev pub call_event : SessionState → Call → SessionEvent
+call_event s (Widen n) = event.Widened n
+call_event s (Grant handle n) = event.Called handle (Granted n)
+call_event s (Drain handle) = event.Called handle DrainAsked
+call_event s (Take handle) = take_event handle (slot_at s handle)
+call_event s (Settle id outcome) = event.Settled id id
+call_event s (Detach handle) = event.Detached handle
+
+-- the delivery is settled by the call, which is so in mode first [2.7.5, 2.8.3]
+abbrev pub settles_at_once : Standing → Bool
+settles_at_once (Awaiting First) = true
+settles_at_once standing = false
+
+-- Credit, drain and the window are said with the state after the call. [2.6.7, 2.7.4]
+abbrev pub call_answer : SessionState → Call → List Said
+call_answer s (Widen n) = session_flow (session_after s (call_event s (Widen n))) ∷ []
+call_answer s (Grant handle n) = link_flow (session_after s (call_event s (Grant handle n))) handle
+call_answer s (Drain handle) = link_flow (session_after s (call_event s (Drain handle))) handle
+call_answer s (Take handle) = []
+call_answer s (Settle id outcome) = disposition_said id (settles_at_once (standing_in id s.links)) outcome ∷ []
+call_answer s (Detach handle) = detach_said handle true [] ∷ []

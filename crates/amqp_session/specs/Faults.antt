@@ -1,0 +1,250 @@
+-- What a session does with a frame: its first fault, or the event that the frame is, what it tells of it, and what it says in answer (AMQP 1.0, part 2, sections 2.5 to 2.7).
+use Rattle.std.specs.Prelude.{◌≡◌, ℕ, ◌+◌, Bool, true, false, not, ◌&&◌, ◌||◌, if◌then◌else◌, nat_eq, nat_lt, List, [], ◌∷◌, length, sum_by, Option, Some, None, is_none, unwrap_or}
+use Rattle.amqp_perform.specs.declared.condition.Condition.{Condition}
+use Rattle.amqp_perform.specs.declared.condition.Condition.TheVariants as condition
+use Rattle.amqp_perform.specs.Performatives.{is_receiver}
+use Rattle.amqp_link.specs.declared.transfer.LinkFault.{LinkFault}
+use Rattle.amqp_link.specs.declared.transfer.LinkFault.TheVariants as link_fault
+use Rattle.amqp_link.specs.declared.transfer.Step.{Step}
+use Rattle.amqp_link.specs.declared.transfer.Step.TheVariants as step
+use Rattle.amqp_link.specs.Links.{Sent, LinkState, fault_of, step_of, is_beyond, is_drained, newly_settled, open_set, may_grow}
+use Rattle.amqp_session.specs.declared.fault.SessionFault.{SessionFault}
+use Rattle.amqp_session.specs.declared.fault.SessionFault.TheVariants as fault
+use Rattle.amqp_session.specs.declared.news.News.{News}
+use Rattle.amqp_session.specs.declared.news.News.TheVariants as news
+use Rattle.amqp_session.specs.declared.slot.Slot.{Slot}
+use Rattle.amqp_session.specs.declared.slot.Slot.TheVariants.{Free, Live, Waits}
+use Rattle.amqp_session.specs.declared.terms.SessionTerms.{SessionTerms}
+use Rattle.amqp_perform.specs.Said.{Said, said_frame}
+use Rattle.amqp_session.specs.Frames.{Attaching, Flowing, Disposing, Frame, Attaches, Flows, Transfers, Disposes, Detaches, is_coordinator, attach_said, refusal_said, detach_said, failure_said, flow_said, link_flow_said}
+use Rattle.amqp_session.specs.Sessions.{Attached, LiveLink, SessionState, slot_at, is_reused, slot_ready, SessionEvent, session_after}
+use Rattle.amqp_session.specs.Sessions as event
+
+-- The first fault that ends the session. -----------------------------------------------------------------------------------
+
+abbrev pub is_free : Slot LiveLink → Bool
+is_free Free = true
+is_free (Live l) = false
+is_free Waits = false
+
+-- One of these two, the first before the second.
+abbrev pub or_else : {A : Type 0} → Option A → Option A → Option A
+or_else None later = later
+or_else (Some a) later = Some a
+
+abbrev pub where_so : {A : Type 0} → Bool → A → Option A
+where_so b a = if b then Some a else None
+
+-- a name above 255 bytes, a handle in use, a sender without initial-delivery-count [2.6.2, 2.7.3]
+abbrev pub attach_fault : SessionState → Attaching → Option SessionFault
+attach_fault s a =
+    or_else (where_so (nat_lt 255 (length a.name)) fault.ResourceLimit)
+    (or_else (where_so (not (is_free (slot_at s a.handle))) fault.HandleInUse) (where_so (not (is_receiver a.role) && is_none a.initial_delivery_count) fault.InvalidField))
+
+-- a handle that is not in use [2.6.2]
+abbrev pub handle_fault : SessionState → ℕ → Option SessionFault
+handle_fault s handle = where_so (is_free (slot_at s handle)) fault.UnattachedHandle
+
+abbrev pub named_fault : SessionState → Option ℕ → Option SessionFault
+named_fault s None = None
+named_fault s (Some handle) = handle_fault s handle
+
+-- A transfer needs a place of the window, which is looked for before its handle. [2.5.6]
+abbrev pub session_fault : SessionState → Frame → Option SessionFault
+session_fault s (Attaches a) = attach_fault s a
+session_fault s (Flows f) = named_fault s f.handle
+session_fault s (Transfers handle t) = or_else (where_so (nat_eq s.window 0) fault.WindowViolation) (handle_fault s handle)
+session_fault s (Disposes d) = None
+session_fault s (Detaches handle closed) = handle_fault s handle
+
+-- The condition with which the session ends. Want of memory ends nothing. [2.8.15, 2.8.17]
+abbrev pub session_condition : SessionFault → Condition
+session_condition fault.WindowViolation = condition.WindowViolation
+session_condition fault.HandleInUse = condition.HandleInUse
+session_condition fault.UnattachedHandle = condition.UnattachedHandle
+session_condition fault.ResourceLimit = condition.ResourceLimitExceeded
+session_condition fault.InvalidField = condition.InvalidField
+session_condition fault.NoMemory = condition.Other
+
+-- The first fault that ends a link. ----------------------------------------------------------------------------------------
+
+-- Why an attach without fault is refused: this side would be the sender, or the coordinator of transactions; its ends are too long; the answer doesn't fit a frame of the peer. [2.6.3, 2.7.1, 2.7.3]
+abbrev pub refusal : SessionTerms → Attaching → Option Condition
+refusal terms a =
+    or_else (where_so (is_receiver a.role || is_coordinator a.target) condition.NotImplemented)
+    (or_else (where_so (nat_lt 1024 (length a.source + length a.target)) condition.ResourceLimitExceeded)
+    (where_so (nat_lt terms.max_frame_size (length (said_frame 0 (attach_said terms.bounds.max_message_size a) []))) condition.FrameSizeTooSmall))
+
+-- A transfer that resumes comes first, then one that begins a delivery under an open id, then what else the link says. [2.6.12, 2.7.5]
+abbrev pub transfer_fault : SessionState → LinkState → Sent → Option LinkFault
+transfer_fault s l t = if not t.resume && is_reused s l t then Some link_fault.InvalidField else fault_of l t
+
+-- the condition with which the link ends [2.8.15, 2.8.18]
+abbrev pub link_condition : LinkFault → Condition
+link_condition link_fault.TransferLimit = condition.TransferLimitExceeded
+link_condition link_fault.MessageSize = condition.MessageSizeExceeded
+link_condition link_fault.InvalidField = condition.InvalidField
+link_condition link_fault.NotImplemented = condition.NotImplemented
+link_condition link_fault.NoMemory = condition.Other
+
+-- The event that a frame without session fault is. -------------------------------------------------------------------------
+
+-- what the link is attached with [2.7.3]
+abbrev pub attached : SessionTerms → Attaching → Attached
+attached terms a = record {
+  name = a.name;
+  source = a.source;
+  target = a.target;
+  terms = record { initial_delivery_count = unwrap_or a.initial_delivery_count 0; rcv_settle_mode = a.rcv_settle_mode; bounds = terms.bounds };
+}
+
+abbrev pub attach_event : SessionTerms → Attaching → SessionEvent
+attach_event terms a = if is_none (refusal terms a) then event.LinkAttached a.handle (attached terms a) else event.LinkRefused a.handle
+
+abbrev pub transfer_event : SessionState → ℕ → Sent → Slot LiveLink → SessionEvent
+transfer_event s handle t Free = event.Ignored  -- a session fault
+transfer_event s handle t (Live l) = if is_none (transfer_fault s l.link t) then event.TransferCame handle t else event.TransferEnded handle
+transfer_event s handle t Waits = event.TransferDropped handle
+
+abbrev pub flow_event : ℕ → Flowing → Slot LiveLink → SessionEvent
+flow_event handle f Free = event.Ignored  -- a session fault
+flow_event handle f (Live l) = if is_beyond l.link.delivery_count l.link.credit f.delivery_count then event.LinkFlowEnded handle f.next_outgoing_id else event.LinkFlowCame handle f.next_outgoing_id f.delivery_count
+flow_event handle f Waits = event.Ignored
+
+-- The fields of a link say nothing without a handle. [2.7.4]
+abbrev pub named_event : SessionState → Flowing → Option ℕ → SessionEvent
+named_event s f None = event.FlowCame f.next_outgoing_id
+named_event s f (Some handle) = flow_event handle f (slot_at s handle)
+
+-- it is the sender's, and settles [2.7.6]
+abbrev pub is_settling : Disposing → Bool
+is_settling d = not (is_receiver d.role) && d.settled
+
+-- an absent last is the first [2.7.6]
+abbrev pub last_of : Disposing → ℕ
+last_of d = unwrap_or d.last d.first
+
+abbrev pub event_of : SessionState → Frame → SessionEvent
+event_of s (Attaches a) = attach_event s.terms a
+event_of s (Flows f) = named_event s f f.handle
+event_of s (Transfers handle t) = transfer_event s handle t (slot_at s handle)
+event_of s (Disposes d) = if is_settling d then event.PeerSettled d.first (last_of d) else event.Ignored
+event_of s (Detaches handle closed) = event.PeerDetached handle
+
+-- What is told of it. ------------------------------------------------------------------------------------------------------
+
+abbrev pub attach_news : ℕ → Option Condition → News
+attach_news handle None = news.Attached handle
+attach_news handle (Some condition) = news.Failed handle condition 0
+
+abbrev pub step_news : ℕ → Step → News
+step_news handle step.Unfinished = news.Unfinished handle
+step_news handle step.Ready = news.Ready handle
+step_news handle step.Aborted = news.Aborted handle
+
+abbrev pub came_news : ℕ → LinkState → Sent → Option LinkFault → News
+came_news handle l t None = step_news handle (step_of t)
+came_news handle l t (Some fault) = news.Failed handle (link_condition fault) (length l.ready)
+
+abbrev pub transfer_news : SessionState → ℕ → Sent → Slot LiveLink → News
+transfer_news s handle t Free = news.Nothing
+transfer_news s handle t (Live l) = came_news handle l.link t (transfer_fault s l.link t)
+transfer_news s handle t Waits = news.Nothing
+
+abbrev pub flow_news : ℕ → Flowing → Slot LiveLink → News
+flow_news handle f Free = news.Nothing
+flow_news handle f (Live l) =
+    if is_beyond l.link.delivery_count l.link.credit f.delivery_count then news.Failed handle condition.TransferLimitExceeded (length l.link.ready)
+    else (if is_drained l.link f.delivery_count then news.Drained handle else news.Nothing)
+flow_news handle f Waits = news.Nothing
+
+abbrev pub named_news : SessionState → Flowing → Option ℕ → News
+named_news s f None = news.Nothing
+named_news s f (Some handle) = flow_news handle f (slot_at s handle)
+
+-- how many open deliveries of a link a disposition settles [2.7.6]
+abbrev pub slot_settled : ℕ → ℕ → Slot LiveLink → ℕ
+slot_settled first last Free = 0
+slot_settled first last (Live l) = newly_settled first last (open_set l.link)
+slot_settled first last Waits = 0
+
+-- and of the session
+abbrev pub settled_count : SessionState → ℕ → ℕ → ℕ
+settled_count s first last = sum_by (slot_settled first last) s.links
+
+abbrev pub settled_news : ℕ → News
+settled_news count = if nat_eq count 0 then news.Nothing else news.Settled count
+
+abbrev pub news_of : SessionState → Frame → News
+news_of s (Attaches a) = attach_news a.handle (refusal s.terms a)
+news_of s (Flows f) = named_news s f f.handle
+news_of s (Transfers handle t) = transfer_news s handle t (slot_at s handle)
+news_of s (Disposes d) = if is_settling d then settled_news (settled_count s d.first (last_of d)) else news.Nothing
+news_of s (Detaches handle closed) = news.Detached handle (slot_ready (slot_at s handle))
+
+-- What is said in answer: nothing, one performative, or two for a link that is refused. -----------------------------------------
+
+-- the flow of a session, and of a link of it [2.7.4]
+abbrev pub session_flow : SessionState → Said
+session_flow s = flow_said s.next_incoming_id s.window
+
+abbrev pub slot_flow : SessionState → ℕ → Slot LiveLink → List Said
+slot_flow s handle Free = []
+slot_flow s handle (Live l) = link_flow_said s.next_incoming_id s.window handle l.link.delivery_count l.link.credit l.link.draining ∷ []
+slot_flow s handle Waits = []
+
+abbrev pub link_flow : SessionState → ℕ → List Said
+link_flow s handle = slot_flow s handle (slot_at s handle)
+
+abbrev pub attach_answer : SessionTerms → Attaching → Option Condition → List Said
+attach_answer terms a None = attach_said terms.bounds.max_message_size a ∷ []
+attach_answer terms a (Some condition) = refusal_said a ∷ failure_said a.handle condition ∷ []
+
+-- a link that ends with an error is detached with it
+abbrev pub failure_answer : News → List Said
+failure_answer (news.Failed handle condition dropped) = failure_said handle condition ∷ []
+failure_answer _ = []
+
+-- The answer to an echo, of the state after the flow: of the link that it names, else of the session. A link that ended, or waits, has none. [2.7.4]
+abbrev pub echo_answer : SessionState → Option ℕ → List Said
+echo_answer after None = session_flow after ∷ []
+echo_answer after (Some handle) = link_flow after handle
+
+abbrev pub flow_answer : SessionState → Flowing → News → List Said
+flow_answer after f (news.Failed handle condition dropped) = failure_said handle condition ∷ []
+flow_answer after f _ = if f.echo then echo_answer after f.handle else []
+
+-- a detach is answered by one with the same closed, unless this side sent the first [2.6.4, 2.6.6]
+abbrev pub detach_answer : ℕ → Bool → Slot LiveLink → List Said
+detach_answer handle closed Free = []
+detach_answer handle closed (Live l) = detach_said handle closed [] ∷ []
+detach_answer handle closed Waits = []
+
+abbrev pub answer_of : SessionState → Frame → List Said
+answer_of s (Attaches a) = attach_answer s.terms a (refusal s.terms a)
+answer_of s (Flows f) = flow_answer (session_after s (event_of s (Flows f))) f (news_of s (Flows f))
+answer_of s (Transfers handle t) = failure_answer (news_of s (Transfers handle t))
+answer_of s (Disposes d) = []
+answer_of s (Detaches handle closed) = detach_answer handle closed (slot_at s handle)
+
+-- A frame may want memory where it attaches a link, or where a transfer's link may, and it has no fault that ends session or link.
+abbrev pub slot_may_grow : SessionState → Sent → Slot LiveLink → Bool
+slot_may_grow s t Free = false
+slot_may_grow s t (Live l) = is_none (transfer_fault s l.link t) && may_grow l.link t
+slot_may_grow s t Waits = false
+
+abbrev pub frame_may_grow : SessionState → Frame → Bool
+frame_may_grow s (Attaches a) = true
+frame_may_grow s (Flows f) = false
+frame_may_grow s (Transfers handle t) = slot_may_grow s t (slot_at s handle)
+frame_may_grow s (Disposes d) = false
+frame_may_grow s (Detaches handle closed) = false
+
+-- Why a frame is refused: its first fault, or memory that it wants, where it has none.
+abbrev pub IsRefusal : SessionState → Frame → SessionFault → Type 0
+IsRefusal s f fault.NoMemory = (session_fault s f ≡ None) × (frame_may_grow s f ≡ true)
+IsRefusal s f fault.WindowViolation = session_fault s f ≡ Some fault.WindowViolation
+IsRefusal s f fault.HandleInUse = session_fault s f ≡ Some fault.HandleInUse
+IsRefusal s f fault.UnattachedHandle = session_fault s f ≡ Some fault.UnattachedHandle
+IsRefusal s f fault.ResourceLimit = session_fault s f ≡ Some fault.ResourceLimit
+IsRefusal s f fault.InvalidField = session_fault s f ≡ Some fault.InvalidField

@@ -1,0 +1,12 @@
+pub mod Places
+pub mod Frames
+pub mod Sessions
+pub mod Faults
+pub mod Calls
+pub mod Histories
+pub mod Laws
+pub mod Slots
+pub mod Keeping
+pub mod Answers
+pub mod Replies
+pub mod Coordinators

@@ -1,0 +1,158 @@
+-- What a session keeps at one handle, and what each frame and call makes of it.
+use Rattle.std.specs.Prelude.{◌≡◌, ℕ, zero, suc, ◌+◌, ◌<◌, ◌≤◌, Bool, true, false, not, ◌&&◌, if◌then◌else◌, List, [], ◌∷◌, length, Option, Some, None, is_none, unwrap_or, IsSomeAnd, slice_get}
+use Rattle.std.specs.List.{list_any}
+use Rattle.std.specs.Option.{option_map_or}
+use Rattle.amqp_link.specs.declared.transfer.LinkFault.{LinkFault}
+use Rattle.amqp_link.specs.declared.transfer.LinkFault.TheVariants as link_fault
+use Rattle.amqp_link.specs.Bounds.{IsBounded}
+use Rattle.amqp_link.specs.declared.link.Taken.{Taken}
+use Rattle.amqp_link.specs.HandedUps.{IsHandedUp}
+use Rattle.amqp_link.specs.Links.{Sent, LinkState, LinkEvent, Transferred, FlowStated, HandedUp, fault_of, may_grow, is_beyond, first_ready, settle_fault, open_set, open_count}
+use Rattle.amqp_session.specs.declared.fault.SessionFault.{SessionFault}
+use Rattle.amqp_session.specs.declared.fault.SessionFault.TheVariants as fault
+use Rattle.amqp_session.specs.declared.news.News.{News}
+use Rattle.amqp_session.specs.declared.news.News.TheVariants as news
+use Rattle.amqp_session.specs.declared.slot.Slot.{Slot}
+use Rattle.amqp_session.specs.declared.slot.Slot.TheVariants.{Free, Live, Waits}
+use Rattle.amqp_session.specs.declared.terms.SessionTerms.{SessionTerms}
+use Rattle.amqp_session.specs.declared.slots.LinkStated.{LinkStated}
+use Rattle.amqp_session.specs.declared.view.LinkView.{LinkView}
+use Rattle.amqp_session.specs.Places.{slot_map, IfLive}
+use Rattle.amqp_session.specs.Frames.{Flowing}
+use Rattle.amqp_session.specs.Faults.{is_free, came_news, flow_news}
+use Rattle.amqp_session.specs.Sessions.{LiveLink, live_after, SessionState, handles, slot_has}
+
+-- The table. ----------------------------------------------------------------------------------------------------------------
+
+-- so many places: those that were reached, and free ones behind them
+abbrev pub padded : ℕ → List (Slot LiveLink) → List (Slot LiveLink)
+padded zero slots = []
+padded (suc n) [] = Free ∷ padded n []
+padded (suc n) (s ∷ slots) = s ∷ padded n slots
+
+-- a session of these parts
+abbrev pub session_of : SessionTerms → ℕ → ℕ → List (Slot LiveLink) → SessionState
+session_of terms window next slots = record { terms = terms; window = window; next_incoming_id = next; links = padded (handles terms) slots }
+
+-- no more places were reached than there are handles
+pub record IsReached (terms : SessionTerms) (slots : List (Slot LiveLink)) : Type 0 where
+  pub reached : length slots ≤ handles terms
+  pub handles : terms.handle_max < 256
+
+-- One link. -----------------------------------------------------------------------------------------------------------------
+
+-- what is kept of a link is short, and so are its messages
+pub record IsKept (l : LiveLink) : Type 0 where
+  pub name : length l.name ≤ 255
+  pub ends : length l.source + length l.target ≤ 1024
+  pub bounds : IsBounded l.link.terms.bounds.allowed l.link.terms.bounds.max_message_size
+
+-- the first fault of a transfer, where it is known whether it begins a delivery under an open id
+abbrev pub came_fault : Bool → LinkState → Sent → Option LinkFault
+came_fault reused l t = if not t.resume && reused then Some link_fault.InvalidField else fault_of l t
+
+-- why the link refuses it
+abbrev pub IsCameFault : Bool → LinkState → Sent → LinkFault → Type 0
+IsCameFault reused l t link_fault.NoMemory = (came_fault reused l t ≡ None) × (may_grow l t ≡ true)
+IsCameFault reused l t link_fault.TransferLimit = came_fault reused l t ≡ Some link_fault.TransferLimit
+IsCameFault reused l t link_fault.MessageSize = came_fault reused l t ≡ Some link_fault.MessageSize
+IsCameFault reused l t link_fault.InvalidField = came_fault reused l t ≡ Some link_fault.InvalidField
+IsCameFault reused l t link_fault.NotImplemented = came_fault reused l t ≡ Some link_fault.NotImplemented
+
+-- One place. ----------------------------------------------------------------------------------------------------------------
+
+-- a link is live there
+abbrev pub is_live : Slot LiveLink → Bool
+is_live Free = false
+is_live (Live l) = true
+is_live Waits = false
+
+-- a transfer to it with this id begins a delivery under the id of an open one of these
+abbrev pub slot_reused : List (Slot LiveLink) → Option ℕ → Slot LiveLink → Bool
+slot_reused slots id Free = false
+slot_reused slots id (Live l) = is_none l.link.unfinished && option_map_or (λ id. list_any (slot_has id) slots) id false
+slot_reused slots id Waits = false
+
+-- what stands at a place of these
+abbrev pub at_place : List (Slot LiveLink) → ℕ → Slot LiveLink
+at_place slots place = unwrap_or (slice_get slots place) Free
+
+-- what a transfer leaves there, and what is told of it
+abbrev pub slot_came : Bool → Sent → Slot LiveLink → Slot LiveLink
+slot_came reused t Free = Free
+slot_came reused t (Live l) = if is_none (came_fault reused l.link t) then Live (live_after l (Transferred t)) else Waits
+slot_came reused t Waits = Waits
+
+abbrev pub slot_came_news : Bool → ℕ → Sent → Slot LiveLink → News
+slot_came_news reused handle t Free = news.Nothing
+slot_came_news reused handle t (Live l) = came_news handle l.link t (came_fault reused l.link t)
+slot_came_news reused handle t Waits = news.Nothing
+
+-- why it is refused
+abbrev pub slot_grows : Bool → Sent → Slot LiveLink → Bool
+slot_grows reused t Free = false
+slot_grows reused t (Live l) = is_none (came_fault reused l.link t) && may_grow l.link t
+slot_grows reused t Waits = false
+
+abbrev pub IsSlotRefusal : Bool → Sent → Slot LiveLink → SessionFault → Type 0
+IsSlotRefusal reused t s fault.UnattachedHandle = is_free s ≡ true
+IsSlotRefusal reused t s fault.NoMemory = slot_grows reused t s ≡ true
+IsSlotRefusal reused t s _ = ⊥
+
+-- what a flow leaves there
+abbrev pub slot_flowed : Flowing → Slot LiveLink → Slot LiveLink
+slot_flowed f Free = Free
+slot_flowed f (Live l) = if is_beyond l.link.delivery_count l.link.credit f.delivery_count then Waits else Live (live_after l (FlowStated f.delivery_count))
+slot_flowed f Waits = Waits
+
+-- what is told of it: nothing where it is dropped
+abbrev pub IsFlowTold : ℕ → Flowing → Slot LiveLink → Option News → Type 0
+IsFlowTold handle f Free told = ⊥
+IsFlowTold handle f (Live l) told = told ≡ Some (flow_news handle f (Live l))
+IsFlowTold handle f Waits told = told ≡ None
+
+-- a call for the link there
+abbrev pub slot_called : LinkEvent → Slot LiveLink → Slot LiveLink
+slot_called e s = slot_map (λ l. live_after l e) s
+
+-- what a flow states of a link [2.7.4]
+abbrev pub stated_of : LinkState → LinkStated
+stated_of l = record { delivery_count = l.delivery_count; link_credit = l.credit; drain = l.draining }
+
+abbrev pub IsStated : Slot LiveLink → LinkStated → Type 0
+IsStated Free stated = ⊥
+IsStated (Live l) stated = stated ≡ stated_of l.link
+IsStated Waits stated = ⊥
+
+-- a take leaves this there, and hands this up
+abbrev pub IsTaken : {A : Type 0} → Slot LiveLink → Slot LiveLink → Taken A → Type 0
+IsTaken Free new taken = ⊥
+IsTaken (Live l) new taken = IsSomeAnd (first_ready l.link) (λ d. IsHandedUp taken d × (new ≡ Live (live_after l (HandedUp d))))
+IsTaken Waits new taken = ⊥
+
+-- the live link there can settle this id
+abbrev pub IsSettling : ℕ → Slot LiveLink → Type 0
+IsSettling id s = IfLive (λ l. settle_fault id id (open_set l.link) ≡ None) s
+
+-- what a take of the link there hands up
+abbrev pub HandsUp : {A : Type 0} → Slot LiveLink → Taken A → Type 0
+HandsUp Free taken = ⊥
+HandsUp (Live l) taken = IsSomeAnd (first_ready l.link) (λ d. IsHandedUp taken d)
+HandsUp Waits taken = ⊥
+
+-- what is shown of a live link [2.6.7, 2.6.12]
+pub record IsView (l : LiveLink) (v : LinkView) : Type 0 where
+  pub name : v.name.now ≡ l.name
+  pub source : v.source.now ≡ l.source
+  pub target : v.target.now ≡ l.target
+  pub credit : v.credit ≡ l.link.credit
+  pub opened : v.opened ≡ open_count l.link
+  pub ready : v.ready ≡ length l.link.ready
+
+abbrev pub IsViewAt : Slot LiveLink → Option LinkView → Type 0
+IsViewAt (Live l) (Some v) = IsView l v
+IsViewAt (Live l) None = ⊥
+IsViewAt Free (Some v) = ⊥
+IsViewAt Free None = Unit {0}
+IsViewAt Waits (Some v) = ⊥
+IsViewAt Waits None = Unit {0}

@@ -1,0 +1,190 @@
+//! What is kept of a live link.
+ghost use Rattle.std.specs.Prelude.{◌≡◌, ◌<◌, ◌≤◌, ◌+◌, ◌*◌, ◌^◌, length, Option, Some, None, OnOk, OnErr, IfOk, IfErr, IfSome, IfNone, IsSomeAnd, true, false, nat_lt};
+ghost use Rattle.amqp_link.specs.Bounds.{IsBounded};
+ghost use Rattle.amqp_link.specs.Links.{sent_of, Granted, DrainAsked, Transferred, FlowStated, HandedUp, ReceiverSettled, SenderSettled, LinkMay, open_set, open_count, first_ready, step_of, is_drained, is_beyond, newly_settled, settle_fault};
+ghost use Rattle.amqp_link.specs.HandedUps.{IsHandedUp};
+ghost use Rattle.amqp_session.specs.Sessions.{live_begins, live_after, slot_bytes};
+ghost use Rattle.amqp_session.specs.declared.slot.Slot.{Slot};
+ghost use Rattle.amqp_session.specs.Slots.{came_fault, IsCameFault, IsView};
+
+use crate::view::LinkView;
+use amqp_link::{Link, LinkFault, MAX_ALLOWED, Step, Taken, Terms, TooMuchCredit, laws};
+use amqp_perform::Transfer;
+use std::alloc::{AllocError, Allocator, Global};
+use std::marker::Model;
+
+/// A live link, with what its attach gave.
+#[derive(Drop)]
+struct Record<A: Allocator + Copy = Global> {
+    name: Vec<u8, A>,
+    source: Vec<u8, A>,
+    target: Vec<u8, A>,
+    link: Link<A>,
+}
+
+/// A live link, which takes the room of one reference where it stands.
+#[derive(Drop)]
+pub struct KeptLink<A: Allocator + Copy = Global> {
+    record: Box<Record<A>, A>,
+}
+
+impl<A: Allocator + Copy> Model for KeptLink<A> {
+    ghost use Rattle.amqp_session.specs.Sessions.{LiveLink};
+
+    ghost Value = { LiveLink };
+
+    ghost use Rattle.amqp_session.specs.Keeping.{live_of};
+    ghost use Rattle.amqp_session.specs.Slots.{IsKept};
+
+    ghost view = { λ a. live_of a.record.value };
+
+    ghost invariant = { λ a. IsKept (live_of a.record.value) };
+}
+
+impl<A: Allocator + Copy> KeptLink<A> {
+    /// A link at its attach.
+    pub fn attach(
+        alloc: A,
+        name: &[u8],
+        source: &[u8],
+        target: &[u8],
+        terms: Terms,
+    ) -> Result<Self, AllocError>
+        requires name { length name.now ≤ 255 }
+        requires ends { length source.now + length target.now ≤ 1024 }
+        ensures { IfOk result (λ l. l ≡ live_begins (record { name = name.now; source = source.now; target = target.now; terms = terms })) }
+    {
+        let _ = terms.bounds.allowed();
+        let record = Record {
+            name: Vec::from_slice(alloc, name)?,
+            source: Vec::from_slice(alloc, source)?,
+            target: Vec::from_slice(alloc, target)?,
+            link: Link::attach(alloc, terms),
+        };
+        Ok(KeptLink {
+            record: Box::new(alloc, record)?,
+        })
+    }
+
+    /// The link.
+    pub fn link(&self) -> &Link<A>
+        ensures { result.now ≡ self.now.link }
+    {
+        &self.record.link
+    }
+
+    /// Takes a transfer and its payload, of which it is known whether it begins a delivery under an open id.
+    pub fn transfer(
+        &mut self,
+        reused: bool,
+        transfer: &Transfer<'_>,
+        payload: &[u8],
+    ) -> Result<Step, LinkFault>
+        ensures new { OnOk result (self.new ≡ live_after self.old (Transferred (sent_of transfer.now payload.now))) }
+        ensures accepted { OnOk result (came_fault reused self.old.link (sent_of transfer.now payload.now) ≡ None) }
+        ensures step { IfOk result (λ step. step ≡ step_of (sent_of transfer.now payload.now)) }
+        ensures refused { IfErr result (λ e. IsCameFault reused self.old.link (sent_of transfer.now payload.now) e) }
+        ensures err { OnErr result (self.new ≡ self.old) }
+    {
+        if reused && !transfer.resume {
+            return Err(LinkFault::InvalidField);
+        }
+        self.record.link.transfer(transfer, payload)
+    }
+
+    /// Follows the delivery-count that a flow states, or none, and answers whether the sender has used its credit
+    /// up as it was asked to.
+    pub fn sender_count(&mut self, stated: Option<u32>) -> Result<bool, LinkFault>
+        ensures new { OnOk result (self.new ≡ live_after self.old (FlowStated stated)) }
+        ensures within { OnOk result (is_beyond self.old.link.delivery_count self.old.link.credit stated ≡ false) }
+        ensures drained { IfOk result (λ drained. drained ≡ is_drained self.old.link stated) }
+        ensures beyond { OnErr result (is_beyond self.old.link.delivery_count self.old.link.credit stated ≡ true) }
+        ensures err { OnErr result (self.new ≡ self.old) }
+    {
+        laws::absent_count_is_the_known_one();
+        let known = self.record.link.delivery_count();
+        self.record.link.sender_count(stated.unwrap_or(known))
+    }
+
+    /// Grants `n` places of credit.
+    pub fn grant(&mut self, n: u32) -> Result<(), TooMuchCredit>
+        ensures new { OnOk result (self.new ≡ live_after self.old (Granted n)) }
+        ensures within { OnOk result (nat_lt self.old.link.terms.bounds.allowed (self.old.link.credit + open_count self.old.link + n) ≡ false) }
+        ensures much { OnErr result (nat_lt self.old.link.terms.bounds.allowed (self.old.link.credit + open_count self.old.link + n) ≡ true) }
+        ensures err { OnErr result (self.new ≡ self.old) }
+    {
+        self.record.link.grant(n)
+    }
+
+    /// Asks the sender to use its credit up.
+    pub fn drain(&mut self)
+        ensures { self.new ≡ live_after self.old DrainAsked }
+    {
+        self.record.link.drain()
+    }
+
+    /// Hands up the first ready delivery.
+    pub fn take(&mut self) -> Option<Taken<A>>
+        ensures none { IfNone result ((first_ready self.old.link ≡ None) × (self.new ≡ self.old)) }
+        ensures some { IfSome result (λ taken. IsSomeAnd (first_ready self.old.link) (λ d. IsHandedUp taken d × (self.new ≡ live_after self.old (HandedUp d)))) }
+    {
+        self.record.link.take()
+    }
+
+    /// The sender settles the ids from `first` to `last`. Answers how many open deliveries it settles.
+    pub fn peer_settled(&mut self, first: u32, last: u32) -> u32
+        ensures new { self.new ≡ live_after self.old (SenderSettled first last) }
+        ensures count { result ≡ newly_settled first last (open_set self.old.link) }
+        ensures most { result ≤ 1024 }
+    {
+        prove!(self.record.link.room() <= MAX_ALLOWED);
+        self.record.link.peer_settled(first, last)
+    }
+
+    /// The receiver settles the delivery with this id, or tells the sender of it, if the link has it.
+    pub fn settle(&mut self, id: u32)
+        requires { settle_fault id id (open_set self.old.link) ≡ None }
+        ensures { self.new ≡ live_after self.old (ReceiverSettled id id) }
+    {
+        match self.record.link.settle(id, id) {
+            Ok(_) => {}
+            Err(_) => unreachable!(),
+        }
+    }
+
+    /// The bytes that count as kept.
+    pub fn held(&self) -> u64
+        ensures value { result ≡ slot_bytes (Slot.Live self.now) }
+        ensures most { result < 2 ^ 50 }
+    {
+        let record = &self.record;
+        let ends = record.name.len() + record.source.len() + record.target.len();
+        128 + ends as u64 + record.link.held()
+    }
+
+    /// What is shown of it.
+    pub fn view(&self) -> LinkView<'_>
+        ensures { IsView self.now result }
+    {
+        let record = &self.record;
+        LinkView {
+            name: &record.name,
+            source: &record.source,
+            target: &record.target,
+            credit: record.link.credit(),
+            opened: record.link.opened(),
+            ready: record.link.ready(),
+        }
+    }
+
+    /// How many deliveries are ready.
+    pub fn ready(&self) -> u32
+        ensures value { result ≡ length self.now.link.ready }
+        ensures most { result ≤ 1024 }
+    {
+        self.record.link.ready()
+    }
+}
+
+#[cfg(test)]
+pub mod tests;

@@ -1,0 +1,31 @@
+//! One session that receives: its window, its links by handle, and what each frame does to them [2.5, 2.6].
+//!
+//! [`Session::begin`], then for each frame of the peer the call for its performative, or [`Session::frame`]; and
+//! the calls of the application: [`Session::widen`], [`Session::grant`], [`Session::drain`], [`Session::take`],
+//! [`Session::settle`] and [`Session::detach`]. `specs/Sessions.antt` has the state and what each event does to
+//! it, `specs/Faults.antt` and `specs/Calls.antt` which event a frame and a call are, or why they are refused.
+#![tactic(auto)]
+
+mod done;
+mod fault;
+mod kept_link;
+pub mod laws;
+mod news;
+mod refusal;
+mod replies;
+mod session;
+mod slot;
+mod slots;
+mod state;
+mod table;
+mod terms;
+mod view;
+
+pub use done::{Answer, Done};
+pub use fault::{CallFault, SessionFault};
+pub use news::News;
+pub use replies::{failure, refusal_reply};
+pub use session::Session;
+pub use slot::Slot;
+pub use terms::SessionTerms;
+pub use view::LinkView;

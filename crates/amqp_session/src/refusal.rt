@@ -1,0 +1,110 @@
+//! Why a link is refused that attaches without fault.
+ghost use Rattle.std.specs.Prelude.{◌≡◌, ◌≤◌, ◌<◌, ◌+◌, length, true, false, not, nat_lt, None, [], IsTrue, ◌↔◌};
+ghost use Rattle.amqp_perform.specs.Frames.{frame_of as written_frame, FitsFrame};
+ghost use Rattle.amqp_types.specs.Reading.{value_of};
+ghost use Rattle.amqp_session.specs.Faults.{refusal};
+ghost use Rattle.amqp_session.specs.Coordinators.{BeginsWithin, peeks_coordinator};
+ghost use Rattle.amqp_perform.specs.Said.{said_frame};
+ghost use Rattle.amqp_session.specs.Frames.{attaching, is_coordinator, is_coordinator_in, attach_said};
+
+use crate::replies::{self, Modes};
+use crate::terms::SessionTerms;
+use amqp_perform::{Attach, Condition, Performative, Role, write_frame};
+use amqp_types::laws::reading_is_exact;
+use amqp_types::{Kind, Peek, peek, skip};
+
+/// The longest source and target, together, that are kept.
+const MAX_ENDS: usize = 1024;
+
+/// No answer to an attach is longer, with a name of 255 bytes, and source and target of 1024.
+const MAX_REPLY: usize = 1400;
+
+/// Why the link is refused: this side would be its sender, or the coordinator of transactions; source and target
+/// are too long; or the answer does not fit a frame of the peer [2.6.3, 2.7.1, 2.7.3].
+pub fn refusal(terms: &SessionTerms, attach: &Attach<'_>) -> Option<Condition>
+    requires { length attach.now.name.now ≤ 255 }
+    ensures { result ≡ refusal terms.now (attaching attach.now) }
+{
+    if matches!(attach.role, Role::Receiver) || is_coordinator(attach.target) {
+        return Some(Condition::NotImplemented);
+    }
+    if attach.source.len() > MAX_ENDS || attach.target.len() > MAX_ENDS - attach.source.len() {
+        return Some(Condition::ResourceLimitExceeded);
+    }
+    if !fits(terms, attach) {
+        return Some(Condition::FrameSizeTooSmall);
+    }
+    None
+}
+
+/// Whether the answer to an attach fits a frame of the peer.
+fn fits(terms: &SessionTerms, attach: &Attach<'_>) -> bool
+    requires name { length attach.now.name.now ≤ 255 }
+    requires ends { length attach.now.source.now + length attach.now.target.now ≤ 1024 }
+    ensures { result ≡ not (nat_lt terms.now.max_frame_size (length (said_frame 0 (attach_said terms.now.bounds.max_message_size (attaching attach.now)) []))) }
+{
+    let room = terms.max_frame_size as usize;
+    if room >= MAX_REPLY {
+        return true;
+    }
+    let mut scratch = [0; 9];
+    let spelled = replies::ulong(terms.bounds.max_message_size(), &mut scratch);
+    let reply = replies::accepted(
+        attach.name,
+        attach.source,
+        attach.target,
+        spelled,
+        Modes::of(attach),
+    );
+    is_written(&Performative::Attach(reply), room)
+}
+
+/// Whether a performative fits a frame of so many bytes.
+fn is_written(performative: &Performative<'_>, room: usize) -> bool
+    requires { room ≤ 1400 }
+    ensures { IsTrue result ↔ FitsFrame (written_frame 0 performative.now []) room }
+{
+    let mut out = [0; MAX_REPLY];
+    write_frame(0, performative, &[], &mut out[..room]).is_some()
+}
+
+/// Whether a target describes a coordinator of transactions.
+fn is_coordinator(target: &[u8]) -> bool
+    ensures { result ≡ is_coordinator target.now }
+{
+    match target.split_first() {
+        Some((0, described)) => names_coordinator(described),
+        _ => false,
+    }
+}
+
+/// Whether the bytes begin with the type of a coordinator: the ulong 0x30 or its symbol, in any spelling
+/// [part 4, 4.5.1].
+fn names_coordinator(described: &[u8]) -> bool
+    ensures { result ≡ is_coordinator_in (value_of 31 None described.now) }
+{
+    match skip(described, 31) {
+        Ok(_) => is_coordinator_type(described),
+        Err(_) => false,
+    }
+}
+
+/// The same of bytes that begin with a value.
+fn is_coordinator_type(described: &[u8]) -> bool
+    requires { BeginsWithin 31 described.now }
+    ensures { result ≡ is_coordinator_in (value_of 31 None described.now) }
+{
+    reading_is_exact();
+    peeks_coordinator(peek(described))
+}
+
+/// The same of the outermost case of a value.
+fn peeks_coordinator(value: Peek<'_>) -> bool
+    ensures { result ≡ peeks_coordinator value.entry }
+{
+    match value {
+        Peek::Unsigned(Kind::Ulong, number) => number == 0x30,
+        Peek::Symbol(symbol) => symbol == b"amqp:coordinator:list".as_slice(),
+        _ => false,
+    }
+}

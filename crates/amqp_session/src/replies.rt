@@ -1,0 +1,214 @@
+//! What a session says in answer.
+ghost use Rattle.std.specs.Prelude.{◌≡◌, ℕ, [], true, false};
+ghost use Rattle.amqp_perform.specs.Frames.{IsWritten};
+ghost use Rattle.amqp_session.specs.Replies.{IsAttaching};
+ghost use Rattle.amqp_perform.specs.declared.performative.Performative.TheVariants as performative;
+ghost use Rattle.amqp_perform.specs.Said.{said, said_frame};
+ghost use Rattle.amqp_session.specs.Frames.{Attaching, attaching, attach_said, refusal_said, detach_said, failure_said, flow_said, link_flow_said, disposition_said, other_role};
+ghost use Rattle.amqp_types.specs.Canonical.{canonical};
+ghost use Rattle.amqp_types.specs.Trees.{Number};
+
+use crate::slots::LinkStated;
+use amqp_perform::{
+    Attach, Condition, Detach, Disposition, Flow, Outcome, Performative, ReceiverSettleMode, Role,
+    SenderSettleMode, write_frame,
+};
+use amqp_types::{Kind, Peek, put};
+
+/// The flow of a session, which sends nothing [2.7.4].
+pub fn session_flow(next_incoming_id: u32, window: u32) -> Flow<'static>
+    ensures { said (performative.Flow result) ≡ flow_said next_incoming_id window }
+{
+    Flow {
+        next_incoming_id: Some(next_incoming_id),
+        incoming_window: window,
+        next_outgoing_id: 0,
+        outgoing_window: 0,
+        handle: None,
+        delivery_count: None,
+        link_credit: None,
+        available: None,
+        drain: false,
+        echo: false,
+        properties: &[],
+    }
+}
+
+/// The flow of a link [2.6.7, 2.7.4].
+pub fn link_flow(
+    next_incoming_id: u32,
+    window: u32,
+    handle: u32,
+    stated: LinkStated,
+) -> Flow<'static>
+    ensures { said (performative.Flow result) ≡ link_flow_said next_incoming_id window handle stated.delivery_count stated.link_credit stated.drain }
+{
+    Flow {
+        next_incoming_id: Some(next_incoming_id),
+        incoming_window: window,
+        next_outgoing_id: 0,
+        outgoing_window: 0,
+        handle: Some(handle),
+        delivery_count: Some(stated.delivery_count),
+        link_credit: Some(stated.link_credit),
+        available: None,
+        drain: stated.drain,
+        echo: false,
+        properties: &[],
+    }
+}
+
+/// A detach without error [2.7.7].
+pub fn detach(handle: u32, closed: bool) -> Detach<'static>
+    ensures { said (performative.Detach result) ≡ detach_said handle closed [] }
+{
+    Detach {
+        handle,
+        closed,
+        error: &[],
+    }
+}
+
+/// The detach with which this side ends a link with an error [2.6.5].
+pub fn failure(handle: u32, condition: Condition) -> Detach<'static>
+    ensures { said (performative.Detach result) ≡ failure_said handle condition }
+{
+    Detach {
+        handle,
+        closed: true,
+        error: condition.span(),
+    }
+}
+
+/// What became of a delivery [2.7.6].
+pub fn disposition(id: u32, settled: bool, outcome: Outcome) -> Disposition<'static>
+    ensures { said (performative.Disposition result) ≡ disposition_said id settled outcome }
+{
+    Disposition {
+        role: Role::Receiver,
+        first: id,
+        last: None,
+        settled,
+        state: outcome.span(),
+        batchable: &[],
+    }
+}
+
+/// The role of this side, where that is the peer's [2.8.1].
+fn other_role(role: Role) -> Role
+    ensures { result ≡ other_role role }
+{
+    match role {
+        Role::Sender => Role::Receiver,
+        Role::Receiver => Role::Sender,
+    }
+}
+
+/// Writes the answer to an attach, with the longest message that is accepted [2.6.3, 2.7.3].
+pub fn write_attach_reply(
+    longest: u32,
+    channel: u16,
+    attach: &Attach<'_>,
+    out: &mut [u8],
+) -> Option<usize>
+    ensures { IsWritten (said_frame channel (attach_said longest (attaching attach.now)) []) result out.old out.new }
+{
+    let mut scratch = [0; 9];
+    let spelled = ulong(longest, &mut scratch);
+    let reply = accepted(
+        attach.name,
+        attach.source,
+        attach.target,
+        spelled,
+        Modes::of(attach),
+    );
+    write_frame(channel, &Performative::Attach(reply), &[], out)
+}
+
+/// What an attach says beside its texts.
+#[derive(Clone, Copy)]
+pub struct Modes {
+    handle: u32,
+    role: Role,
+    snd_settle_mode: SenderSettleMode,
+    rcv_settle_mode: ReceiverSettleMode,
+}
+
+impl Modes {
+    /// Those of an attach.
+    pub fn of(attach: &Attach<'_>) -> Modes
+        ensures { result ≡ record { handle = attach.now.handle; role = attach.now.role; snd_settle_mode = attach.now.snd_settle_mode; rcv_settle_mode = attach.now.rcv_settle_mode } }
+    {
+        Modes {
+            handle: attach.handle,
+            role: attach.role,
+            snd_settle_mode: attach.snd_settle_mode,
+            rcv_settle_mode: attach.rcv_settle_mode,
+        }
+    }
+}
+
+/// The answer to an attach with these texts, and the longest message spelled so.
+pub fn accepted<'a>(
+    name: &'a str,
+    source: &'a [u8],
+    target: &'a [u8],
+    spelled: &'a [u8],
+    modes: Modes,
+) -> Attach<'a>
+    ensures { (longest : ℕ) (a : Attaching) → spelled.now ≡ canonical (Number Kind.Ulong longest) → IsAttaching name.now source.now target.now modes a → said (performative.Attach result) ≡ attach_said longest a }
+{
+    Attach {
+        name,
+        handle: modes.handle,
+        role: other_role(modes.role),
+        snd_settle_mode: modes.snd_settle_mode,
+        rcv_settle_mode: modes.rcv_settle_mode,
+        source,
+        target,
+        unsettled: &[],
+        incomplete_unsettled: &[],
+        initial_delivery_count: None,
+        max_message_size: spelled,
+        offered_capabilities: &[],
+        desired_capabilities: &[],
+        properties: &[],
+    }
+}
+
+/// The shortest spelling of a number as a ulong, put into `scratch` [1.6.6].
+pub fn ulong(number: u32, scratch: &mut [u8; 9]) -> &[u8]
+    ensures { result.now ≡ canonical (Number Kind.Ulong number) }
+{
+    match put(&Peek::Unsigned(Kind::Ulong, number as u64), scratch) {
+        Some(len) => &scratch[..len],
+        None => unreachable!(),
+    }
+}
+
+/// The attach of a link that is refused: it has neither source nor target, and a sender's states an
+/// initial-delivery-count [2.6.3, 2.7.3].
+pub fn refusal_reply<'a>(attach: &Attach<'a>) -> Attach<'a>
+    ensures { said (performative.Attach result) ≡ refusal_said (attaching attach.now) }
+{
+    let initial_delivery_count = match attach.role {
+        Role::Sender => None,
+        Role::Receiver => Some(0),
+    };
+    Attach {
+        name: attach.name,
+        handle: attach.handle,
+        role: other_role(attach.role),
+        snd_settle_mode: attach.snd_settle_mode,
+        rcv_settle_mode: attach.rcv_settle_mode,
+        source: &[],
+        target: &[],
+        unsettled: &[],
+        incomplete_unsettled: &[],
+        initial_delivery_count,
+        max_message_size: &[],
+        offered_capabilities: &[],
+        desired_capabilities: &[],
+        properties: &[],
+    }
+}

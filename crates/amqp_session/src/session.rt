@@ -1,0 +1,438 @@
+//! One session that receives.
+ghost use Rattle.std.specs.Prelude.{◌≡◌, ◌≤◌, ◌<◌, ◌^◌, [], ◌∷◌, unwrap_or, Option, Some, None, OnOk, IfOk, OnErr, IfErr, true, false, if◌then◌else◌};
+ghost use Rattle.amqp_link.specs.Links.{sent_of};
+ghost use Rattle.amqp_perform.specs.declared.performative.Performative.{Performative};
+ghost use Rattle.amqp_perform.specs.declared.performative.Performative.TheVariants as performative;
+ghost use Rattle.amqp_perform.specs.Frames.{IsWritten};
+ghost use Rattle.amqp_session.specs.Calls.{Widen, Grant, Drain, Take, Settle, Detach as DetachCall, call_fault, call_event, call_answer};
+ghost use Rattle.amqp_session.specs.Faults.{session_fault, event_of, news_of, answer_of, failure_answer, flow_answer, echo_answer, IsRefusal};
+ghost use Rattle.amqp_perform.specs.Said.{said, said_frame};
+ghost use Rattle.amqp_session.specs.Frames.{Attaches, Flows, Transfers, Disposes, Detaches, attaching, flowing, disposing, frame_of, attach_said};
+ghost use Rattle.amqp_session.specs.Sessions.{session_begins, session_after, session_bytes, session_ready, slot_at, slot_ready, SessionMay};
+ghost use Rattle.amqp_session.specs.Slots.{HandsUp, IsViewAt};
+ghost use Rattle.amqp_session.specs.Answers.{said_by, answer_said, IsWithin, HasDone, IsFrameRefusal, IsAttachAnswer};
+
+use crate::done::{Answer, Done};
+use crate::fault::{CallFault, SessionFault};
+use crate::news::News;
+use crate::replies;
+use crate::state::State;
+use crate::terms::SessionTerms;
+use crate::view::LinkView;
+use amqp_link::{Taken, laws};
+use amqp_perform::{Attach, Detach, Disposition, Flow, Outcome, Performative, Transfer};
+use std::alloc::{Allocator, Global};
+use std::marker::Model;
+
+/// One live session that receives: its window, its links by handle, and the deliveries that are open on them
+/// [2.5, 2.6]. No two open deliveries have one delivery-id.
+///
+/// What a peer's frame asks for is done by the call for its performative, or by [`Session::frame`]. A refused
+/// frame changes nothing; but for want of memory it ends the session, which is the caller's to do. What is to be
+/// written in answer is told, and is the caller's to write.
+#[derive(Drop)]
+pub struct Session<A: Allocator + Copy = Global> {
+    state: State<A>,
+}
+
+impl<A: Allocator + Copy> Model for Session<A> {
+    ghost use Rattle.amqp_session.specs.Sessions.{SessionState, IsApart};
+
+    ghost Value = { SessionState };
+
+    ghost view = { λ a. a.state };
+
+    ghost invariant = { λ a. IsApart a.state };
+}
+
+impl<A: Allocator + Copy> Session<A> {
+    /// A session at its begin, with no link [2.5.1]. Takes no memory. Its links take theirs from `alloc`.
+    pub fn begin(alloc: A, terms: SessionTerms) -> Self
+        ensures { result ≡ session_begins terms }
+    {
+        Session {
+            state: State::begin(alloc, terms),
+        }
+    }
+
+    /// What the session began with.
+    pub fn terms(&self) -> &SessionTerms
+        ensures { result.now ≡ self.now.terms }
+    {
+        self.state.terms()
+    }
+
+    /// The places of the incoming window that are left [2.5.6].
+    pub fn window(&self) -> u32
+        ensures { result ≡ self.now.window }
+    {
+        self.state.window()
+    }
+
+    /// The next-incoming-id [2.5.6].
+    pub fn next_incoming_id(&self) -> u32
+        ensures { result ≡ self.now.next_incoming_id }
+    {
+        self.state.next_incoming_id()
+    }
+
+    /// The bytes that count as kept: 64 for the session, 128 for each handle in use, and of each live link its
+    /// name, source, target, and what its open deliveries hold.
+    pub fn held(&self) -> u64
+        ensures { result ≡ session_bytes self.now }
+    {
+        self.state.held()
+    }
+
+    /// The live link at a handle; `None` where none is.
+    pub fn link(&self, handle: u32) -> Option<LinkView<'_>>
+        ensures { IsViewAt (slot_at self.now handle) result }
+    {
+        self.state.link(handle)
+    }
+
+    /// How many deliveries are ready to be handed up, on all links.
+    pub fn ready(&self) -> u32
+        ensures { result ≡ session_ready self.now }
+    {
+        self.state.ready()
+    }
+
+    /// Drops the session with its links, and answers how many deliveries were ready and not handed up.
+    pub fn drop_all(self) -> u32
+        ensures { result ≡ session_ready self }
+    {
+        self.state.ready()
+    }
+
+    /// Takes an attach of the peer [2.6.3], whose handle is at most handle-max. Refused, with nothing changed,
+    /// with the first of these: `ResourceLimit` where the name has more than 255 bytes, `HandleInUse`,
+    /// `InvalidField` where a sender states no initial-delivery-count, and `NoMemory`.
+    ///
+    /// `Attached` tells of a link, which [`Session::write_attach_reply`] answers. `Failed` tells of one that is
+    /// refused: [`crate::refusal_reply`] answers it, and behind that a detach; its handle stays in use until the
+    /// peer detaches it. A link is refused where this side would be its sender, or the coordinator of
+    /// transactions; where source and target have together more than 1024 bytes; and where the answer would not
+    /// fit a frame of the peer.
+    pub fn attach(&mut self, attach: &Attach<'_>) -> Result<Done, SessionFault>
+        requires { attach.now.handle ≤ self.old.terms.handle_max }
+        ensures may { OnOk result (SessionMay self.old (event_of self.old (Attaches (attaching attach.now)))) }
+        ensures new { OnOk result (self.new ≡ session_after self.old (event_of self.old (Attaches (attaching attach.now)))) }
+        ensures accepted { OnOk result (session_fault self.old (Attaches (attaching attach.now)) ≡ None) }
+        ensures news { IfOk result (λ done. done.news ≡ news_of self.old (Attaches (attaching attach.now))) }
+        ensures answer { IfOk result (λ done. answer_of self.old (Attaches (attaching attach.now)) ≡ answer_said self.old.terms (Attaches (attaching attach.now)) done.answer) }
+        ensures refused { IfErr result (λ e. IsRefusal self.old (Attaches (attaching attach.now)) e) }
+        ensures err { OnErr result (self.new ≡ self.old) }
+    {
+        laws::open_ids_grow_by_heads();
+        self.state.is_long();
+        is_counted(attach);
+        let news = self.state.attach(attach)?;
+        Ok(attach_done(news))
+    }
+
+    /// Takes a flow of the peer [2.7.4]: its next-outgoing-id is the next-incoming-id from now on, and leaves the
+    /// window as it is; of a link, its delivery-count is followed. A flow for a link that waits for the peer's
+    /// detach is dropped. Refused, with nothing changed, with `UnattachedHandle` alone.
+    ///
+    /// `Drained` tells that the sender used its credit up, as it was asked to. `Failed` tells that it stated more
+    /// than its credit, and the link is ended by the detach that answers. Else an echo is answered by a flow: of
+    /// the link, if the flow has a handle, else of the session.
+    pub fn flow(&mut self, flow: &Flow<'_>) -> Result<Done, SessionFault>
+        ensures may { OnOk result (SessionMay self.old (event_of self.old (Flows (flowing flow.now)))) }
+        ensures new { OnOk result (self.new ≡ session_after self.old (event_of self.old (Flows (flowing flow.now)))) }
+        ensures accepted { OnOk result (session_fault self.old (Flows (flowing flow.now)) ≡ None) }
+        ensures news { IfOk result (λ done. done.news ≡ news_of self.old (Flows (flowing flow.now))) }
+        ensures answer { IfOk result (λ done. answer_of self.old (Flows (flowing flow.now)) ≡ answer_said self.old.terms (Flows (flowing flow.now)) done.answer) }
+        ensures refused { IfErr result (λ e. IsRefusal self.old (Flows (flowing flow.now)) e) }
+        ensures err { OnErr result (self.new ≡ self.old) }
+    {
+        laws::open_ids_grow_by_heads();
+        self.state.is_long();
+        let news = self.state.flow(flow)?;
+        let answer = flow_answer(&self.state, flow, news);
+        Ok(Done { news, answer })
+    }
+
+    /// Takes a transfer of the peer with its payload [2.6.14]. It uses a place of the window and a number,
+    /// whatever comes of it, unless it is refused: with `WindowViolation` where no place is left, else with
+    /// `UnattachedHandle`, else with `NoMemory`; nothing is changed then. `NoMemory` is never answered to an
+    /// aborted transfer, nor to a later one of a delivery without payload.
+    ///
+    /// A transfer for a link that waits for the peer's detach is dropped. `Failed` tells that it ended its link,
+    /// with the first of these: it resumes a delivery; it begins one under the id of an open one of the session;
+    /// what [`amqp_link::Link::transfer`] says. Then [`crate::failure`] is to be written.
+    pub fn transfer(
+        &mut self,
+        transfer: &Transfer<'_>,
+        payload: &[u8],
+    ) -> Result<News, SessionFault>
+        ensures may { OnOk result (SessionMay self.old (event_of self.old (Transfers transfer.now.handle (sent_of transfer.now payload.now)))) }
+        ensures new { OnOk result (self.new ≡ session_after self.old (event_of self.old (Transfers transfer.now.handle (sent_of transfer.now payload.now)))) }
+        ensures accepted { OnOk result (session_fault self.old (Transfers transfer.now.handle (sent_of transfer.now payload.now)) ≡ None) }
+        ensures news { IfOk result (λ news. news ≡ news_of self.old (Transfers transfer.now.handle (sent_of transfer.now payload.now))) }
+        ensures refused { IfErr result (λ e. IsRefusal self.old (Transfers transfer.now.handle (sent_of transfer.now payload.now)) e) }
+        ensures err { OnErr result (self.new ≡ self.old) }
+    {
+        laws::open_ids_grow_by_heads();
+        self.state.is_long();
+        is_numbered(transfer);
+        let news = self.state.transfer(transfer, payload)?;
+        Ok(news)
+    }
+
+    /// Takes a disposition of the peer [2.7.6]: a sender's that settles settles what it covers, on all links.
+    /// `Settled` tells how many open deliveries it settles, where those are some. Any other does nothing.
+    pub fn disposition(&mut self, disposition: &Disposition<'_>) -> News
+        ensures may { SessionMay self.old (event_of self.old (Disposes (disposing disposition.now))) }
+        ensures new { self.new ≡ session_after self.old (event_of self.old (Disposes (disposing disposition.now))) }
+        ensures news { result ≡ news_of self.old (Disposes (disposing disposition.now)) }
+    {
+        laws::open_ids_grow_by_heads();
+        self.state.is_long();
+        self.state.disposition(disposition)
+    }
+
+    /// Takes a detach of the peer: the handle is free [2.6.4, 2.6.6]. `Detached` tells how many ready deliveries
+    /// were dropped. It is answered by a detach with the same closed, unless this side sent the first. Refused,
+    /// with nothing changed, with `UnattachedHandle` alone.
+    pub fn detached(&mut self, detach: &Detach<'_>) -> Result<Done, SessionFault>
+        ensures may { OnOk result (SessionMay self.old (event_of self.old (Detaches detach.now.handle detach.now.closed))) }
+        ensures new { OnOk result (self.new ≡ session_after self.old (event_of self.old (Detaches detach.now.handle detach.now.closed))) }
+        ensures accepted { OnOk result (session_fault self.old (Detaches detach.now.handle detach.now.closed) ≡ None) }
+        ensures news { IfOk result (λ done. done.news ≡ news_of self.old (Detaches detach.now.handle detach.now.closed)) }
+        ensures answer { IfOk result (λ done. answer_of self.old (Detaches detach.now.handle detach.now.closed) ≡ answer_said self.old.terms (Detaches detach.now.handle detach.now.closed) done.answer) }
+        ensures refused { IfErr result (λ e. IsRefusal self.old (Detaches detach.now.handle detach.now.closed) e) }
+        ensures err { OnErr result (self.new ≡ self.old) }
+    {
+        laws::open_ids_grow_by_heads();
+        self.state.is_long();
+        let handle = detach.handle;
+        let detached = self.state.detached(handle)?;
+        let answer = if detached.live {
+            Answer::Detach(replies::detach(handle, detach.closed))
+        } else {
+            Answer::Nothing
+        };
+        Ok(Done {
+            news: News::Detached {
+                handle,
+                dropped: detached.dropped,
+            },
+            answer,
+        })
+    }
+
+    /// Takes any frame of the session with its payload, as the call for its performative does. An open, a begin,
+    /// an end and a close are not for the session: they do nothing. An attach's handle is at most handle-max.
+    /// Refused, with nothing changed, with what that call says.
+    pub fn frame(
+        &mut self,
+        performative: &Performative<'_>,
+        payload: &[u8],
+    ) -> Result<Done, SessionFault>
+        requires { IsWithin self.old.terms.handle_max performative.now }
+        ensures done { IfOk result (λ done. HasDone self.old self.new (frame_of performative.now payload.now) done) }
+        ensures refused { IfErr result (λ e. IsFrameRefusal self.old (frame_of performative.now payload.now) e) }
+        ensures err { OnErr result (self.new ≡ self.old) }
+    {
+        match performative {
+            Performative::Attach(p) => self.attach(p),
+            Performative::Flow(p) => self.flow(p),
+            Performative::Transfer(p) => Ok(told(self.transfer(p, payload)?)),
+            Performative::Disposition(p) => Ok(told(self.disposition(p))),
+            Performative::Detach(p) => self.detached(p),
+            _ => Ok(told(News::Nothing)),
+        }
+    }
+
+    /// Writes the frame that answers an attach that was accepted at the front of `out`, with the longest message that
+    /// is accepted [2.6.3, 2.7.3]. Answers its length; `None`, with `out` unchanged, where it does not fit.
+    pub fn write_attach_reply(
+        &self,
+        channel: u16,
+        attach: &Attach<'_>,
+        out: &mut [u8],
+    ) -> Option<usize>
+        ensures { IsWritten (said_frame channel (attach_said self.now.terms.bounds.max_message_size (attaching attach.now)) []) result out.old out.new }
+    {
+        let longest = self.state.terms().bounds.max_message_size();
+        replies::write_attach_reply(longest, channel, attach, out)
+    }
+
+    /// Widens the incoming window by `n` places, and answers the flow that says so [2.5.6]. Refused, with
+    /// nothing changed, where it would pass 2147483647 places.
+    pub fn widen(&mut self, n: u32) -> Result<Flow<'static>, CallFault>
+        ensures may { OnOk result (SessionMay self.old (call_event self.old (Widen n))) }
+        ensures new { OnOk result (self.new ≡ session_after self.old (call_event self.old (Widen n))) }
+        ensures accepted { OnOk result (call_fault self.old (Widen n) ≡ None) }
+        ensures answer { IfOk result (λ flow. call_answer self.old (Widen n) ≡ said (performative.Flow flow) ∷ []) }
+        ensures refused { IfErr result (λ e. call_fault self.old (Widen n) ≡ Some e) }
+        ensures err { OnErr result (self.new ≡ self.old) }
+    {
+        laws::open_ids_grow_by_heads();
+        self.state.is_long();
+        self.state.widen(n)?;
+        Ok(self.state.session_flow())
+    }
+
+    /// Grants the link at a handle `n` places of credit, and answers the flow that says so [2.6.7]. Refused, with
+    /// nothing changed: with `NoLink`, or with `TooMuchCredit` where credit and open deliveries would be more
+    /// than the link allows.
+    pub fn grant(&mut self, handle: u32, n: u32) -> Result<Flow<'static>, CallFault>
+        ensures may { OnOk result (SessionMay self.old (call_event self.old (Grant handle n))) }
+        ensures new { OnOk result (self.new ≡ session_after self.old (call_event self.old (Grant handle n))) }
+        ensures accepted { OnOk result (call_fault self.old (Grant handle n) ≡ None) }
+        ensures answer { IfOk result (λ flow. call_answer self.old (Grant handle n) ≡ said (performative.Flow flow) ∷ []) }
+        ensures refused { IfErr result (λ e. call_fault self.old (Grant handle n) ≡ Some e) }
+        ensures err { OnErr result (self.new ≡ self.old) }
+    {
+        laws::open_ids_grow_by_heads();
+        self.state.is_long();
+        let flow = self.state.grant(handle, n)?;
+        Ok(flow)
+    }
+
+    /// Asks the sender on the link at a handle to use its credit up, and answers the flow that says so [2.6.7].
+    /// Refused, with nothing changed, with `NoLink`.
+    pub fn drain(&mut self, handle: u32) -> Result<Flow<'static>, CallFault>
+        ensures may { OnOk result (SessionMay self.old (call_event self.old (Drain handle))) }
+        ensures new { OnOk result (self.new ≡ session_after self.old (call_event self.old (Drain handle))) }
+        ensures accepted { OnOk result (call_fault self.old (Drain handle) ≡ None) }
+        ensures answer { IfOk result (λ flow. call_answer self.old (Drain handle) ≡ said (performative.Flow flow) ∷ []) }
+        ensures refused { IfErr result (λ e. call_fault self.old (Drain handle) ≡ Some e) }
+        ensures err { OnErr result (self.new ≡ self.old) }
+    {
+        laws::open_ids_grow_by_heads();
+        self.state.is_long();
+        let flow = self.state.drain(handle)?;
+        Ok(flow)
+    }
+
+    /// Hands up the first ready delivery of the link at a handle. Refused, with nothing changed: with `NoLink`,
+    /// or with `NothingReady`. Takes no memory.
+    pub fn take(&mut self, handle: u32) -> Result<Taken<A>, CallFault>
+        ensures may { OnOk result (SessionMay self.old (call_event self.old (Take handle))) }
+        ensures new { OnOk result (self.new ≡ session_after self.old (call_event self.old (Take handle))) }
+        ensures accepted { OnOk result (call_fault self.old (Take handle) ≡ None) }
+        ensures taken { IfOk result (λ taken. HandsUp (slot_at self.old handle) taken) }
+        ensures refused { IfErr result (λ e. call_fault self.old (Take handle) ≡ Some e) }
+        ensures err { OnErr result (self.new ≡ self.old) }
+    {
+        laws::open_ids_grow_by_heads();
+        self.state.is_long();
+        let taken = self.state.take(handle)?;
+        Ok(taken)
+    }
+
+    /// Settles the delivery with this id, which was handed up [2.6.12], and answers the disposition that says so.
+    /// In mode second it tells the sender what became of it, who settles it [2.8.3]. Refused, with nothing
+    /// changed: with `NoDelivery`, `NotTaken` or `AlreadyTold`. Takes no memory.
+    pub fn settle(&mut self, id: u32, outcome: Outcome) -> Result<Disposition<'static>, CallFault>
+        ensures may { OnOk result (SessionMay self.old (call_event self.old (Settle id outcome))) }
+        ensures new { OnOk result (self.new ≡ session_after self.old (call_event self.old (Settle id outcome))) }
+        ensures accepted { OnOk result (call_fault self.old (Settle id outcome) ≡ None) }
+        ensures answer { IfOk result (λ p. call_answer self.old (Settle id outcome) ≡ said (performative.Disposition p) ∷ []) }
+        ensures refused { IfErr result (λ e. call_fault self.old (Settle id outcome) ≡ Some e) }
+        ensures err { OnErr result (self.new ≡ self.old) }
+    {
+        laws::open_ids_grow_by_heads();
+        self.state.is_long();
+        let settled = self.state.settle(id)?;
+        Ok(replies::disposition(id, settled, outcome))
+    }
+
+    /// Ends the link at a handle [2.6.6]: answers the detach that says so, and how many ready deliveries are
+    /// dropped. The handle stays in use until the peer detaches it. Refused, with nothing changed, with `NoLink`.
+    pub fn detach(&mut self, handle: u32) -> Result<(Detach<'static>, u32), CallFault>
+        ensures may { OnOk result (SessionMay self.old (call_event self.old (DetachCall handle))) }
+        ensures new { OnOk result (self.new ≡ session_after self.old (call_event self.old (DetachCall handle))) }
+        ensures accepted { OnOk result (call_fault self.old (DetachCall handle) ≡ None) }
+        ensures answer { IfOk result (λ d. call_answer self.old (DetachCall handle) ≡ said (performative.Detach d.0) ∷ []) }
+        ensures dropped { IfOk result (λ d. d.1 ≡ slot_ready (slot_at self.old handle)) }
+        ensures refused { IfErr result (λ e. call_fault self.old (DetachCall handle) ≡ Some e) }
+        ensures err { OnErr result (self.new ≡ self.old) }
+    {
+        laws::open_ids_grow_by_heads();
+        self.state.is_long();
+        let dropped = self.state.detach(handle)?;
+        Ok((replies::detach(handle, true), dropped))
+    }
+}
+
+/// What answers a flow that was taken.
+fn flow_answer<A: Allocator + Copy>(after: &State<A>, flow: &Flow<'_>, news: News) -> Answer
+    ensures { said_by result ≡ flow_answer after.now (flowing flow.now) news }
+{
+    match news {
+        News::Failed {
+            handle,
+            condition,
+            ..
+        } => Answer::Detach(replies::failure(handle, condition)),
+        _ => echo(after, flow),
+    }
+}
+
+/// What answers the echo of a flow that was taken.
+fn echo<A: Allocator + Copy>(after: &State<A>, flow: &Flow<'_>) -> Answer
+    ensures { said_by result ≡ (if flow.now.echo then echo_answer after.now flow.now.handle else []) }
+{
+    if !flow.echo {
+        return Answer::Nothing;
+    }
+    match flow.handle {
+        None => Answer::Flow(after.session_flow()),
+        Some(handle) => match after.link_flow(handle) {
+            Some(flow) => Answer::Flow(flow),
+            None => Answer::Nothing,
+        },
+    }
+}
+
+/// A delivery-id has 32 bits.
+fn is_numbered(transfer: &Transfer<'_>)
+    ensures { unwrap_or transfer.now.delivery_id 0 < 2 ^ 32 }
+{
+    let _ = transfer.delivery_id.unwrap_or(0);
+}
+
+/// A delivery-count has 32 bits.
+fn is_counted(attach: &Attach<'_>)
+    ensures { unwrap_or attach.now.initial_delivery_count 0 < 2 ^ 32 }
+{
+    let _ = attach.initial_delivery_count.unwrap_or(0);
+}
+
+/// A frame that is answered by the detach of a link that failed, or by nothing.
+fn told(news: News) -> Done
+    ensures news { result.news ≡ news }
+    ensures answer { said_by result.answer ≡ failure_answer news }
+    ensures nothing { news ≡ News.Nothing → result.answer ≡ Answer.Nothing }
+{
+    let answer = match news {
+        News::Failed {
+            handle,
+            condition,
+            ..
+        } => Answer::Detach(replies::failure(handle, condition)),
+        _ => Answer::Nothing,
+    };
+    Done { news, answer }
+}
+
+/// An attach that is answered, by a refusal where its link failed.
+fn attach_done(news: News) -> Done
+    ensures news { result.news ≡ news }
+    ensures answer { IsAttachAnswer news result.answer }
+{
+    let answer = match news {
+        News::Failed {
+            handle,
+            condition,
+            ..
+        } => Answer::Refusal(replies::failure(handle, condition)),
+        _ => Answer::Attach,
+    };
+    Done { news, answer }
+}

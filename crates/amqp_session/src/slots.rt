@@ -1,0 +1,314 @@
+//! What stands at one handle.
+ghost use Rattle.std.specs.Prelude.{◌≡◌, ◌<◌, ◌≤◌, ◌+◌, ◌*◌, ◌^◌, length, Option, Some, None, OnOk, OnErr, IfOk, IfErr, IfSome, IfNone, IsSomeAnd, true, false, is_none, nat_lt};
+ghost use Rattle.amqp_link.specs.Links.{sent_of, LinkState, Granted, DrainAsked, SenderSettled, ReceiverSettled, open_count, first_ready};
+ghost use Rattle.amqp_session.specs.Slots.{slot_came, slot_came_news, IsSlotRefusal, slot_flowed, slot_called, IsStated, IsTaken, IsSettling, IsFlowTold, is_live, IsViewAt};
+ghost use Rattle.amqp_session.specs.Faults.{is_free, link_condition, step_news, flow_news, slot_settled, where_so};
+ghost use Rattle.amqp_session.specs.Sessions.{slot_ready, slot_has, slot_bytes};
+ghost use Rattle.amqp_session.specs.Calls.{at_link, slot_standing};
+ghost use Rattle.amqp_session.specs.Frames.{flowing};
+
+use crate::fault::{CallFault, SessionFault};
+use crate::kept_link::KeptLink;
+use crate::news::News;
+use crate::slot::Slot;
+use crate::view::LinkView;
+use amqp_link::{LinkFault, Standing, Step, Taken};
+use amqp_perform::{Condition, Flow, Transfer};
+use std::alloc::Allocator;
+
+/// What a flow states of a link [2.7.4].
+#[derive(Clone, Copy)]
+pub struct LinkStated {
+    pub delivery_count: u32,
+    pub link_credit: u32,
+    pub drain: bool,
+}
+
+/// The peer detached a link.
+#[derive(Clone, Copy)]
+pub struct PeerDetached {
+    /// How many ready deliveries were dropped.
+    pub dropped: u32,
+    /// It was live, so that this side has to answer.
+    pub live: bool,
+}
+
+/// Takes a transfer and its payload, of which it is known whether it begins a delivery under an open id.
+pub fn transfer<A: Allocator + Copy>(
+    slot: &mut Slot<KeptLink<A>>,
+    reused: bool,
+    transfer: &Transfer<'_>,
+    payload: &[u8],
+) -> Result<News, SessionFault>
+    ensures new { OnOk result (slot.new ≡ slot_came reused (sent_of transfer.now payload.now) slot.old) }
+    ensures news { IfOk result (λ news. news ≡ slot_came_news reused transfer.now.handle (sent_of transfer.now payload.now) slot.old) }
+    ensures used { OnOk result (is_free slot.old ≡ false) }
+    ensures refused { IfErr result (λ e. IsSlotRefusal reused (sent_of transfer.now payload.now) slot.old e) }
+    ensures err { OnErr result (slot.new ≡ slot.old) }
+{
+    let handle = transfer.handle;
+    let fault = match slot {
+        Slot::Free => return Err(SessionFault::UnattachedHandle),
+        Slot::Waits => return Ok(News::Nothing),
+        Slot::Live(kept) => match kept.transfer(reused, transfer, payload) {
+            Ok(step) => return Ok(step_news(handle, step)),
+            Err(LinkFault::NoMemory) => return Err(SessionFault::NoMemory),
+            Err(fault) => fault,
+        },
+    };
+    Ok(fail(slot, handle, link_condition(fault)))
+}
+
+/// What an accepted transfer tells.
+fn step_news(handle: u32, step: Step) -> News
+    ensures { result ≡ step_news handle step }
+{
+    match step {
+        Step::Unfinished => News::Unfinished { handle },
+        Step::Ready => News::Ready { handle },
+        Step::Aborted => News::Aborted { handle },
+    }
+}
+
+/// The condition with which a link ends.
+fn link_condition(fault: LinkFault) -> Condition
+    ensures { result ≡ link_condition fault }
+{
+    match fault {
+        LinkFault::TransferLimit => Condition::TransferLimitExceeded,
+        LinkFault::MessageSize => Condition::MessageSizeExceeded,
+        LinkFault::InvalidField => Condition::InvalidField,
+        LinkFault::NotImplemented => Condition::NotImplemented,
+        LinkFault::NoMemory => Condition::Other,
+    }
+}
+
+/// How many deliveries are ready there.
+pub fn ready<A: Allocator + Copy>(slot: &Slot<KeptLink<A>>) -> u32
+    ensures value { result ≡ slot_ready slot.now }
+    ensures most { result ≤ 1024 }
+{
+    match slot {
+        Slot::Live(kept) => kept.ready(),
+        _ => 0,
+    }
+}
+
+/// This side ends the link with an error.
+fn fail<A: Allocator + Copy>(
+    slot: &mut Slot<KeptLink<A>>,
+    handle: u32,
+    condition: Condition,
+) -> News
+    ensures new { slot.new ≡ Slot.Waits }
+    ensures news { result ≡ News.Failed handle condition (slot_ready slot.old) }
+{
+    let dropped = ready(slot);
+    *slot = Slot::Waits;
+    News::Failed {
+        handle,
+        condition,
+        dropped,
+    }
+}
+
+/// Follows a flow of the link. `None` where it waits for the peer's detach: the flow is dropped.
+pub fn flow<A: Allocator + Copy>(
+    slot: &mut Slot<KeptLink<A>>,
+    handle: u32,
+    flow: &Flow<'_>,
+) -> Result<Option<News>, SessionFault>
+    ensures new { slot.new ≡ slot_flowed (flowing flow.now) slot.old }
+    ensures news { IfOk result (λ told. IsFlowTold handle (flowing flow.now) slot.old told) }
+    ensures refused { IfErr result (λ e. (e ≡ SessionFault.UnattachedHandle) × (is_free slot.old ≡ true)) }
+{
+    match slot {
+        Slot::Free => return Err(SessionFault::UnattachedHandle),
+        Slot::Waits => return Ok(None),
+        Slot::Live(kept) => match kept.sender_count(flow.delivery_count) {
+            Ok(true) => return Ok(Some(News::Drained { handle })),
+            Ok(false) => return Ok(Some(News::Nothing)),
+            Err(_) => {}
+        },
+    }
+    Ok(Some(fail(slot, handle, Condition::TransferLimitExceeded)))
+}
+
+/// Grants the link `n` places of credit, and answers what a flow then states of it.
+pub fn grant<A: Allocator + Copy>(
+    slot: &mut Slot<KeptLink<A>>,
+    n: u32,
+) -> Result<LinkStated, CallFault>
+    ensures new { OnOk result (slot.new ≡ slot_called (Granted n) slot.old) }
+    ensures stated { IfOk result (λ stated. IsStated slot.new stated) }
+    ensures accepted { OnOk result (at_link slot.old (λ l. where_so (nat_lt l.terms.bounds.allowed (l.credit + open_count l + n)) CallFault.TooMuchCredit) ≡ None) }
+    ensures refused { IfErr result (λ e. at_link slot.old (λ l. where_so (nat_lt l.terms.bounds.allowed (l.credit + open_count l + n)) CallFault.TooMuchCredit) ≡ Some e) }
+    ensures err { OnErr result (slot.new ≡ slot.old) }
+{
+    match slot {
+        Slot::Live(kept) => match kept.grant(n) {
+            Ok(()) => Ok(stated(kept)),
+            Err(_) => Err(CallFault::TooMuchCredit),
+        },
+        _ => Err(CallFault::NoLink),
+    }
+}
+
+/// Asks the sender to use its credit up, and answers what a flow then states of the link.
+pub fn drain<A: Allocator + Copy>(slot: &mut Slot<KeptLink<A>>) -> Result<LinkStated, CallFault>
+    ensures new { OnOk result (slot.new ≡ slot_called DrainAsked slot.old) }
+    ensures stated { IfOk result (λ stated. IsStated slot.new stated) }
+    ensures accepted { OnOk result (at_link slot.old (λ l. None) ≡ None) }
+    ensures refused { IfErr result (λ e. at_link slot.old (λ l. None) ≡ Some e) }
+    ensures err { OnErr result (slot.new ≡ slot.old) }
+{
+    match slot {
+        Slot::Live(kept) => {
+            kept.drain();
+            Ok(stated(kept))
+        }
+        _ => Err(CallFault::NoLink),
+    }
+}
+
+/// What a flow states of a link.
+fn stated<A: Allocator + Copy>(kept: &KeptLink<A>) -> LinkStated
+    ensures { IsStated (Slot.Live kept.now) result }
+{
+    let link = kept.link();
+    LinkStated {
+        delivery_count: link.delivery_count(),
+        link_credit: link.credit(),
+        drain: link.is_draining(),
+    }
+}
+
+/// What a flow states of the link there, if one is live.
+pub fn stated_at<A: Allocator + Copy>(slot: &Slot<KeptLink<A>>) -> Option<LinkStated>
+    ensures some { IfSome result (λ stated. IsStated slot.now stated) }
+    ensures none { IfNone result ((stated : LinkStated) → IsStated slot.now stated → ⊥) }
+{
+    match slot {
+        Slot::Live(kept) => Some(stated(kept)),
+        _ => None,
+    }
+}
+
+/// Hands up the first ready delivery of the link.
+pub fn take<A: Allocator + Copy>(slot: &mut Slot<KeptLink<A>>) -> Result<Taken<A>, CallFault>
+    ensures taken { IfOk result (λ taken. IsTaken slot.old slot.new taken) }
+    ensures accepted { OnOk result (at_link slot.old (λ l. where_so (is_none (first_ready l)) CallFault.NothingReady) ≡ None) }
+    ensures refused { IfErr result (λ e. at_link slot.old (λ l. where_so (is_none (first_ready l)) CallFault.NothingReady) ≡ Some e) }
+    ensures err { OnErr result (slot.new ≡ slot.old) }
+{
+    match slot {
+        Slot::Live(kept) => match kept.take() {
+            Some(taken) => Ok(taken),
+            None => Err(CallFault::NothingReady),
+        },
+        _ => Err(CallFault::NoLink),
+    }
+}
+
+/// Ends the link, and answers how many ready deliveries are dropped.
+pub fn detach<A: Allocator + Copy>(slot: &mut Slot<KeptLink<A>>) -> Result<u32, CallFault>
+    ensures new { OnOk result (slot.new ≡ Slot.Waits) }
+    ensures dropped { IfOk result (λ dropped. dropped ≡ slot_ready slot.old) }
+    ensures accepted { OnOk result (at_link slot.old (λ l. None) ≡ None) }
+    ensures refused { IfErr result (λ e. at_link slot.old (λ l. None) ≡ Some e) }
+    ensures err { OnErr result (slot.new ≡ slot.old) }
+{
+    match slot {
+        Slot::Live(_) => {}
+        _ => return Err(CallFault::NoLink),
+    }
+    let dropped = ready(slot);
+    *slot = Slot::Waits;
+    Ok(dropped)
+}
+
+/// The peer detaches the link.
+pub fn detached<A: Allocator + Copy>(
+    slot: &mut Slot<KeptLink<A>>,
+) -> Result<PeerDetached, SessionFault>
+    ensures new { OnOk result (slot.new ≡ Slot.Free) }
+    ensures used { OnOk result (is_free slot.old ≡ false) }
+    ensures dropped { IfOk result (λ detached. detached.dropped ≡ slot_ready slot.old) }
+    ensures live { IfOk result (λ detached. detached.live ≡ is_live slot.old) }
+    ensures refused { IfErr result (λ e. (e ≡ SessionFault.UnattachedHandle) × (is_free slot.old ≡ true)) }
+    ensures err { OnErr result (slot.new ≡ slot.old) }
+{
+    let live = match slot {
+        Slot::Free => return Err(SessionFault::UnattachedHandle),
+        Slot::Live(_) => true,
+        Slot::Waits => false,
+    };
+    let dropped = ready(slot);
+    *slot = Slot::Free;
+    Ok(PeerDetached { dropped, live })
+}
+
+/// The sender settles the ids from `first` to `last`. Answers how many open deliveries it settles.
+pub fn peer_settled<A: Allocator + Copy>(slot: &mut Slot<KeptLink<A>>, first: u32, last: u32) -> u32
+    ensures new { slot.new ≡ slot_called (SenderSettled first last) slot.old }
+    ensures count { result ≡ slot_settled first last slot.old }
+    ensures most { result ≤ 1024 }
+{
+    match slot {
+        Slot::Live(kept) => kept.peer_settled(first, last),
+        _ => 0,
+    }
+}
+
+/// The receiver settles the delivery with this id, or tells the sender of it, if the link has it.
+pub fn settle<A: Allocator + Copy>(slot: &mut Slot<KeptLink<A>>, id: u32)
+    requires { IsSettling id slot.old }
+    ensures { slot.new ≡ slot_called (ReceiverSettled id id) slot.old }
+{
+    match slot {
+        Slot::Live(kept) => kept.settle(id),
+        _ => {}
+    }
+}
+
+/// Whether an open delivery there has the id.
+pub fn has_open<A: Allocator + Copy>(slot: &Slot<KeptLink<A>>, id: u32) -> bool
+    ensures { result ≡ slot_has id slot.now }
+{
+    match slot {
+        Slot::Live(kept) => kept.link().has_open(id),
+        _ => false,
+    }
+}
+
+/// What the open delivery there with the id is to its receiver.
+pub fn standing<A: Allocator + Copy>(slot: &Slot<KeptLink<A>>, id: u32) -> Standing
+    ensures { result ≡ slot_standing id slot.now }
+{
+    match slot {
+        Slot::Live(kept) => kept.link().standing(id),
+        _ => Standing::Absent,
+    }
+}
+
+/// What is shown of the link there, if one is live.
+pub fn view<A: Allocator + Copy>(slot: &Slot<KeptLink<A>>) -> Option<LinkView<'_>>
+    ensures { IsViewAt slot.now result }
+{
+    match slot {
+        Slot::Live(kept) => Some(kept.view()),
+        _ => None,
+    }
+}
+
+/// The bytes that count as kept.
+pub fn held<A: Allocator + Copy>(slot: &Slot<KeptLink<A>>) -> u64
+    ensures value { result ≡ slot_bytes slot.now }
+    ensures most { result < 2 ^ 50 }
+{
+    match slot {
+        Slot::Free => 0,
+        Slot::Live(kept) => kept.held(),
+        Slot::Waits => 128,
+    }
+}

@@ -1,0 +1,457 @@
+//! What a session keeps: its terms, its window, its numbers, and what stands at its handles.
+ghost use Rattle.std.specs.Prelude.{◌≡◌, ◌<◌, ◌≤◌, ◌+◌, ◌^◌, Bool, [], ◌∷◌, length, option_to_list, map, Option, Some, None, OnOk, OnErr, IfOk, IfErr, IfSome, IfNone, MatchOption, true, false, not, ◌&&◌, is_none};
+ghost use Rattle.amqp_link.specs.Links.{sent_of};
+ghost use Rattle.amqp_perform.specs.declared.performative.Performative.TheVariants as performative;
+ghost use Rattle.amqp_perform.specs.Performatives.{is_receiver};
+ghost use Rattle.amqp_session.specs.Calls.{Widen, Grant, Drain, Take, Settle, Detach as DetachCall, call_fault, call_event, standing_in, standing_fault, settles_at_once};
+ghost use Rattle.amqp_session.specs.Faults.{session_fault, event_of, news_of, attach_fault, IsRefusal, session_flow, link_flow, attached, is_settling, settled_news};
+ghost use Rattle.amqp_perform.specs.Said.{said};
+ghost use Rattle.amqp_session.specs.Frames.{Attaches, Flows, Transfers, Disposes, Detaches, attaching, flowing, disposing, link_flow_said};
+ghost use Rattle.amqp_session.specs.Sessions.{SessionState, session_begins, session_after, session_bytes, session_ready, slot_at, slot_ready, handles, IsApart, live_begins};
+ghost use Rattle.amqp_session.specs.Slots.{HandsUp, IsViewAt, is_live};
+ghost use Rattle.amqp_perform.specs.declared.outcome.Outcome.{Outcome};
+
+use crate::fault::{CallFault, SessionFault};
+use crate::kept_link::KeptLink;
+use crate::news::News;
+use crate::refusal::refusal;
+use crate::slot::Slot;
+use crate::slots::{self, LinkStated, PeerDetached};
+use crate::terms::SessionTerms;
+use crate::view::LinkView;
+use crate::{replies, table};
+use amqp_link::{Standing, Taken, Terms};
+use amqp_perform::{Attach, Disposition, Flow, ReceiverSettleMode, Role, Transfer};
+use std::alloc::{AllocError, Allocator, Global};
+use std::marker::Model;
+
+/// The longest name that is kept.
+const MAX_NAME: usize = 255;
+
+/// The parts of a session.
+#[derive(Drop)]
+pub struct State<A: Allocator + Copy = Global> {
+    alloc: A,
+    terms: SessionTerms,
+    window: u32,
+    next_incoming_id: u32,
+    table: Vec<Slot<KeptLink<A>>, A>,
+}
+
+impl<A: Allocator + Copy> Model for State<A> {
+    ghost use Rattle.amqp_session.specs.Sessions.{SessionState};
+
+    ghost Value = { SessionState };
+
+    ghost use Rattle.amqp_session.specs.Slots.{session_of, IsReached};
+
+    ghost view = { λ a. session_of a.terms a.window a.next_incoming_id a.table.items };
+
+    ghost invariant = { λ a. IsReached a.terms a.table.items };
+}
+
+impl<A: Allocator + Copy> State<A> {
+    /// A session at its begin.
+    pub fn begin(alloc: A, terms: SessionTerms) -> Self
+        ensures { result ≡ session_begins terms }
+    {
+        let window = terms.incoming_window;
+        let next_incoming_id = terms.next_outgoing_id;
+        State {
+            alloc,
+            terms,
+            window,
+            next_incoming_id,
+            table: Vec::new(alloc),
+        }
+    }
+
+    /// A place for each handle stands in the view.
+    pub fn is_long(&self)
+        ensures { length self.now.links ≡ handles self.now.terms }
+    {
+        let _ = &self.table;
+    }
+
+    /// What the session began with.
+    pub fn terms(&self) -> &SessionTerms
+        ensures { result.now ≡ self.now.terms }
+    {
+        &self.terms
+    }
+
+    /// The places of the window that are left.
+    pub fn window(&self) -> u32
+        ensures { result ≡ self.now.window }
+    {
+        self.window
+    }
+
+    /// The next-incoming-id.
+    pub fn next_incoming_id(&self) -> u32
+        ensures { result ≡ self.now.next_incoming_id }
+    {
+        self.next_incoming_id
+    }
+
+    /// The bytes that count as kept.
+    pub fn held(&self) -> u64
+        ensures { result ≡ session_bytes self.now }
+    {
+        64 + table::held(&self.table)
+    }
+
+    /// How many deliveries are ready.
+    pub fn ready(&self) -> u32
+        ensures { result ≡ session_ready self.now }
+    {
+        table::ready(&self.table)
+    }
+
+    /// What is shown of the live link at a handle.
+    pub fn link(&self, handle: u32) -> Option<LinkView<'_>>
+        ensures { IsViewAt (slot_at self.now handle) result }
+    {
+        let place = handle as usize;
+        if place >= self.table.len() {
+            return None;
+        }
+        slots::view(&self.table[place])
+    }
+
+    /// The flow of the session.
+    pub fn session_flow(&self) -> Flow<'static>
+        ensures { said (performative.Flow result) ≡ session_flow self.now }
+    {
+        replies::session_flow(self.next_incoming_id, self.window)
+    }
+
+    /// The flow of the link at a handle, if one is live.
+    pub fn link_flow(&self, handle: u32) -> Option<Flow<'static>>
+        ensures { map (λ p. said (performative.Flow p)) (option_to_list result) ≡ link_flow self.now handle }
+    {
+        let place = handle as usize;
+        if place >= self.table.len() {
+            return None;
+        }
+        match slots::stated_at(&self.table[place]) {
+            Some(stated) => Some(self.flow_stating(handle, stated)),
+            None => None,
+        }
+    }
+
+    /// The flow that states this of the link at a handle.
+    fn flow_stating(&self, handle: u32, stated: LinkStated) -> Flow<'static>
+        ensures { said (performative.Flow result) ≡ link_flow_said self.now.next_incoming_id self.now.window handle stated.delivery_count stated.link_credit stated.drain }
+    {
+        replies::link_flow(self.next_incoming_id, self.window, handle, stated)
+    }
+
+    /// The fault of an attach that ends the session.
+    fn attach_fault(&self, attach: &Attach<'_>) -> Option<SessionFault>
+        ensures { result ≡ attach_fault self.now (attaching attach.now) }
+    {
+        if attach.name.len() > MAX_NAME {
+            Some(SessionFault::ResourceLimit)
+        } else if !table::is_free(&self.table, attach.handle as usize) {
+            Some(SessionFault::HandleInUse)
+        } else if lacks_count(attach) {
+            Some(SessionFault::InvalidField)
+        } else {
+            None
+        }
+    }
+
+    /// Takes an attach.
+    pub fn attach(&mut self, attach: &Attach<'_>) -> Result<News, SessionFault>
+        requires { attach.now.handle ≤ self.old.terms.handle_max }
+        ensures new { OnOk result (self.new ≡ session_after self.old (event_of self.old (Attaches (attaching attach.now)))) }
+        ensures accepted { OnOk result (session_fault self.old (Attaches (attaching attach.now)) ≡ None) }
+        ensures news { IfOk result (λ news. news ≡ news_of self.old (Attaches (attaching attach.now))) }
+        ensures refused { IfErr result (λ e. IsRefusal self.old (Attaches (attaching attach.now)) e) }
+        ensures err { OnErr result (self.new ≡ self.old) }
+    {
+        if let Some(fault) = self.attach_fault(attach) {
+            return Err(fault);
+        }
+        let handle = attach.handle;
+        let place = handle as usize;
+        table::reach(&mut self.table, place)?;
+        match refusal(&self.terms, attach) {
+            None => {
+                self.table[place] = Slot::Live(begun(self.alloc, &self.terms, attach)?);
+                Ok(News::Attached { handle })
+            }
+            Some(condition) => {
+                self.table[place] = Slot::Waits;
+                Ok(News::Failed {
+                    handle,
+                    condition,
+                    dropped: 0,
+                })
+            }
+        }
+    }
+
+    /// Takes a flow.
+    pub fn flow(&mut self, flow: &Flow<'_>) -> Result<News, SessionFault>
+        ensures new { OnOk result (self.new ≡ session_after self.old (event_of self.old (Flows (flowing flow.now)))) }
+        ensures accepted { OnOk result (session_fault self.old (Flows (flowing flow.now)) ≡ None) }
+        ensures news { IfOk result (λ news. news ≡ news_of self.old (Flows (flowing flow.now))) }
+        ensures refused { IfErr result (λ e. IsRefusal self.old (Flows (flowing flow.now)) e) }
+        ensures err { OnErr result (self.new ≡ self.old) }
+    {
+        match flow.handle {
+            Some(handle) => self.link_flowed(handle, flow),
+            None => {
+                self.next_incoming_id = flow.next_outgoing_id;
+                Ok(News::Nothing)
+            }
+        }
+    }
+
+    /// Takes a flow of the link at a handle.
+    fn link_flowed(&mut self, handle: u32, flow: &Flow<'_>) -> Result<News, SessionFault>
+        requires { flow.now.handle ≡ Some handle }
+        ensures new { OnOk result (self.new ≡ session_after self.old (event_of self.old (Flows (flowing flow.now)))) }
+        ensures accepted { OnOk result (session_fault self.old (Flows (flowing flow.now)) ≡ None) }
+        ensures news { IfOk result (λ news. news ≡ news_of self.old (Flows (flowing flow.now))) }
+        ensures refused { IfErr result (λ e. IsRefusal self.old (Flows (flowing flow.now)) e) }
+        ensures err { OnErr result (self.new ≡ self.old) }
+    {
+        let place = handle as usize;
+        if place >= self.table.len() {
+            return Err(SessionFault::UnattachedHandle);
+        }
+        match slots::flow(&mut self.table[place], handle, flow)? {
+            None => Ok(News::Nothing),
+            Some(news) => {
+                self.next_incoming_id = flow.next_outgoing_id;
+                Ok(news)
+            }
+        }
+    }
+
+    /// Takes a transfer and its payload.
+    pub fn transfer(
+        &mut self,
+        transfer: &Transfer<'_>,
+        payload: &[u8],
+    ) -> Result<News, SessionFault>
+        ensures new { OnOk result (self.new ≡ session_after self.old (event_of self.old (Transfers transfer.now.handle (sent_of transfer.now payload.now)))) }
+        ensures accepted { OnOk result (session_fault self.old (Transfers transfer.now.handle (sent_of transfer.now payload.now)) ≡ None) }
+        ensures news { IfOk result (λ news. news ≡ news_of self.old (Transfers transfer.now.handle (sent_of transfer.now payload.now))) }
+        ensures refused { IfErr result (λ e. IsRefusal self.old (Transfers transfer.now.handle (sent_of transfer.now payload.now)) e) }
+        ensures err { OnErr result (self.new ≡ self.old) }
+    {
+        if self.window == 0 {
+            return Err(SessionFault::WindowViolation);
+        }
+        let place = transfer.handle as usize;
+        if place >= self.table.len() {
+            return Err(SessionFault::UnattachedHandle);
+        }
+        let reused = table::is_reused(&self.table, place, transfer.delivery_id);
+        let news = slots::transfer(&mut self.table[place], reused, transfer, payload)?;
+        self.window -= 1;
+        self.next_incoming_id = self.next_incoming_id.wrapping_add(1);
+        Ok(news)
+    }
+
+    /// Takes a disposition.
+    pub fn disposition(&mut self, disposition: &Disposition<'_>) -> News
+        ensures new { self.new ≡ session_after self.old (event_of self.old (Disposes (disposing disposition.now))) }
+        ensures news { result ≡ news_of self.old (Disposes (disposing disposition.now)) }
+    {
+        let _ = &self.table;
+        if !is_settling(disposition) {
+            return News::Nothing;
+        }
+        let first = disposition.first;
+        let last = disposition.last.unwrap_or(first);
+        settled_news(table::peer_settled(&mut self.table, first, last))
+    }
+
+    /// Takes a detach of the link at a handle.
+    pub fn detached(&mut self, handle: u32) -> Result<PeerDetached, SessionFault>
+        ensures new { OnOk result ((closed : Bool) → self.new ≡ session_after self.old (event_of self.old (Detaches handle closed))) }
+        ensures accepted { OnOk result ((closed : Bool) → session_fault self.old (Detaches handle closed) ≡ None) }
+        ensures dropped { IfOk result (λ detached. detached.dropped ≡ slot_ready (slot_at self.old handle)) }
+        ensures live { IfOk result (λ detached. detached.live ≡ is_live (slot_at self.old handle)) }
+        ensures refused { IfErr result (λ e. (closed : Bool) → IsRefusal self.old (Detaches handle closed) e) }
+        ensures err { OnErr result (self.new ≡ self.old) }
+    {
+        let place = handle as usize;
+        if place >= self.table.len() {
+            return Err(SessionFault::UnattachedHandle);
+        }
+        let detached = slots::detached(&mut self.table[place])?;
+        Ok(detached)
+    }
+
+    /// Widens the window by `n` places.
+    pub fn widen(&mut self, n: u32) -> Result<(), CallFault>
+        ensures new { OnOk result (self.new ≡ session_after self.old (call_event self.old (Widen n))) }
+        ensures accepted { OnOk result (call_fault self.old (Widen n) ≡ None) }
+        ensures refused { IfErr result (λ e. call_fault self.old (Widen n) ≡ Some e) }
+        ensures err { OnErr result (self.new ≡ self.old) }
+    {
+        let window = u64::from(self.window) + u64::from(n);
+        if window >= 1 << 31 {
+            return Err(CallFault::WindowTooWide);
+        }
+        self.window = window as u32;
+        Ok(())
+    }
+
+    /// Grants the link at a handle `n` places of credit, and answers the flow that says so.
+    pub fn grant(&mut self, handle: u32, n: u32) -> Result<Flow<'static>, CallFault>
+        ensures new { OnOk result (self.new ≡ session_after self.old (call_event self.old (Grant handle n))) }
+        ensures accepted { OnOk result (call_fault self.old (Grant handle n) ≡ None) }
+        ensures answer { IfOk result (λ flow. link_flow self.new handle ≡ said (performative.Flow flow) ∷ []) }
+        ensures refused { IfErr result (λ e. call_fault self.old (Grant handle n) ≡ Some e) }
+        ensures err { OnErr result (self.new ≡ self.old) }
+    {
+        let place = handle as usize;
+        if place >= self.table.len() {
+            return Err(CallFault::NoLink);
+        }
+        let stated = slots::grant(&mut self.table[place], n)?;
+        Ok(self.flow_stating(handle, stated))
+    }
+
+    /// Asks the sender on the link at a handle to use its credit up, and answers the flow that says so.
+    pub fn drain(&mut self, handle: u32) -> Result<Flow<'static>, CallFault>
+        ensures new { OnOk result (self.new ≡ session_after self.old (call_event self.old (Drain handle))) }
+        ensures accepted { OnOk result (call_fault self.old (Drain handle) ≡ None) }
+        ensures answer { IfOk result (λ flow. link_flow self.new handle ≡ said (performative.Flow flow) ∷ []) }
+        ensures refused { IfErr result (λ e. call_fault self.old (Drain handle) ≡ Some e) }
+        ensures err { OnErr result (self.new ≡ self.old) }
+    {
+        let place = handle as usize;
+        if place >= self.table.len() {
+            return Err(CallFault::NoLink);
+        }
+        let stated = slots::drain(&mut self.table[place])?;
+        Ok(self.flow_stating(handle, stated))
+    }
+
+    /// Hands up the first ready delivery of the link at a handle.
+    pub fn take(&mut self, handle: u32) -> Result<Taken<A>, CallFault>
+        ensures new { OnOk result (self.new ≡ session_after self.old (call_event self.old (Take handle))) }
+        ensures accepted { OnOk result (call_fault self.old (Take handle) ≡ None) }
+        ensures taken { IfOk result (λ taken. HandsUp (slot_at self.old handle) taken) }
+        ensures refused { IfErr result (λ e. call_fault self.old (Take handle) ≡ Some e) }
+        ensures err { OnErr result (self.new ≡ self.old) }
+    {
+        let place = handle as usize;
+        if place >= self.table.len() {
+            return Err(CallFault::NoLink);
+        }
+        let taken = slots::take(&mut self.table[place])?;
+        Ok(taken)
+    }
+
+    /// Ends the link at a handle, and answers how many ready deliveries are dropped.
+    pub fn detach(&mut self, handle: u32) -> Result<u32, CallFault>
+        ensures new { OnOk result (self.new ≡ session_after self.old (call_event self.old (DetachCall handle))) }
+        ensures accepted { OnOk result (call_fault self.old (DetachCall handle) ≡ None) }
+        ensures dropped { IfOk result (λ dropped. dropped ≡ slot_ready (slot_at self.old handle)) }
+        ensures refused { IfErr result (λ e. call_fault self.old (DetachCall handle) ≡ Some e) }
+        ensures err { OnErr result (self.new ≡ self.old) }
+    {
+        let place = handle as usize;
+        if place >= self.table.len() {
+            return Err(CallFault::NoLink);
+        }
+        let dropped = slots::detach(&mut self.table[place])?;
+        Ok(dropped)
+    }
+
+    /// Settles the delivery with this id, or tells the sender what became of it. Answers whether it is settled.
+    pub fn settle(&mut self, id: u32) -> Result<bool, CallFault>
+        requires { IsApart self.old }
+        ensures new { OnOk result ((outcome : Outcome) → self.new ≡ session_after self.old (call_event self.old (Settle id outcome))) }
+        ensures accepted { OnOk result ((outcome : Outcome) → call_fault self.old (Settle id outcome) ≡ None) }
+        ensures settled { IfOk result (λ settled. settled ≡ settles_at_once (standing_in id self.old.links)) }
+        ensures refused { IfErr result (λ e. (outcome : Outcome) → call_fault self.old (Settle id outcome) ≡ Some e) }
+        ensures err { OnErr result (self.new ≡ self.old) }
+    {
+        let standing = table::standing(&self.table, id);
+        if let Some(fault) = standing_fault(standing) {
+            return Err(fault);
+        }
+        table::settle(&mut self.table, id);
+        Ok(settles_at_once(standing))
+    }
+}
+
+/// Whether a sender attaches without initial-delivery-count.
+fn lacks_count(attach: &Attach<'_>) -> bool
+    ensures { result ≡ not (is_receiver attach.now.role) && is_none attach.now.initial_delivery_count }
+{
+    matches!(attach.role, Role::Sender) && attach.initial_delivery_count.is_none()
+}
+
+/// Whether a disposition is the sender's, and settles.
+fn is_settling(disposition: &Disposition<'_>) -> bool
+    ensures { result ≡ is_settling (disposing disposition.now) }
+{
+    matches!(disposition.role, Role::Sender) && disposition.settled
+}
+
+/// What is told where so many deliveries are settled.
+fn settled_news(count: u32) -> News
+    ensures { result ≡ settled_news count }
+{
+    match count {
+        0 => News::Nothing,
+        _ => News::Settled { count },
+    }
+}
+
+/// Why a delivery that stands so can't be settled.
+fn standing_fault(standing: Standing) -> Option<CallFault>
+    ensures { result ≡ standing_fault standing }
+{
+    match standing {
+        Standing::Absent => Some(CallFault::NoDelivery),
+        Standing::Untaken => Some(CallFault::NotTaken),
+        Standing::Told => Some(CallFault::AlreadyTold),
+        Standing::Awaiting(_) => None,
+    }
+}
+
+/// Whether a delivery that stands so is settled by its receiver alone.
+fn settles_at_once(standing: Standing) -> bool
+    ensures { result ≡ settles_at_once standing }
+{
+    matches!(standing, Standing::Awaiting(ReceiverSettleMode::First))
+}
+
+/// The link that an attach begins.
+fn begun<A: Allocator + Copy>(
+    alloc: A,
+    terms: &SessionTerms,
+    attach: &Attach<'_>,
+) -> Result<KeptLink<A>, AllocError>
+    requires name { length attach.now.name.now ≤ 255 }
+    requires ends { length attach.now.source.now + length attach.now.target.now ≤ 1024 }
+    ensures { IfOk result (λ l. l ≡ live_begins (attached terms.now (attaching attach.now))) }
+{
+    let terms = Terms {
+        initial_delivery_count: attach.initial_delivery_count.unwrap_or(0),
+        rcv_settle_mode: attach.rcv_settle_mode,
+        bounds: terms.bounds,
+    };
+    KeptLink::attach(
+        alloc,
+        attach.name.as_bytes(),
+        attach.source,
+        attach.target,
+        terms,
+    )
+}
+
+#[cfg(test)]
+mod tests;

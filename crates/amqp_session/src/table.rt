@@ -1,0 +1,138 @@
+//! What stands at the handles that were reached.
+ghost use Rattle.std.specs.Prelude.{◌≡◌, ℕ, ◌<◌, ◌≤◌, ◌+◌, ◌*◌, ◌^◌, ◌++◌, [], length, map, sum_by, slice_get, Option, Some, None, OnOk, OnErr, true, false};
+ghost use Rattle.std.specs.List.{list_any};
+ghost use Rattle.amqp_link.specs.Links.{LinkMay, SenderSettled, ReceiverSettled};
+ghost use Rattle.amqp_session.specs.Slots.{at_place, slot_reused, slot_called, padded};
+ghost use Rattle.amqp_session.specs.Faults.{slot_settled, is_free};
+ghost use Rattle.amqp_session.specs.Sessions.{LiveLink, slot_ready, slot_has, slot_bytes};
+ghost use Rattle.amqp_session.specs.Calls.{standing_in};
+
+use crate::kept_link::KeptLink;
+use crate::slot::Slot;
+use crate::slots;
+use amqp_link::Standing;
+use std::alloc::{AllocError, Allocator};
+
+/// Whether an open delivery has the id.
+fn has_open<A: Allocator + Copy>(table: &[Slot<KeptLink<A>>], id: u32) -> bool
+    ensures { result ≡ list_any (slot_has id) table.now }
+{
+    for slot in table {
+        if slots::has_open(slot, id) {
+            return true;
+        }
+    }
+    false
+}
+
+/// Whether nothing stands at a place.
+pub fn is_free<A: Allocator + Copy>(table: &[Slot<KeptLink<A>>], place: usize) -> bool
+    ensures { result ≡ is_free (at_place table.now place) }
+{
+    match table.get(place) {
+        None | Some(Slot::Free) => true,
+        _ => false,
+    }
+}
+
+/// Whether a transfer at the place that states this id begins a delivery under the id of an open one.
+pub fn is_reused<A: Allocator + Copy>(
+    table: &[Slot<KeptLink<A>>],
+    place: usize,
+    id: Option<u32>,
+) -> bool
+    ensures { result ≡ slot_reused table.now id (at_place table.now place) }
+{
+    match (table.get(place), id) {
+        (Some(Slot::Live(kept)), Some(id)) => kept.link().next_is_head() && has_open(table, id),
+        _ => false,
+    }
+}
+
+/// What the open delivery with the id is to its receiver.
+pub fn standing<A: Allocator + Copy>(table: &[Slot<KeptLink<A>>], id: u32) -> Standing
+    ensures { result ≡ standing_in id table.now }
+{
+    for slot in table {
+        match slots::standing(slot, id) {
+            Standing::Absent => {}
+            standing => return standing,
+        }
+    }
+    Standing::Absent
+}
+
+/// The bytes that count as kept.
+pub fn held<A: Allocator + Copy>(table: &[Slot<KeptLink<A>>]) -> u64
+    requires { length table.now ≤ 256 }
+    ensures value { result ≡ sum_by slot_bytes table.now }
+    ensures most { result < 2 ^ 60 }
+{
+    let mut held = 0;
+    for slot in table {
+        held += slots::held(slot);
+    }
+    held
+}
+
+/// How many deliveries are ready.
+pub fn ready<A: Allocator + Copy>(table: &[Slot<KeptLink<A>>]) -> u32
+    requires { length table.now ≤ 256 }
+    ensures { result ≡ sum_by slot_ready table.now }
+{
+    let mut ready = 0;
+    for slot in table {
+        ready += slots::ready(slot);
+    }
+    ready
+}
+
+/// The sender settles the ids from `first` to `last`, whatever links they are on. Answers how many open deliveries
+/// it settles.
+pub fn peer_settled<A: Allocator + Copy>(
+    table: &mut [Slot<KeptLink<A>>],
+    first: u32,
+    last: u32,
+) -> u32
+    requires { length table.old ≤ 256 }
+    ensures new { table.new ≡ map (slot_called (SenderSettled first last)) table.old }
+    ensures count { result ≡ sum_by (slot_settled first last) table.old }
+{
+    let mut count = 0;
+    for slot in table.iter_mut() {
+        count += slots::peer_settled(slot, first, last);
+    }
+    count
+}
+
+/// The receiver settles the delivery with this id, or tells the sender of it.
+pub fn settle<A: Allocator + Copy>(table: &mut [Slot<KeptLink<A>>], id: u32)
+    requires { (place : ℕ) (l : LiveLink) → slice_get table.old place ≡ Some (Slot.Live l) → LinkMay l.link (ReceiverSettled id id) }
+    ensures { table.new ≡ map (slot_called (ReceiverSettled id id)) table.old }
+{
+    for slot in table.iter_mut() {
+        slots::settle(slot, id);
+    }
+}
+
+/// Makes room up to a place, which is then reached.
+pub fn reach<A: Allocator + Copy>(
+    table: &mut Vec<Slot<KeptLink<A>>, A>,
+    place: usize,
+) -> Result<(), AllocError>
+    requires { place < 256 }
+    ensures same { (n : ℕ) → padded n table.new.items ≡ padded n table.old.items }
+    ensures reached { OnOk result (place < length table.new.items) }
+    ensures most { (n : ℕ) → place < n → length table.old.items ≤ n → length table.new.items ≤ n }
+{
+    let reached = table.len();
+    if place < reached {
+        return Ok(());
+    }
+    let more = place + 1 - reached;
+    table.reserve(more)?;
+    for _added in 0..more {
+        table.push_reserved(Slot::Free);
+    }
+    Ok(())
+}

@@ -1,0 +1,17 @@
+//! What a session begins with.
+use amqp_link::LinkBounds;
+
+/// What the begins of both sides fix for as long as the session lives [2.7.2].
+#[derive(Clone, Copy, Debug)]
+pub struct SessionTerms {
+    /// The places of the incoming window at the begin.
+    pub incoming_window: u32,
+    /// The peer's next-outgoing-id at its begin.
+    pub next_outgoing_id: u32,
+    /// The highest handle, the lesser of both sides' handle-max.
+    pub handle_max: u8,
+    /// The peer's max-frame-size [2.7.1].
+    pub max_frame_size: u32,
+    /// What each link may keep.
+    pub bounds: LinkBounds,
+}

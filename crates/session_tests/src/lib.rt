@@ -1,0 +1,14 @@
+//! Tests of `amqp_session` from outside, over the bytes of frames. They stand apart, since a crate is proved again with
+//! its tests. The library itself is empty.
+#![tactic(auto)]
+
+#[cfg(test)]
+mod bench;
+#[cfg(test)]
+mod links;
+#[cfg(test)]
+mod memory;
+#[cfg(test)]
+mod settling;
+#[cfg(test)]
+mod windows;
