@@ -11,6 +11,8 @@ const VERSION: &str = "0.1.0";
 pub enum Order<'a> {
     /// To print the frames of this file.
     Dump { file: &'a str },
+    /// To run the calls of this script.
+    Replay { script: &'a str },
     /// To send this file as one message to the listener at this address.
     Send { address: &'a str, file: &'a str },
 }
@@ -23,6 +25,12 @@ pub fn command_line<'a>(alloc: Global) -> Result<Command<'a>, AllocError> {
     let dump = Command::new(alloc, "dump")
         .about("Prints the frames of a file")
         .arg(file)?;
+    let script = Arg::new(alloc, "SCRIPT")
+        .required(true)
+        .help("Calls, one on each line");
+    let replay = Command::new(alloc, "replay")
+        .about("Runs the calls of a script on a new endpoint, and prints the answers")
+        .arg(script)?;
     let message = Arg::new(alloc, "FILE").required(true).help("The message");
     let address = Arg::new(alloc, "ADDR")
         .long("to")
@@ -38,6 +46,7 @@ pub fn command_line<'a>(alloc: Global) -> Result<Command<'a>, AllocError> {
         .subcommand_required(true)
         .arg_required_else_help(true)
         .subcommand(dump)?
+        .subcommand(replay)?
         .subcommand(send)
 }
 
@@ -47,6 +56,10 @@ pub fn order_of<'a>(matches: &ArgMatches<'a>) -> Option<Order<'a>> {
         let address = send.get_str("ADDR")?;
         let file = send.get_str("FILE")?;
         return Some(Order::Send { address, file });
+    }
+    if let Some(replay) = matches.subcommand_matches("replay") {
+        let script = replay.get_str("SCRIPT")?;
+        return Some(Order::Replay { script });
     }
     let dump = matches.subcommand_matches("dump")?;
     let file = dump.get_str("FILE")?;

@@ -8,6 +8,7 @@ use crate::send::Fate;
 use crate::send_file::{FileFault, send_file};
 use amqp_dump::{DumpFault, dump};
 use amqp_frame::Device;
+use amqp_script::{ScriptFault, replay_script};
 use clap::error::ErrorKind;
 use std::alloc::AllocError;
 use std::net::Net;
@@ -28,6 +29,8 @@ enum Fault {
     NoMemory,
     #[error(transparent)]
     Dump(DumpFault),
+    #[error(transparent)]
+    Script(ScriptFault),
     #[error(transparent)]
     Send(FileFault),
 }
@@ -64,6 +67,7 @@ fn obey<R: Print + Eprint + Env + Files + Net + AllocGlobal>(rt: &R) -> Result<E
     };
     match order_of(&matches) {
         Some(Order::Dump { file }) => dump_file(rt, file),
+        Some(Order::Replay { script }) => replay_file(rt, script),
         Some(Order::Send { address, file }) => send(rt, address, file),
         None => Ok(ExitCode::from(USAGE)),
     }
@@ -108,6 +112,20 @@ fn dump_file<R: Print + Files + AllocGlobal>(rt: &R, path: &str) -> Result<ExitC
         Ok(true) => Ok(ExitCode::SUCCESS),
         Ok(false) => Ok(ExitCode::FAILURE),
         Err(fault) => Err(Fault::Dump(fault)),
+    }
+}
+
+/// Runs a script, with its answers on standard output.
+fn replay_file<R: Print + Files + AllocGlobal>(rt: &R, path: &str) -> Result<ExitCode, Fault> {
+    let file = match fs::open(rt, path) {
+        Ok(file) => file,
+        Err(_) => return Err(Fault::Open),
+    };
+    let mut reader = Device::new(file);
+    let mut writer = Device::new(io::writer(rt));
+    match replay_script(rt.alloc(), &mut reader, &mut writer) {
+        Ok(()) => Ok(ExitCode::SUCCESS),
+        Err(fault) => Err(Fault::Script(fault)),
     }
 }
 

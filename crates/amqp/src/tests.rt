@@ -267,6 +267,46 @@ fn answers_by_status_and_standard_error(rt: HostRuntime) -> Result<(), Fail> {
 }
 
 #[test]
+fn runs_a_script(rt: HostRuntime) -> Result<(), Fail> {
+    let alloc = rt.alloc();
+    let words = ["amqp", "replay", "a.amqp"];
+    let whole = Bytes {
+        bytes: b"config r 512 0 1 4 10 100\nfeed 414d5150\nfinish\n",
+        is_broken: false,
+    };
+    let bad = Bytes {
+        bytes: b"config r 512 0 1 4 10 100\nheld\nfeed 4\n",
+        is_broken: false,
+    };
+    let broken = Bytes {
+        is_broken: true,
+        ..whole
+    };
+    let cases = [
+        (
+            Some(whole),
+            ExitCode::SUCCESS,
+            "used=4 More\nend Inside 4\n",
+            "",
+        ),
+        (Some(bad), ExitCode::FAILURE, "", "fault: line 3\n"),
+        (Some(broken), ExitCode::FAILURE, "", "fault: Read\n"),
+        (None, ExitCode::FAILURE, "", "fault: Open\n"),
+    ];
+    for (file, status, out, err) in cases {
+        let host = host_of(alloc, &words, file);
+        assert!(rt; run(&host) == status);
+        assert_eq!(rt; host.out.into_inner().as_str(), out);
+        assert_eq!(rt; host.err.into_inner().as_str(), err);
+    }
+    let mut host = host_of(alloc, &words, Some(whole));
+    host.is_shut = true;
+    assert!(rt; run(&host) == ExitCode::FAILURE);
+    assert_eq!(rt; host.err.into_inner().as_str(), "fault: Write\n");
+    Ok(())
+}
+
+#[test]
 fn says_that_no_receiver_listens(rt: HostRuntime) -> Result<(), Fail> {
     let words = ["amqp", "send", "--to", "127.0.0.1:5672", "a.amqp"];
     let file = Bytes {
@@ -287,10 +327,11 @@ fn answers_a_command_line(rt: HostRuntime) -> Result<(), Fail> {
     let host = host_of(alloc, &["amqp", "--version"], None);
     assert!(rt; run(&host) == ExitCode::SUCCESS);
     assert_eq!(rt; host.out.into_inner().as_str(), "amqp 0.1.0\n");
-    let lines: [&[&str]; 4] = [
+    let lines: [&[&str]; 5] = [
         &["amqp"],
         &["amqp", "dump"],
         &["amqp", "dump", "a", "b"],
+        &["amqp", "replay"],
         &["amqp", "send", "a"],
     ];
     for words in lines {

@@ -116,7 +116,7 @@ impl Condition {
     }
 
     /// The symbol of the condition; empty for `Other`.
-    fn name(self) -> &'static [u8]
+    pub fn name(self) -> &'static [u8]
         ensures { result.now ≡ name_of self }
     {
         match self {

@@ -1,6 +1,7 @@
 pub mod Places
 pub mod Ids
 pub mod Standings
+pub mod Founds
 pub mod Accepts
 pub mod Padded
 pub mod States

@@ -28,7 +28,7 @@ pub count_cons : (id : ℕ) (d : Delivery) (ds : List Delivery) → count_by (ha
 count_cons id d ds = sum_by-cons (one id) d ds
 
 -- what one place has is no more than the table has
-slot_within : (id : ℕ) (slots : List (Slot LiveLink)) (k : ℕ) (s : Slot LiveLink) → slice_get slots k ≡ Some s → slot_count id s ≤ table_count id slots
+pub slot_within : (id : ℕ) (slots : List (Slot LiveLink)) (k : ℕ) (s : Slot LiveLink) → slice_get slots k ≡ Some s → slot_count id s ≤ table_count id slots
 slot_within id [] k s e = absurd (grind (arith, e))
 slot_within id (t ∷ slots) zero s e =
     let same : slot_count id t ≡ slot_count id s = ap (λ (o : Option (Slot LiveLink)). elim o [ None ↦ 0 | Some u ↦ slot_count id u ]) e in omega (arith, table_cons id t slots, same)

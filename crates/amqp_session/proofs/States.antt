@@ -1,10 +1,10 @@
 -- A session as its parts: what stands at its handles, and what each event makes of the parts.
 use Rattle.std.proofs.Common.{arith, ◌≡◌, ℕ, ◌+◌, ◌-◌, ◌%◌, ◌^◌, ◌<◌, ◌≤◌, subst, Bool, true, false, not, ◌&&◌, List, [], ◌∷◌, length, map, refl, sym, ap, ◌∙◌, Option, Some, None, get_or}
-use Rattle.std.specs.Prelude.{nat_eq, slice_get, slice_set, unwrap_or, sum_by, is_none, IsSomeAnd, if◌then◌else◌}
+use Rattle.std.specs.Prelude.{nat_eq, nat_lt, slice_get, slice_set, unwrap_or, sum_by, is_none, IsSomeAnd, if◌then◌else◌}
 use Rattle.std.specs.List.{list_any}
 use Rattle.std.specs.Option.{option_map_or}
 use Rattle.std.proofs.lemmas.Option.{slice_get-get_or, slice_get_past}
-use Rattle.std.proofs.lemmas.Bool.{ne_eqb, le-ltb}
+use Rattle.std.proofs.lemmas.Bool.{ne_eqb, le-ltb, lt-ltb}
 use Rattle.std.proofs.lemmas.List.{get_or-set_same, length-set}
 use Rattle.amqp_perform.specs.declared.condition.Condition.{Condition}
 use Rattle.amqp_perform.specs.Performatives.{is_receiver}
@@ -24,13 +24,14 @@ use Rattle.amqp_session.specs.declared.terms.SessionTerms.{SessionTerms}
 use Rattle.amqp_session.specs.Places.{Begins, Leaves}
 use Rattle.amqp_perform.specs.Said.{Said}
 use Rattle.amqp_session.specs.Frames.{link_flow_said, Attaching, Flowing, Attaches, Flows, Transfers}
-use Rattle.amqp_session.specs.Sessions.{Attached, LiveLink, live_begins, live_after, SessionState, SessionEvent, handles, happens, is_transfer, one_if, widened_by, stated_by, session_after, slot_at, slot_has, is_open_id, is_reused, IsApart, session_begins}
+use Rattle.amqp_session.specs.Sessions.{Attached, LiveLink, live_begins, live_after, SessionState, SessionEvent, handles, happens, is_transfer, one_if, widened_by, stated_by, session_after, slot_at, slot_has, slot_count, table_count, is_open_id, is_reused, IsApart, session_begins}
 use Rattle.amqp_session.specs.Sessions as event
 use Rattle.amqp_session.specs.Faults.{is_free, handle_fault, session_fault, transfer_fault, attached, attach_event, transfer_event, flow_event, named_event, event_of, came_news, transfer_news, news_of, named_news, flow_news, IsRefusal, slot_may_grow, refusal, attach_fault, or_else, where_so, slot_flow, link_flow, named_fault, attach_news}
-use Rattle.amqp_session.specs.Calls.{Take, call_event, take_event, at_link, standing_in, standing_fault}
-use Rattle.amqp_session.specs.Slots.{padded, session_of, IsReached, is_live, came_fault, slot_reused, at_place, slot_came, slot_came_news, slot_grows, IsSlotRefusal, slot_flowed, slot_called, IsTaken, HandsUp, IsStated, IsFlowTold, stated_of}
+use Rattle.amqp_session.specs.Calls.{Take, call_event, take_event, at_link, slot_standing, standing_in, standing_fault}
+use Rattle.amqp_session.specs.Slots.{padded, session_of, IsReached, is_live, came_fault, slot_reused, at_place, slot_came, slot_came_news, slot_grows, IsSlotRefusal, slot_flowed, slot_called, IsTaken, HandsUp, IsStated, IsFlowTold, IsSettling, stated_of}
 use Rattle.amqp_session.specs.declared.slots.LinkStated.{LinkStated}
-use Rattle.amqp_session.proofs.Standings.{settles_everywhere}
+use Rattle.amqp_session.proofs.Standings.{settles_everywhere, some_stands}
+use Rattle.amqp_session.proofs.Founds.{stands_there, settled_at}
 use Rattle.amqp_session.proofs.Padded.{From, padded_get, padded_any, padded_standing, padded_sum, padded_long, padded_live, padded_none, none_after, begins_at, goes_on_at, leaves_at, gone_at, all_after, put_again}
 
 pub there : (slots : List (Slot LiveLink)) (h : ℕ) (x : Slot LiveLink) → x ≡ get_or slots h x → h < length slots → slice_get slots h ≡ Some x
@@ -261,12 +262,38 @@ module _ (terms : SessionTerms) (w n : ℕ) (slots : List (Slot LiveLink)) (s : 
   pub standing_is : (id : ℕ) (x : Standing) → x ≡ standing_in id slots → standing_in id s.links ≡ x
   standing_is id x e = subst (λ (t : SessionState). standing_in id t.links ≡ x) view (padded_standing id (handles terms) slots reached.reached ∙ sym e)
 
+  -- as many open deliveries have an id as at the places that were reached
+  counts_are : (id : ℕ) → table_count id s.links ≡ table_count id slots
+  counts_are id = subst (λ (t : SessionState). table_count id t.links ≡ table_count id slots) view (padded_sum (slot_count id) (handles terms) slots refl reached.reached)
+
+  -- a settle at the place that has the id is one of all that live
+  pub settled_there : (id k : ℕ) (x new : Slot LiveLink) (y : Standing) → IsApart s → id < 2 ^ 32 → n < 2 ^ 32 → x ≡ get_or slots k x → k < length slots →
+      slot_standing id (at_place slots k) ≡ y → standing_fault y ≡ None → new ≡ slot_called (ReceiverSettled id id) x →
+      session_of terms w n (slice_set slots k new) ≡ session_after s (event.Settled id id)
+  settled_there id k x new y apart short l at low stands none is =
+      let mode = awaits y none in
+      let awaits_it : slot_standing id x ≡ Awaiting mode.0 = ap (slot_standing id) (sym (stands_there slots k x at low)) ∙ stands ∙ mode.1 in
+      let once : table_count id slots ≤ 1 = (let room : one_if (nat_lt id (2 ^ 32)) ≡ 1 = ap one_if (lt-ltb id (2 ^ 32) short) in let most = apart id in omega (arith, most, room, counts_are id)) in
+      settled terms w n slots s view reached id id (slice_set slots k new) l
+      (ap (λ (z : Slot LiveLink). slice_set slots k z) is ∙ settled_at id slots k x short few once (there slots k x at low) (some_stands id x mode.0 awaits_it))
+    where
+      few : (m : ℕ) → 2 ^ 32 ≤ m → table_count m slots ≡ 0
+      few m long =
+          let room : one_if (nat_lt m (2 ^ 32)) ≡ 0 = ap one_if (le-ltb m (2 ^ 32) long) in
+          let most = apart m in omega (arith, most, room, counts_are m)
+
   -- every live link can settle the id
   pub may_settle : (id : ℕ) (x : Standing) → IsApart s → id < 2 ^ 32 → x ≡ standing_in id slots → standing_fault x ≡ None → (place : ℕ) (l : LiveLink) → slice_get slots place ≡ Some (Live l) → LinkMay l.link (ReceiverSettled id id)
   may_settle id x apart short is none place l here =
       let mode = awaits x none in
       settles_everywhere s id mode.0 apart short (standing_is id x is ∙ mode.1) place l
       (subst (λ (t : SessionState). slice_get t.links place ≡ Some (Live l)) view (padded_live (handles terms) slots place l here reached.reached))
+
+  pub slot_settles : (id : ℕ) (x : Standing) → IsApart s → id < 2 ^ 32 → standing_in id slots ≡ x → standing_fault x ≡ None →
+      (k : ℕ) (y : Slot LiveLink) → y ≡ get_or slots k y → k < length slots → IsSettling id y
+  slot_settles id x apart short is none k Free at low = tt
+  slot_settles id x apart short is none k (Live l) at low = may_settle id x apart short (sym is) none k l (there slots k (Live l) at low)
+  slot_settles id x apart short is none k Waits at low = tt
 
   -- sums over what was reached
   pub sum_is : (f : Slot LiveLink → ℕ) → f Free ≡ 0 → sum_by f s.links ≡ sum_by f slots

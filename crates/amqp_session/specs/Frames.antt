@@ -5,7 +5,6 @@ use Rattle.amqp_types.specs.Canonical.{canonical}
 use Rattle.amqp_types.specs.Reading.{Part, value_of}
 use Rattle.amqp_types.specs.Trees.{Tree, Number, Octets}
 use Rattle.amqp_perform.specs.declared.condition.Condition.{Condition}
-use Rattle.amqp_perform.specs.declared.descriptor.Descriptor.{Descriptor}
 use Rattle.amqp_perform.specs.declared.descriptor.Descriptor.TheVariants as of_type
 use Rattle.amqp_perform.specs.declared.modes.Role.{Role}
 use Rattle.amqp_perform.specs.declared.modes.Role.TheVariants as of_role
@@ -19,11 +18,9 @@ use Rattle.amqp_perform.specs.declared.performative.Flow.{Flow}
 use Rattle.amqp_perform.specs.declared.performative.Disposition.{Disposition}
 use Rattle.amqp_perform.specs.Cells.{Cell, Absent, Whole, Bytes, Span}
 use Rattle.amqp_perform.specs.Conditions.{condition_span}
-use Rattle.amqp_perform.specs.Frames.{field_texts, list_frame, written_cells}
 use Rattle.amqp_perform.specs.Outcomes.{outcome_span}
 use Rattle.amqp_perform.specs.Said.{Said}
-use Rattle.amqp_perform.specs.Performatives.{flag, role, sender_mode, receiver_mode, span, type_of}
-use Rattle.amqp_perform.specs.Tables.{fields_of}
+use Rattle.amqp_perform.specs.Performatives.{flag, role, sender_mode, receiver_mode, span}
 use Rattle.amqp_link.specs.Links.{Sent, sent_of}
 
 -- What is read. ---------------------------------------------------------------------------------------------------------

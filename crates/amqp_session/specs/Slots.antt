@@ -6,6 +6,7 @@ use Rattle.amqp_link.specs.declared.transfer.LinkFault.{LinkFault}
 use Rattle.amqp_link.specs.declared.transfer.LinkFault.TheVariants as link_fault
 use Rattle.amqp_link.specs.Bounds.{IsBounded}
 use Rattle.amqp_link.specs.declared.link.Taken.{Taken}
+use Rattle.amqp_link.specs.declared.settlement.Standing.TheVariants.{Absent}
 use Rattle.amqp_link.specs.HandedUps.{IsHandedUp}
 use Rattle.amqp_link.specs.Links.{Sent, LinkState, LinkEvent, Transferred, FlowStated, HandedUp, fault_of, may_grow, is_beyond, first_ready, settle_fault, open_set, open_count}
 use Rattle.amqp_session.specs.declared.fault.SessionFault.{SessionFault}
@@ -16,10 +17,12 @@ use Rattle.amqp_session.specs.declared.slot.Slot.{Slot}
 use Rattle.amqp_session.specs.declared.slot.Slot.TheVariants.{Free, Live, Waits}
 use Rattle.amqp_session.specs.declared.terms.SessionTerms.{SessionTerms}
 use Rattle.amqp_session.specs.declared.slots.LinkStated.{LinkStated}
+use Rattle.amqp_session.specs.declared.table.Found.{Found}
 use Rattle.amqp_session.specs.declared.view.LinkView.{LinkView}
 use Rattle.amqp_session.specs.Places.{slot_map, IfLive}
 use Rattle.amqp_session.specs.Frames.{Flowing}
 use Rattle.amqp_session.specs.Faults.{is_free, came_news, flow_news}
+use Rattle.amqp_session.specs.Calls.{slot_standing, standing_in}
 use Rattle.amqp_session.specs.Sessions.{LiveLink, live_after, SessionState, handles, slot_has}
 
 -- The table. ----------------------------------------------------------------------------------------------------------------
@@ -129,6 +132,11 @@ abbrev pub IsTaken : {A : Type 0} → Slot LiveLink → Slot LiveLink → Taken 
 IsTaken Free new taken = ⊥
 IsTaken (Live l) new taken = IsSomeAnd (first_ready l.link) (λ d. IsHandedUp taken d × (new ≡ Live (live_after l (HandedUp d))))
 IsTaken Waits new taken = ⊥
+
+-- Where an open delivery with this id is looked for: at the place of the first link that has one, if any has. [2.6.12]
+abbrev pub IsFound : ℕ → List (Slot LiveLink) → Option Found → Type 0
+IsFound id slots None = standing_in id slots ≡ Absent
+IsFound id slots (Some found) = (found.place < length slots) × (slot_standing id (at_place slots found.place) ≡ found.standing) × (standing_in id slots ≡ found.standing)
 
 -- the live link there can settle this id
 abbrev pub IsSettling : ℕ → Slot LiveLink → Type 0

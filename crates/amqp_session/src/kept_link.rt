@@ -106,6 +106,13 @@ impl<A: Allocator + Copy> KeptLink<A> {
         self.record.link.sender_count(stated.unwrap_or(known))
     }
 
+    /// Whether credit and open deliveries would be more than the link allows with `n` places of credit more.
+    pub fn lacks_room(&self, n: u32) -> bool
+        ensures { result ≡ nat_lt self.now.link.terms.bounds.allowed (self.now.link.credit + open_count self.now.link + n) }
+    {
+        n > self.record.link.room()
+    }
+
     /// Grants `n` places of credit.
     pub fn grant(&mut self, n: u32) -> Result<(), TooMuchCredit>
         ensures new { OnOk result (self.new ≡ live_after self.old (Granted n)) }
@@ -155,7 +162,7 @@ impl<A: Allocator + Copy> KeptLink<A> {
     /// The bytes that count as kept.
     pub fn held(&self) -> u64
         ensures value { result ≡ slot_bytes (Slot.Live self.now) }
-        ensures most { result < 2 ^ 50 }
+        ensures most { result < 2 ^ 42 }
     {
         let record = &self.record;
         let ends = record.name.len() + record.source.len() + record.target.len();

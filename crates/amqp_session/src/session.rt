@@ -4,6 +4,7 @@ ghost use Rattle.amqp_link.specs.Links.{sent_of};
 ghost use Rattle.amqp_perform.specs.declared.performative.Performative.{Performative};
 ghost use Rattle.amqp_perform.specs.declared.performative.Performative.TheVariants as performative;
 ghost use Rattle.amqp_perform.specs.Frames.{IsWritten};
+ghost use Rattle.amqp_perform.specs.declared.outcome.Outcome.{Outcome};
 ghost use Rattle.amqp_session.specs.Calls.{Widen, Grant, Drain, Take, Settle, Detach as DetachCall, call_fault, call_event, call_answer};
 ghost use Rattle.amqp_session.specs.Faults.{session_fault, event_of, news_of, answer_of, failure_answer, flow_answer, echo_answer, IsRefusal};
 ghost use Rattle.amqp_perform.specs.Said.{said, said_frame};
@@ -79,7 +80,8 @@ impl<A: Allocator + Copy> Session<A> {
     /// The bytes that count as kept: 64 for the session, 128 for each handle in use, and of each live link its
     /// name, source, target, and what its open deliveries hold.
     pub fn held(&self) -> u64
-        ensures { result ≡ session_bytes self.now }
+        ensures value { result ≡ session_bytes self.now }
+        ensures most { result < 2 ^ 52 }
     {
         self.state.held()
     }
@@ -93,7 +95,8 @@ impl<A: Allocator + Copy> Session<A> {
 
     /// How many deliveries are ready to be handed up, on all links.
     pub fn ready(&self) -> u32
-        ensures { result ≡ session_ready self.now }
+        ensures value { result ≡ session_ready self.now }
+        ensures most { result ≤ 2 ^ 18 }
     {
         self.state.ready()
     }
@@ -258,6 +261,35 @@ impl<A: Allocator + Copy> Session<A> {
     {
         let longest = self.state.terms().bounds.max_message_size();
         replies::write_attach_reply(longest, channel, attach, out)
+    }
+
+    /// Why [`Session::widen`] would be refused now; `None` where it would be accepted.
+    pub fn widen_fault(&self, n: u32) -> Option<CallFault>
+        ensures { result ≡ call_fault self.now (Widen n) }
+    {
+        self.state.widen_fault(n)
+    }
+
+    /// Why [`Session::grant`] would be refused now; `None` where it would be accepted.
+    pub fn grant_fault(&self, handle: u32, n: u32) -> Option<CallFault>
+        ensures { result ≡ call_fault self.now (Grant handle n) }
+    {
+        self.state.grant_fault(handle, n)
+    }
+
+    /// Why [`Session::drain`] and [`Session::detach`] would be refused now; `None` where they would be accepted.
+    pub fn link_fault(&self, handle: u32) -> Option<CallFault>
+        ensures drain { result ≡ call_fault self.now (Drain handle) }
+        ensures detach { result ≡ call_fault self.now (DetachCall handle) }
+    {
+        self.state.link_fault(handle)
+    }
+
+    /// Why [`Session::settle`] would be refused now, with any outcome; `None` where it would be accepted.
+    pub fn settle_fault(&self, id: u32) -> Option<CallFault>
+        ensures { (outcome : Outcome) → result ≡ call_fault self.now (Settle id outcome) }
+    {
+        self.state.settle_fault(id)
     }
 
     /// Widens the incoming window by `n` places, and answers the flow that says so [2.5.6]. Refused, with

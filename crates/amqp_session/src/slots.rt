@@ -134,6 +134,26 @@ pub fn flow<A: Allocator + Copy>(
     Ok(Some(fail(slot, handle, Condition::TransferLimitExceeded)))
 }
 
+/// Why a grant of `n` places of credit would be refused.
+pub fn grant_fault<A: Allocator + Copy>(slot: &Slot<KeptLink<A>>, n: u32) -> Option<CallFault>
+    ensures { result ≡ at_link slot.now (λ l. where_so (nat_lt l.terms.bounds.allowed (l.credit + open_count l + n)) CallFault.TooMuchCredit) }
+{
+    match slot {
+        Slot::Live(kept) if kept.lacks_room(n) => Some(CallFault::TooMuchCredit),
+        _ => link_fault(slot),
+    }
+}
+
+/// Why a call that the link there always accepts would be refused.
+pub fn link_fault<A: Allocator + Copy>(slot: &Slot<KeptLink<A>>) -> Option<CallFault>
+    ensures { result ≡ at_link slot.now (λ l. None) }
+{
+    match slot {
+        Slot::Live(_) => None,
+        _ => Some(CallFault::NoLink),
+    }
+}
+
 /// Grants the link `n` places of credit, and answers what a flow then states of it.
 pub fn grant<A: Allocator + Copy>(
     slot: &mut Slot<KeptLink<A>>,
@@ -304,7 +324,7 @@ pub fn view<A: Allocator + Copy>(slot: &Slot<KeptLink<A>>) -> Option<LinkView<'_
 /// The bytes that count as kept.
 pub fn held<A: Allocator + Copy>(slot: &Slot<KeptLink<A>>) -> u64
     ensures value { result ≡ slot_bytes slot.now }
-    ensures most { result < 2 ^ 50 }
+    ensures most { result < 2 ^ 42 }
 {
     match slot {
         Slot::Free => 0,

@@ -96,14 +96,16 @@ impl<A: Allocator + Copy> State<A> {
 
     /// The bytes that count as kept.
     pub fn held(&self) -> u64
-        ensures { result ≡ session_bytes self.now }
+        ensures value { result ≡ session_bytes self.now }
+        ensures most { result < 2 ^ 52 }
     {
         64 + table::held(&self.table)
     }
 
     /// How many deliveries are ready.
     pub fn ready(&self) -> u32
-        ensures { result ≡ session_ready self.now }
+        ensures value { result ≡ session_ready self.now }
+        ensures most { result ≤ 2 ^ 18 }
     {
         table::ready(&self.table)
     }
@@ -289,6 +291,50 @@ impl<A: Allocator + Copy> State<A> {
         Ok(detached)
     }
 
+    /// Why a widening by `n` places would be refused.
+    pub fn widen_fault(&self, n: u32) -> Option<CallFault>
+        ensures { result ≡ call_fault self.now (Widen n) }
+    {
+        if u64::from(self.window) + u64::from(n) >= 1 << 31 {
+            Some(CallFault::WindowTooWide)
+        } else {
+            None
+        }
+    }
+
+    /// Why a grant of `n` places of credit to the link at a handle would be refused.
+    pub fn grant_fault(&self, handle: u32, n: u32) -> Option<CallFault>
+        ensures { result ≡ call_fault self.now (Grant handle n) }
+    {
+        let place = handle as usize;
+        if place >= self.table.len() {
+            return Some(CallFault::NoLink);
+        }
+        slots::grant_fault(&self.table[place], n)
+    }
+
+    /// Why a drain or a detach of the link at a handle would be refused.
+    pub fn link_fault(&self, handle: u32) -> Option<CallFault>
+        ensures drain { result ≡ call_fault self.now (Drain handle) }
+        ensures detach { result ≡ call_fault self.now (DetachCall handle) }
+    {
+        let place = handle as usize;
+        if place >= self.table.len() {
+            return Some(CallFault::NoLink);
+        }
+        slots::link_fault(&self.table[place])
+    }
+
+    /// Why a settle of the delivery with this id would be refused.
+    pub fn settle_fault(&self, id: u32) -> Option<CallFault>
+        ensures { (outcome : Outcome) → result ≡ call_fault self.now (Settle id outcome) }
+    {
+        match table::find(&self.table, id) {
+            Some(found) => standing_fault(found.standing),
+            None => Some(CallFault::NoDelivery),
+        }
+    }
+
     /// Widens the window by `n` places.
     pub fn widen(&mut self, n: u32) -> Result<(), CallFault>
         ensures new { OnOk result (self.new ≡ session_after self.old (call_event self.old (Widen n))) }
@@ -296,11 +342,10 @@ impl<A: Allocator + Copy> State<A> {
         ensures refused { IfErr result (λ e. call_fault self.old (Widen n) ≡ Some e) }
         ensures err { OnErr result (self.new ≡ self.old) }
     {
-        let window = u64::from(self.window) + u64::from(n);
-        if window >= 1 << 31 {
-            return Err(CallFault::WindowTooWide);
+        if let Some(fault) = self.widen_fault(n) {
+            return Err(fault);
         }
-        self.window = window as u32;
+        self.window += n;
         Ok(())
     }
 
@@ -377,12 +422,15 @@ impl<A: Allocator + Copy> State<A> {
         ensures refused { IfErr result (λ e. (outcome : Outcome) → call_fault self.old (Settle id outcome) ≡ Some e) }
         ensures err { OnErr result (self.new ≡ self.old) }
     {
-        let standing = table::standing(&self.table, id);
-        if let Some(fault) = standing_fault(standing) {
+        let found = match table::find(&self.table, id) {
+            Some(found) => found,
+            None => return Err(CallFault::NoDelivery),
+        };
+        if let Some(fault) = standing_fault(found.standing) {
             return Err(fault);
         }
-        table::settle(&mut self.table, id);
-        Ok(settles_at_once(standing))
+        slots::settle(&mut self.table[found.place], id);
+        Ok(settles_at_once(found.standing))
     }
 }
 

@@ -1,17 +1,25 @@
 //! What stands at the handles that were reached.
-ghost use Rattle.std.specs.Prelude.{◌≡◌, ℕ, ◌<◌, ◌≤◌, ◌+◌, ◌*◌, ◌^◌, ◌++◌, [], length, map, sum_by, slice_get, Option, Some, None, OnOk, OnErr, true, false};
+ghost use Rattle.std.specs.Prelude.{◌≡◌, ℕ, ◌<◌, ◌≤◌, ◌+◌, ◌*◌, ◌^◌, ◌++◌, [], length, map, sum_by, Option, Some, None, OnOk, OnErr, true, false};
 ghost use Rattle.std.specs.List.{list_any};
-ghost use Rattle.amqp_link.specs.Links.{LinkMay, SenderSettled, ReceiverSettled};
-ghost use Rattle.amqp_session.specs.Slots.{at_place, slot_reused, slot_called, padded};
+ghost use Rattle.amqp_link.specs.Links.{SenderSettled};
+ghost use Rattle.amqp_session.specs.Slots.{at_place, slot_reused, slot_called, padded, IsFound};
 ghost use Rattle.amqp_session.specs.Faults.{slot_settled, is_free};
-ghost use Rattle.amqp_session.specs.Sessions.{LiveLink, slot_ready, slot_has, slot_bytes};
-ghost use Rattle.amqp_session.specs.Calls.{standing_in};
+ghost use Rattle.amqp_session.specs.Sessions.{slot_ready, slot_has, slot_bytes};
 
 use crate::kept_link::KeptLink;
 use crate::slot::Slot;
 use crate::slots;
 use amqp_link::Standing;
 use std::alloc::{AllocError, Allocator};
+
+/// An open delivery that was looked for.
+#[derive(Clone, Copy)]
+pub struct Found {
+    /// The place of its link.
+    pub place: usize,
+    /// What it is to its receiver.
+    pub standing: Standing,
+}
 
 /// Whether an open delivery has the id.
 fn has_open<A: Allocator + Copy>(table: &[Slot<KeptLink<A>>], id: u32) -> bool
@@ -49,24 +57,25 @@ pub fn is_reused<A: Allocator + Copy>(
     }
 }
 
-/// What the open delivery with the id is to its receiver.
-pub fn standing<A: Allocator + Copy>(table: &[Slot<KeptLink<A>>], id: u32) -> Standing
-    ensures { result ≡ standing_in id table.now }
+/// The place of the link with an open delivery of this id, and what that is to its receiver; `None` where no
+/// link has one.
+pub fn find<A: Allocator + Copy>(table: &[Slot<KeptLink<A>>], id: u32) -> Option<Found>
+    ensures { IsFound id table.now result }
 {
-    for slot in table {
+    for (place, slot) in table.iter().enumerate() {
         match slots::standing(slot, id) {
             Standing::Absent => {}
-            standing => return standing,
+            standing => return Some(Found { place, standing }),
         }
     }
-    Standing::Absent
+    None
 }
 
 /// The bytes that count as kept.
 pub fn held<A: Allocator + Copy>(table: &[Slot<KeptLink<A>>]) -> u64
     requires { length table.now ≤ 256 }
     ensures value { result ≡ sum_by slot_bytes table.now }
-    ensures most { result < 2 ^ 60 }
+    ensures most { result < 2 ^ 51 }
 {
     let mut held = 0;
     for slot in table {
@@ -78,7 +87,8 @@ pub fn held<A: Allocator + Copy>(table: &[Slot<KeptLink<A>>]) -> u64
 /// How many deliveries are ready.
 pub fn ready<A: Allocator + Copy>(table: &[Slot<KeptLink<A>>]) -> u32
     requires { length table.now ≤ 256 }
-    ensures { result ≡ sum_by slot_ready table.now }
+    ensures value { result ≡ sum_by slot_ready table.now }
+    ensures most { result ≤ 2 ^ 18 }
 {
     let mut ready = 0;
     for slot in table {
@@ -103,16 +113,6 @@ pub fn peer_settled<A: Allocator + Copy>(
         count += slots::peer_settled(slot, first, last);
     }
     count
-}
-
-/// The receiver settles the delivery with this id, or tells the sender of it.
-pub fn settle<A: Allocator + Copy>(table: &mut [Slot<KeptLink<A>>], id: u32)
-    requires { (place : ℕ) (l : LiveLink) → slice_get table.old place ≡ Some (Slot.Live l) → LinkMay l.link (ReceiverSettled id id) }
-    ensures { table.new ≡ map (slot_called (ReceiverSettled id id)) table.old }
-{
-    for slot in table.iter_mut() {
-        slots::settle(slot, id);
-    }
 }
 
 /// Makes room up to a place, which is then reached.

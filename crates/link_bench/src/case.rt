@@ -18,9 +18,9 @@ pub enum Open {
 pub enum Way {
     /// A link is granted credit, takes the frames and hands the message up, which its sender has settled.
     Link(Open),
-    /// The receiver settles one of 1,000 deliveries that were handed up, in the middle of them, and the message that
+    /// The receiver settles one of so many deliveries that were handed up, in the middle of them, and the message that
     /// then comes is handed up in its place, not settled.
-    Settle,
+    Settle(u32),
     /// The payloads are copied into a new vector.
     Copy,
 }
@@ -64,12 +64,13 @@ const fn large(name: &'static str, way: Way) -> Case {
 }
 
 /// Every case, in the order in which they are measured.
-pub fn cases() -> [Case; 7] {
+pub fn cases() -> [Case; 8] {
     [
         small("small", Way::Link(Open::No)),
         small("small-1000-ready", Way::Link(Open::Ready)),
         small("small-1000-taken", Way::Link(Open::Taken)),
-        small("settle-1000", Way::Settle),
+        small("settle-1", Way::Settle(1)),
+        small("settle-1000", Way::Settle(1000)),
         large("large", Way::Link(Open::No)),
         small("copy-small", Way::Copy),
         large("copy-large", Way::Copy),

@@ -7,7 +7,7 @@ use amqp_link::{
 use amqp_perform::{ReceiverSettleMode, Transfer};
 use std::alloc::{AllocError, Global};
 
-/// How many deliveries are open before the first one is measured, whose ids are those below it.
+/// How many deliveries are open, if any are, before the first one is measured, whose ids are those below it.
 const OPEN: u32 = 1000;
 
 /// Why a delivery did not come through.
@@ -107,17 +107,31 @@ fn leave(link: &mut Link) -> Result<u64, Stopped> {
 /// A link on which the other deliveries are open, each of one frame.
 pub fn link_with(alloc: Global, open: Open, payload: &[u8]) -> Result<Link, Stopped> {
     let mut link = Link::attach(alloc, terms());
-    let count = match open {
-        Open::No => 0,
-        Open::Ready | Open::Taken => OPEN,
-    };
-    let is_taken = matches!(open, Open::Taken);
-    for id in 0..count {
-        arrive(&mut link, id, !is_taken, 1, payload)?;
-        if is_taken {
-            leave(&mut link)?;
+    match open {
+        Open::No => {}
+        Open::Ready => {
+            for id in 0..OPEN {
+                arrive(&mut link, id, true, 1, payload)?;
+            }
         }
+        Open::Taken => hand_up(&mut link, OPEN, payload)?,
     }
+    Ok(link)
+}
+
+/// So many deliveries come and are handed up, with the ids from 0 on.
+fn hand_up(link: &mut Link, count: u32, payload: &[u8]) -> Result<(), Stopped> {
+    for id in 0..count {
+        arrive(link, id, false, 1, payload)?;
+        leave(link)?;
+    }
+    Ok(())
+}
+
+/// A link on which so many deliveries await settlement.
+pub fn link_awaiting(alloc: Global, count: u32, payload: &[u8]) -> Result<Link, Stopped> {
+    let mut link = Link::attach(alloc, terms());
+    hand_up(&mut link, count, payload)?;
     Ok(link)
 }
 
@@ -128,14 +142,19 @@ pub fn deliver(link: &mut Link, round: u32, frames: u32, payload: &[u8]) -> Resu
     leave(link)
 }
 
-/// Of the deliveries that were handed up the receiver settles the one with as many behind it as before it. Then that
+/// Of so many deliveries that were handed up the receiver settles the one with as many behind it as before it. Then that
 /// of this round comes in one frame, and is handed up to await settlement. Answers how long it was.
-pub fn settle_and_deliver(link: &mut Link, round: u32, payload: &[u8]) -> Result<u64, Stopped> {
-    let settled = (OPEN / 2).wrapping_add(round);
+pub fn settle_and_deliver(
+    link: &mut Link,
+    open: u32,
+    round: u32,
+    payload: &[u8],
+) -> Result<u64, Stopped> {
+    let settled = (open / 2).wrapping_add(round);
     if link.settle(settled, settled)? != 1 {
         return Err(Stopped::NothingSettled);
     }
-    arrive(link, OPEN.wrapping_add(round), false, 1, payload)?;
+    arrive(link, open.wrapping_add(round), false, 1, payload)?;
     leave(link)
 }
 

@@ -1,7 +1,7 @@
 //! Timing, and what is printed of it.
 
 use crate::case::{Case, Open, Way, cases};
-use crate::delivery::{Stopped, copied, deliver, link_with, settle_and_deliver};
+use crate::delivery::{Stopped, copied, deliver, link_awaiting, link_with, settle_and_deliver};
 use bench_order::Order;
 use std::alloc::{AllocError, AllocFailed, Global};
 use std::io;
@@ -73,7 +73,7 @@ fn measure(
     let start = Instant::now(rt)?;
     let moved = match case.way {
         Way::Link(open) => deliver_often(alloc, open, case.frames, rounds, &mut payload)?,
-        Way::Settle => settle_often(alloc, rounds, &mut payload)?,
+        Way::Settle(open) => settle_often(alloc, open, rounds, &mut payload)?,
         Way::Copy => copy_often(alloc, case.frames, rounds, &mut payload)?,
     };
     let nanoseconds = start.elapsed(rt)?.as_nanos();
@@ -112,12 +112,12 @@ fn deliver_often(
 }
 
 /// One delivery settled and one more handed up a round, on one link. Answers how many bytes were handed up.
-fn settle_often(alloc: Global, rounds: u32, payload: &mut [u8]) -> Result<u64, Failure> {
-    let mut link = link_with(alloc, Open::Taken, payload)?;
+fn settle_often(alloc: Global, open: u32, rounds: u32, payload: &mut [u8]) -> Result<u64, Failure> {
+    let mut link = link_awaiting(alloc, open, payload)?;
     let mut moved: u64 = 0;
     for round in 0..rounds {
         change(payload);
-        moved = moved.wrapping_add(settle_and_deliver(&mut link, round, payload)?);
+        moved = moved.wrapping_add(settle_and_deliver(&mut link, open, round, payload)?);
     }
     Ok(moved)
 }

@@ -7,5 +7,5 @@ use Rattle.amqp_session.proofs.table.held.Given as goal
 abbrev pub invariant-loop-slot : goal.invariant-loop-slot
 invariant-loop-slot g l = record {
   sum : l.held ≡ sum_by slot_bytes (take l.slot-index l.table);
-  most : l.held ≤ l.slot-index * 2 ^ 50;
+  most : l.held ≤ l.slot-index * 2 ^ 42;
 }

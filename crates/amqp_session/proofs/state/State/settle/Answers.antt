@@ -1,29 +1,40 @@
-use Rattle.std.proofs.Common.{arith, ◌∙◌, ap, sym}
-use Rattle.std.proofs.Common.{map}
-use Rattle.std.specs.Prelude.{slice_get}
-use Rattle.amqp_link.specs.Links.{ReceiverSettled}
-use Rattle.amqp_session.specs.Calls.{standing_in, settles_at_once}
-use Rattle.amqp_session.specs.Slots.{slot_called, session_of}
-use Rattle.std.proofs.lemmas.List.{with_items_is}
-use Rattle.amqp_session.proofs.States.{may_settle, standing_is, settled}
+use Rattle.std.proofs.Common.{arith, ◌∙◌, ap, sym, length, refl}
+use Rattle.amqp_link.specs.declared.settlement.Standing.TheVariants.{Absent}
+use Rattle.amqp_session.specs.Calls.{slot_standing, standing_in, settles_at_once}
+use Rattle.amqp_session.specs.Slots.{at_place}
+use Rattle.amqp_session.proofs.States.{standing_is, slot_settles, settled_there}
 use Rattle.amqp_session.proofs.state.State.settle.Goals as goal
 
 pub settle-requires : goal.settle-requires
 settle-requires g c =
-    λ place l here. may_settle c.self.inside.terms c.self.inside.window c.self.inside.next_incoming_id c.self.inside.table.items c.args.self.now c.self.view_is c.self.invariant c.args.id c.standing-standing.result c.requires c.ranges.id.fits (c.standing-standing.ensures ∙ ap (standing_in c.args.id) c.deref.ensures.value) (sym c.standing_fault.ensures ∙ c.in_default.is) place l (ap (λ ls. slice_get ls place) (sym c.deref_mut.ensures.value) ∙ here)
+    slot_settles c.self.inside.terms c.self.inside.window c.self.inside.next_incoming_id c.self.inside.table.items c.args.self.now c.self.view_is c.self.invariant
+    c.args.id c.in-Some.found.standing c.requires c.ranges.id.fits (ap (standing_in c.args.id) (sym c.deref.ensures.value) ∙ c.in-Some.ensures.2)
+    (sym c.standing_fault.ensures ∙ c.in_default.is) c.in-Some.found.place c.index_mut.result.now c.index_mut.ensures.value
+    (omega (arith, c.in-Some.ensures.0, ap length c.deref.ensures.value))
 
-pub returns-in-Some-clause-refused : goal.returns-in-Some-clause-refused
-returns-in-Some-clause-refused g c =
-    λ outcome. rw (standing_is c.self.inside.terms c.self.inside.window c.self.inside.next_incoming_id c.self.inside.table.items c.args.self.now c.self.view_is c.self.invariant c.args.id c.standing-standing.result (c.standing-standing.ensures ∙ ap (standing_in c.args.id) c.deref.ensures.value)) (sym c.in-Some.ensures)
+pub returns-in-None-clause-refused : goal.returns-in-None-clause-refused
+returns-in-None-clause-refused g c = λ outcome. rw (standing_is c.self.inside.terms c.self.inside.window c.self.inside.next_incoming_id c.self.inside.table.items
+    c.args.self.now c.self.view_is c.self.invariant c.args.id Absent (sym c.in-None.ensures ∙ ap (standing_in c.args.id) c.deref.ensures.value)) refl
+
+pub returns-in-Some-standing_fault-clause-refused : goal.returns-in-Some-standing_fault-clause-refused
+returns-in-Some-standing_fault-clause-refused g c = λ outcome. rw (standing_is c.self.inside.terms c.self.inside.window c.self.inside.next_incoming_id
+    c.self.inside.table.items c.args.self.now c.self.view_is c.self.invariant c.args.id c.in-Some.found.standing
+    (sym c.in-Some.ensures.2 ∙ ap (standing_in c.args.id) c.deref.ensures.value)) (sym c.in-Some-standing_fault.ensures)
 
 pub returns-clause-new : goal.returns-clause-new
 returns-clause-new g c =
-    λ outcome. ap (session_of c.self.inside.terms c.self.inside.window c.self.inside.next_incoming_id) (with_items_is c.self.inside.table c.settle.new.table (omega (arith, c.settle.auto.table, c.deref_mut.ensures.len))) ∙ settled c.self.inside.terms c.self.inside.window c.self.inside.next_incoming_id c.self.inside.table.items c.args.self.now c.self.view_is c.self.invariant c.args.id c.args.id c.settle.new.table c.self.ranges.1.1.1.0.1 (c.settle.ensures ∙ ap (map (slot_called (ReceiverSettled c.args.id c.args.id))) c.deref_mut.ensures.value)
+    λ outcome. settled_there c.self.inside.terms c.self.inside.window c.self.inside.next_incoming_id c.self.inside.table.items c.args.self.now c.self.view_is
+    c.self.invariant c.args.id c.in-Some.found.place c.index_mut.result.now c.settle.new.slot c.in-Some.found.standing c.requires c.ranges.id.fits
+    c.self.ranges.1.1.1.0.1 c.index_mut.ensures.value (omega (arith, c.in-Some.ensures.0, ap length c.deref.ensures.value))
+    (ap (λ ls. slot_standing c.args.id (at_place ls c.in-Some.found.place)) (sym c.deref.ensures.value) ∙ c.in-Some.ensures.1)
+    (sym c.standing_fault.ensures ∙ c.in_default.is) c.settle.ensures
 
 pub returns-clause-accepted : goal.returns-clause-accepted
-returns-clause-accepted g c =
-    λ outcome. rw (standing_is c.self.inside.terms c.self.inside.window c.self.inside.next_incoming_id c.self.inside.table.items c.args.self.now c.self.view_is c.self.invariant c.args.id c.standing-standing.result (c.standing-standing.ensures ∙ ap (standing_in c.args.id) c.deref.ensures.value)) (sym c.standing_fault.ensures ∙ c.in_default.is)
+returns-clause-accepted g c = λ outcome. rw (standing_is c.self.inside.terms c.self.inside.window c.self.inside.next_incoming_id c.self.inside.table.items
+    c.args.self.now c.self.view_is c.self.invariant c.args.id c.in-Some.found.standing (sym c.in-Some.ensures.2 ∙ ap (standing_in c.args.id) c.deref.ensures.value))
+    (sym c.standing_fault.ensures ∙ c.in_default.is)
 
 pub returns-clause-settled : goal.returns-clause-settled
-returns-clause-settled g c =
-    c.settles_at_once.ensures ∙ ap settles_at_once (sym (standing_is c.self.inside.terms c.self.inside.window c.self.inside.next_incoming_id c.self.inside.table.items c.args.self.now c.self.view_is c.self.invariant c.args.id c.standing-standing.result (c.standing-standing.ensures ∙ ap (standing_in c.args.id) c.deref.ensures.value)))
+returns-clause-settled g c = c.settles_at_once.ensures ∙ ap settles_at_once (sym
+    (standing_is c.self.inside.terms c.self.inside.window c.self.inside.next_incoming_id c.self.inside.table.items c.args.self.now c.self.view_is c.self.invariant
+    c.args.id c.in-Some.found.standing (sym c.in-Some.ensures.2 ∙ ap (standing_in c.args.id) c.deref.ensures.value)))

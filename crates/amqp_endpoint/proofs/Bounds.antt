@@ -1,0 +1,73 @@
+-- What a connection keeps, counted over its history, and how much that is at most.
+use Rattle.std.proofs.Common.{arith, ◌≡◌, ℕ, zero, suc, ◌+◌, ◌*◌, ◌<◌, ◌≤◌, List, ◌∷◌, refl, ap, add-mul}
+use Rattle.std.specs.Prelude.{sum_by}
+use Rattle.std.proofs.lemmas.List.Sums.{sum_by-cons}
+use Rattle.amqp_session.specs.declared.slot.Slot.{Slot}
+use Rattle.amqp_session.specs.declared.slot.Slot.TheVariants.{Free, Live, Waits}
+use Rattle.amqp_session.specs.declared.terms.SessionTerms.{SessionTerms}
+use Rattle.amqp_link.specs.Bounds.{Bounds}
+use Rattle.amqp_session.specs.Histories as session
+use Rattle.amqp_session.specs.Laws as laws
+use Rattle.amqp_session.specs.Places.{Life, IfLive, tabulate, life_state}
+use Rattle.amqp_session.specs.Sessions.{SessionState, SessionEvent, session_bytes}
+use Rattle.amqp_endpoint.specs.Configs.{Configured}
+use Rattle.amqp_endpoint.specs.Connections.{ConnectionEvent, channels, channel_bytes, connection_bytes}
+use Rattle.amqp_endpoint.specs.Held.{channel_used, session_count, channel_links, link_count, link_most, parts, part_bytes}
+use Rattle.amqp_endpoint.specs.Histories.{part, state_of, IsSoundPart, Sound}
+
+-- what the sessions owe
+abbrev pub SessionCounted : Type 0
+SessionCounted = (terms : SessionTerms) (h : List SessionEvent) → session_bytes (session.state_of terms h) ≡ 64 + sum_by laws.part_bytes (laws.parts terms h)
+
+abbrev pub SessionBound : Type 0
+SessionBound = (terms : SessionTerms) (h : List SessionEvent) → session.Sound terms h →
+    session_bytes (session.state_of terms h) ≤ 64 + laws.used_count (session.state_of terms h) * (1407 + terms.bounds.allowed * (terms.bounds.max_message_size + 96))
+
+-- Sums over a table. ----------------------------------------------------------------------------------------------------
+
+sums_same : {S T : Type 0} (p : S → ℕ) (q : T → ℕ) (f : ℕ → S) (g : ℕ → T) → ((k : ℕ) → p (f k) ≡ q (g k)) → (k n : ℕ) → sum_by p (tabulate k n f) ≡ sum_by q (tabulate k n g)
+sums_same p q f g same k zero = refl
+sums_same p q f g same k (suc n) =
+    omega (arith, sum_by-cons p (f k) (tabulate (suc k) n f), sum_by-cons q (g k) (tabulate (suc k) n g), same k, sums_same p q f g same (suc k) n)
+
+-- a sum is at most 64 times another and so many times a third, where each place is
+sum_within : (most : ℕ) (f : ℕ → Slot SessionState) (k n : ℕ) → ((j : ℕ) → j < k + n → channel_bytes (f j) ≤ 64 * channel_used (f j) + channel_links (f j) * most) →
+    sum_by channel_bytes (tabulate k n f) ≤ 64 * sum_by channel_used (tabulate k n f) + sum_by channel_links (tabulate k n f) * most
+sum_within most f k zero each = omega arith
+sum_within most f k (suc n) each =
+    let rest = tabulate (suc k) n f in
+    let here = each k (omega arith) in
+    let later = sum_within most f (suc k) n (λ j l. each j (omega (arith, l))) in
+    let links : sum_by channel_links (f k ∷ rest) * most ≡ (channel_links (f k) + sum_by channel_links rest) * most = ap (λ (n : ℕ). n * most) (sum_by-cons channel_links (f k) rest) in
+    omega (arith, here, later, sum_by-cons channel_bytes (f k) rest, sum_by-cons channel_used (f k) rest, links, add-mul (channel_links (f k)) (sum_by channel_links rest) most)
+
+-- The connection. -------------------------------------------------------------------------------------------------------
+
+one_counted : SessionCounted → (l : Slot (Life SessionTerms SessionEvent)) → channel_bytes (life_state session.state_of l) ≡ part_bytes l
+one_counted law Free = refl
+one_counted law (Live l) = law l.0 l.1
+one_counted law Waits = refl
+
+pub connection_counted : SessionCounted → (config : Configured) (h : List ConnectionEvent) → connection_bytes (state_of config h) ≡ sum_by part_bytes (parts config h)
+connection_counted law config h =
+    sums_same channel_bytes part_bytes (λ k. life_state session.state_of (part k h)) (λ k. part k h) (λ k. one_counted law (part k h)) 0 (channels config)
+
+most_by : Bounds → ℕ
+most_by b = 1407 + b.allowed * (b.max_message_size + 96)
+
+one_within : SessionBound → (config : Configured) (l : Slot (Life SessionTerms SessionEvent)) → IfLive (λ life. IsSoundPart config life.0 life.1) l →
+    channel_bytes (life_state session.state_of l) ≤ 64 * channel_used (life_state session.state_of l) + channel_links (life_state session.state_of l) * link_most config
+unfolding most_by
+one_within law config Free sound = omega arith
+one_within law config (Live l) sound =
+    let links = laws.used_count (session.state_of l.0 l.1) in
+    let bound = law l.0 l.1 sound.session in
+    let same : most_by l.0.bounds ≡ most_by config.bounds = ap most_by sound.begun.bounds in
+    let product : links * most_by l.0.bounds ≡ links * most_by config.bounds = ap (λ (n : ℕ). links * n) same in
+    omega (arith, bound, product)
+one_within law config Waits sound = omega arith
+
+pub connection_within : SessionBound → (config : Configured) (h : List ConnectionEvent) → Sound config h →
+    connection_bytes (state_of config h) ≤ 64 * session_count (state_of config h) + link_count (state_of config h) * link_most config
+connection_within law config h sound =
+    sum_within (link_most config) (λ k. life_state session.state_of (part k h)) 0 (channels config) (λ k l. one_within law config (part k h) (sound.sessions k (omega (arith, l))))

@@ -1,0 +1,13 @@
+pub mod InHand
+pub mod Steps
+pub mod Accepts
+pub mod Bounds
+pub mod Lengths
+pub mod Replies
+pub mod Tables
+pub mod Framing
+pub mod Staying
+pub mod SessionFrames
+pub mod Calling
+pub mod Endpoints
+pub mod Runs

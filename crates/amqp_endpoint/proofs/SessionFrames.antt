@@ -1,0 +1,191 @@
+-- A frame of a session, with its answer and what is told of it.
+use Rattle.std.proofs.Common.{arith, ◌≡◌, ℕ, zero, suc, ◌+◌, ◌≤◌, subst, Bool, true, false, List, [], ◌∷◌, ◌++◌, length, refl, sym, ap, ◌∙◌, Option, Some, None, Result, Ok, Err}
+use Rattle.std.specs.Prelude.{slice_get, slice_set, unwrap_or, if◌then◌else◌}
+use Rattle.amqp_perform.specs.declared.performative.Performative.{Performative}
+use Rattle.amqp_perform.specs.declared.performative.Performative.TheVariants as performative
+use Rattle.amqp_perform.specs.Conditions.{condition_span}
+use Rattle.std.proofs.lemmas.List.{length-append}
+use Rattle.amqp_perform.specs.Said.{Said, said_frame}
+use Rattle.amqp_perform.specs.declared.condition.Condition.{Condition}
+use Rattle.amqp_link.specs.Links.{sent_of}
+use Rattle.amqp_session.specs.declared.news.News.{News}
+use Rattle.amqp_session.specs.declared.done.Answer.{Answer}
+use Rattle.amqp_session.specs.declared.done.Answer.TheVariants as answer
+use Rattle.amqp_session.specs.declared.done.Done.{Done}
+use Rattle.amqp_session.specs.declared.fault.SessionFault.{SessionFault}
+use Rattle.amqp_session.specs.declared.fault.SessionFault.TheVariants as fault
+use Rattle.amqp_session.specs.declared.slot.Slot.{Slot}
+use Rattle.amqp_session.specs.declared.slot.Slot.TheVariants.{Free, Live, Waits}
+use Rattle.amqp_session.specs.Answers.{answer_said}
+use Rattle.amqp_session.specs.Faults.{session_fault, event_of, answer_of, frame_may_grow, session_condition, IsRefusal}
+use Rattle.amqp_session.specs.Frames.{Frame, Attaches, Flows, Transfers, Disposes, Detaches, frame_of, attaching, flowing, disposing}
+use Rattle.amqp_session.specs.Sessions.{SessionState, SessionEvent, session_after}
+use Rattle.amqp_endpoint.specs.declared.event.Event.{Event}
+use Rattle.amqp_endpoint.specs.declared.event.Event.TheVariants as told
+use Rattle.amqp_endpoint.specs.declared.event.Scope.TheVariants as scope
+use Rattle.amqp_endpoint.specs.Acting.{IsDone, IsWithout, IsLive, IsForSession, FrameDone, IsFramed, IsUnframed, is_beyond, replied, ending}
+use Rattle.amqp_endpoint.specs.Connections as event
+use Rattle.amqp_endpoint.specs.Connections.{ConnectionState, connection_after, slot_at, channel_ready}
+use Rattle.amqp_endpoint.specs.Lines as line
+use Rattle.amqp_endpoint.specs.Lines.{Line, attach_too_high, by_fault, session_line, news_told, may_grow_on}
+use Rattle.amqp_endpoint.specs.Replies.{joined, on_channel, end_said}
+use Rattle.amqp_endpoint.proofs.Replies.{SaidLong, channel_long, answer_long}
+use Rattle.amqp_endpoint.proofs.Tables.{Table, goes_on_at}
+
+-- What is at hand. ------------------------------------------------------------------------------------------------------
+
+pub live_there : (x : Slot SessionState) → IsLive x → (t : SessionState) × (x ≡ Live t)
+live_there Free l = absurd l
+live_there (Live t) l = (t, refl)
+live_there Waits l = absurd l
+
+pub frame_there : (o : Option Frame) → IsForSession o → (f : Frame) × (o ≡ Some f)
+frame_there None l = absurd l
+frame_there (Some f) l = (f, refl)
+
+-- by the result
+pub framed_as : (s new : ConnectionState) (channel : ℕ) (t : SessionState) (f : Frame) (r : Result Done SessionFault) (d : Done) → r ≡ Ok d → FrameDone s new channel t f r →
+    IsFramed s new channel t f d
+framed_as s new channel t f r d is done = subst (λ (r : Result Done SessionFault). FrameDone s new channel t f r) is done
+
+pub unframed_as : (s new : ConnectionState) (channel : ℕ) (t : SessionState) (f : Frame) (r : Result Done SessionFault) (e : SessionFault) → r ≡ Err e → FrameDone s new channel t f r →
+    IsUnframed s new t f e
+unframed_as s new channel t f r e is done = subst (λ (r : Result Done SessionFault). FrameDone s new channel t f r) is done
+
+same_frame : (f g : Frame) → Some f ≡ Some g → f ≡ g
+same_frame f g e = cc
+
+-- an attach is too high where its frame is
+beyond_is : (p : Performative) (payload : List ℕ) (t : SessionState) (f : Frame) → frame_of p payload ≡ Some f → is_beyond (Live t) p ≡ attach_too_high t f
+beyond_is (performative.Open p) payload t f e = absurd (grind (arith, e))
+beyond_is (performative.Begin p) payload t f e = absurd (grind (arith, e))
+beyond_is (performative.Attach p) payload t f e = ap (λ (g : Frame). attach_too_high t g) (same_frame (Attaches (attaching p)) f e)
+beyond_is (performative.Flow p) payload t f e = ap (λ (g : Frame). attach_too_high t g) (same_frame (Flows (flowing p)) f e)
+beyond_is (performative.Transfer p) payload t f e = ap (λ (g : Frame). attach_too_high t g) (same_frame (Transfers p.handle (sent_of p payload)) f e)
+beyond_is (performative.Disposition p) payload t f e = ap (λ (g : Frame). attach_too_high t g) (same_frame (Disposes (disposing p)) f e)
+beyond_is (performative.Detach p) payload t f e = ap (λ (g : Frame). attach_too_high t g) (same_frame (Detaches p.handle p.closed) f e)
+beyond_is (performative.End p) payload t f e = absurd (grind (arith, e))
+beyond_is (performative.Close p) payload t f e = absurd (grind (arith, e))
+
+-- what is written for an answer is what it says of the frame
+replied_is : (p : Performative) (payload : List ℕ) (t : SessionState) (f : Frame) (x : Answer) → frame_of p payload ≡ Some f → replied (Live t) p x ≡ answer_said t.terms f x
+replied_is (performative.Open p) payload t f x e = absurd (grind (arith, e))
+replied_is (performative.Begin p) payload t f x e = absurd (grind (arith, e))
+replied_is (performative.Attach p) payload t f x e = by_answer x ∙ ap (λ (g : Frame). answer_said t.terms g x) (same_frame (Attaches (attaching p)) f e)
+  where
+    by_answer : (x : Answer) → replied (Live t) (performative.Attach p) x ≡ answer_said t.terms (Attaches (attaching p)) x
+    by_answer answer.Nothing = refl
+    by_answer (answer.Flow q) = refl
+    by_answer (answer.Detach q) = refl
+    by_answer answer.Attach = refl
+    by_answer (answer.Refusal q) = refl
+replied_is (performative.Flow p) payload t f x e = ap (λ (g : Frame). answer_said t.terms g x) (same_frame (Flows (flowing p)) f e)
+replied_is (performative.Transfer p) payload t f x e = ap (λ (g : Frame). answer_said t.terms g x) (same_frame (Transfers p.handle (sent_of p payload)) f e)
+replied_is (performative.Disposition p) payload t f x e = ap (λ (g : Frame). answer_said t.terms g x) (same_frame (Disposes (disposing p)) f e)
+replied_is (performative.Detach p) payload t f x e = ap (λ (g : Frame). answer_said t.terms g x) (same_frame (Detaches p.handle p.closed) f e)
+replied_is (performative.End p) payload t f x e = absurd (grind (arith, e))
+replied_is (performative.Close p) payload t f x e = absurd (grind (arith, e))
+
+-- where two frames fit, the second fits behind the first
+pub both_fit : (before out : List ℕ) (channel : ℕ) (xs : List Said) (x y : Said) → length before + 2560 ≤ 8192 → length (joined (on_channel channel xs)) ≤ 2560 → xs ≡ x ∷ y ∷ [] →
+    out ≡ before ++ said_frame channel x [] → length out + length (said_frame channel y []) ≤ 8192
+both_fit before out channel xs x y room short two first =
+    let all = subst (λ (xs : List Said). length (joined (on_channel channel xs)) ≤ 2560) two short in
+    let one = said_frame channel x [] in
+    let other = said_frame channel y [] in
+    let long : length out ≡ length (before ++ one) = ap length first in
+    omega (arith, room, all, long, length-append before one, length-append one (other ++ []), length-append other [])
+
+-- The session after its frame. ------------------------------------------------------------------------------------------
+
+set_there : (slots : Table) (i : ℕ) (x y : Slot SessionState) → slice_get slots i ≡ Some x → slice_get (slice_set slots i y) i ≡ Some y
+set_there [] i x y e = absurd (grind (arith, e))
+set_there (s ∷ slots) zero x y e = refl
+set_there (s ∷ slots) (suc i) x y e = set_there slots i x y e
+
+present : (o : Option (Slot SessionState)) (t : SessionState) → unwrap_or o Free ≡ Live t → o ≡ Some (Live t)
+present None t e = absurd (grind (arith, e))
+present (Some x) t e = ap (λ (y : Slot SessionState). Some y) e
+
+slot_framed : (s : ConnectionState) (channel : ℕ) (t : SessionState) (e : SessionEvent) → slot_at s channel ≡ Live t →
+    slot_at (connection_after s (event.InSession channel e)) channel ≡ Live (session_after t e)
+slot_framed s channel t e live =
+    let at = present (slice_get s.sessions channel) t live in
+    ap (λ (slots : Table). unwrap_or (slice_get slots channel) Free) (goes_on_at s.sessions channel e t at)
+    ∙ ap (λ (o : Option (Slot SessionState)). unwrap_or o Free) (set_there s.sessions channel (Live t) (Live (session_after t e)) at)
+
+-- What becomes of it. ---------------------------------------------------------------------------------------------------
+
+refusal_is : (t : SessionState) (f : Frame) (e : SessionFault) (c : Condition) → ending e ≡ Some c → IsRefusal t f e → session_fault t f ≡ Some e
+refusal_is t f fault.WindowViolation c ends r = r
+refusal_is t f fault.HandleInUse c ends r = r
+refusal_is t f fault.UnattachedHandle c ends r = r
+refusal_is t f fault.ResourceLimit c ends r = r
+refusal_is t f fault.InvalidField c ends r = r
+refusal_is t f fault.NoMemory c ends r = absurd (grind (arith, ends))
+
+condition_is : (e : SessionFault) (c : Condition) → ending e ≡ Some c → c ≡ session_condition e
+condition_is fault.WindowViolation c ends = grind (arith, ends)
+condition_is fault.HandleInUse c ends = grind (arith, ends)
+condition_is fault.UnattachedHandle c ends = grind (arith, ends)
+condition_is fault.ResourceLimit c ends = grind (arith, ends)
+condition_is fault.InvalidField c ends = grind (arith, ends)
+condition_is fault.NoMemory c ends = absurd (grind (arith, ends))
+
+want_is : (t : SessionState) (f : Frame) (e : SessionFault) → ending e ≡ None → IsRefusal t f e → (session_fault t f ≡ None) × (frame_may_grow t f ≡ true)
+want_is t f fault.NoMemory ends r = r
+want_is t f fault.WindowViolation ends r = absurd (grind (arith, ends))
+want_is t f fault.HandleInUse ends r = absurd (grind (arith, ends))
+want_is t f fault.UnattachedHandle ends r = absurd (grind (arith, ends))
+want_is t f fault.ResourceLimit ends r = absurd (grind (arith, ends))
+want_is t f fault.InvalidField ends r = absurd (grind (arith, ends))
+
+module _ (s new : ConnectionState) (channel : ℕ) (p : Performative) (payload : List ℕ) (t : SessionState) (f : Frame) (live : slot_at s channel ≡ Live t) (is : frame_of p payload ≡ Some f) where
+  line_is : (o : Option SessionFault) → false ≡ is_beyond (slot_at s channel) p → session_fault t f ≡ o → session_line channel t f ≡ by_fault channel t f o
+  line_is o low e =
+      let not_high : attach_too_high t f ≡ false = sym (beyond_is p payload t f is) ∙ sym (ap (λ (x : Slot SessionState). is_beyond x p) live) ∙ sym low in
+      ap (λ (b : Bool). if b then line.HandleTooHigh else by_fault channel t f (session_fault t f)) not_high ∙ ap (λ (o : Option SessionFault). by_fault channel t f o) e
+
+  answer_is : (d : Done) → IsFramed s new channel t f d → replied (slot_at new channel) p d.answer ≡ answer_of t f
+  answer_is d framed =
+      ap (λ (c : ConnectionState). replied (slot_at c channel) p d.answer) framed.after
+      ∙ ap (λ (x : Slot SessionState). replied x p d.answer) (slot_framed s channel t (event_of t f) live)
+      ∙ replied_is p payload (session_after t (event_of t f)) f d.answer is ∙ sym framed.answer
+
+  pub answer_fits : SaidLong → (d : Done) → IsFramed s new channel t f d → length (joined (on_channel channel (replied (slot_at new channel) p d.answer))) ≤ 2560
+  answer_fits law d framed =
+      let m = channel_long law channel (answer_of t f) in
+      let short : length (joined (on_channel channel (answer_of t f))) ≤ 2560 = omega (arith, m, answer_long t f framed.accepted) in
+      subst (λ (xs : List Said). length (joined (on_channel channel xs)) ≤ 2560) (sym (answer_is d framed)) short
+
+  -- it is taken
+  pub taken : false ≡ is_beyond (slot_at s channel) p → (d : Done) → IsFramed s new channel t f d → (before after : List ℕ) (news : Option Event) →
+      after ≡ before ++ joined (on_channel channel (replied (slot_at new channel) p d.answer)) → news ≡ news_told channel d.news → IsDone s new before after (session_line channel t f) news
+  taken low d framed before after news written tells =
+      subst (λ (l : Line). IsDone s new before after l news) (sym (line_is None low framed.accepted)) (record {
+        connection = framed.after;
+        unsent = written ∙ ap (λ (xs : List Said). before ++ joined (on_channel channel xs)) (answer_is d framed);
+        told = tells ∙ ap (λ (n : News). news_told channel n) framed.news;
+      })
+
+  -- memory is refused
+  pub unmet : false ≡ is_beyond (slot_at s channel) p → (e : SessionFault) → ending e ≡ None → IsUnframed s new t f e → (before : List ℕ) →
+      IsWithout s new before before (session_line channel t f)
+  unmet low e ends unframed before =
+      let wanted = want_is t f e ends unframed.refused in
+      subst (λ (l : Line). IsWithout s new before before l) (sym (line_is None low wanted.0)) (record { connection = unframed.same; unsent = refl; wants = wanted.1 })
+
+  -- it ends the session
+  pub broken : false ≡ is_beyond (slot_at s channel) p → (e : SessionFault) (c : Condition) → ending e ≡ Some c → IsUnframed s new t f e → (last : ConnectionState)
+      (before after : List ℕ) (x : Event) →
+      last ≡ connection_after new (event.SessionFailed channel) → after ≡ before ++ joined (on_channel channel (end_said (condition_span c) ∷ [])) →
+      x ≡ told.Failed (scope.Session channel) c (channel_ready (slot_at new channel)) → IsDone s last before after (session_line channel t f) (Some x)
+  broken low e c ends unframed last before after x ended written tells =
+      let why = condition_is e c ends in
+      subst (λ (l : Line). IsDone s last before after l (Some x)) (sym (line_is (Some e) low (refusal_is t f e c ends unframed.refused))) (record {
+        connection = ended ∙ ap (λ (x : ConnectionState). connection_after x (event.SessionFailed channel)) unframed.same;
+        unsent = written ∙ ap (λ (c : Condition). before ++ joined (on_channel channel (end_said (condition_span c) ∷ []))) why;
+        told = ap (λ (e : Event). Some e)
+            (tells ∙ ap (λ (x : ConnectionState). told.Failed (scope.Session channel) c (channel_ready (slot_at x channel))) unframed.same
+            ∙ ap (λ (c : Condition). told.Failed (scope.Session channel) c (channel_ready (slot_at s channel))) why);
+      })

@@ -1,0 +1,11 @@
+use Rattle.std.proofs.Common.{arith, suc, ◌+◌, ◌≡◌, ◌∙◌, ap}
+use Rattle.amqp_session.specs.Places.{tabulate}
+use Rattle.amqp_session.specs.declared.slot.Slot.TheVariants.{Free}
+use Rattle.amqp_endpoint.proofs.Tables.{free_placed}
+use Rattle.amqp_endpoint.proofs.connection.Connection.new.Goals as goal
+
+pub invariant_of-result : goal.invariant_of-result
+invariant_of-result g c =
+    let n = c.channel_max.result + 1 in
+    let count : n ≡ suc c.args.config.channel_max = omega (arith, c.channel_max.ensures.value) in
+    free_placed c.args.config c.in_ok-places.places.items (omega (arith, c.channel_max.ensures.most, c.channel_max.ensures.value)) (c.in_ok-places.ensures ∙ ap (λ n. tabulate 0 n (λ k. Free)) count)

@@ -1,0 +1,43 @@
+use Rattle.std.proofs.Common.{◌≤◌, subst, sym}
+use Rattle.amqp_session.specs.Frames.{frame_of}
+use Rattle.amqp_endpoint.specs.Connections.{ConnectionState, slot_at}
+use Rattle.amqp_endpoint.proofs.SessionFrames.{live_there, frame_there, framed_as, unframed_as, answer_fits, taken, unmet, broken}
+use Rattle.amqp_endpoint.proofs.sessions.frame.Goals as goal
+
+pub answer-requires-clause-channel : goal.answer-requires-clause-channel
+answer-requires-clause-channel g c =
+    let old = c.args.connection.now in
+    let t = live_there (slot_at old c.args.channel) c.requires.live in
+    let f = frame_there (frame_of c.args.performative.now c.args.payload.now) c.requires.session in
+    let framed = framed_as old c.frame.new.self c.args.channel t.0 f.0 c.frame.result c.in-Ok.done c.in-Ok.is (c.frame.ensures t.0 f.0 t.1 f.1) in
+    subst (λ (s : ConnectionState). c.args.channel ≤ s.config.channel_max) (sym framed.after) c.requires.channel
+
+pub answer-requires-clause-short : goal.answer-requires-clause-short
+answer-requires-clause-short g c =
+    let old = c.args.connection.now in
+    let t = live_there (slot_at old c.args.channel) c.requires.live in
+    let f = frame_there (frame_of c.args.performative.now c.args.payload.now) c.requires.session in
+    let framed = framed_as old c.frame.new.self c.args.channel t.0 f.0 c.frame.result c.in-Ok.done c.in-Ok.is (c.frame.ensures t.0 f.0 t.1 f.1) in
+    answer_fits old c.frame.new.self c.args.channel c.args.performative.now c.args.payload.now t.0 f.0 t.1 f.1 c.frames_are_as_long.ensures c.in-Ok.done framed
+
+pub returns-in-Ok : goal.returns-in-Ok
+returns-in-Ok g c = λ t f live is.
+    let old = c.args.connection.now in
+    let framed = framed_as old c.frame.new.self c.args.channel t f c.frame.result c.in-Ok.done c.in-Ok.is (c.frame.ensures t f live is) in
+    taken old c.frame.new.self c.args.channel c.args.performative.now c.args.payload.now t f live is c.if-is_too_high.ensures c.in-Ok.done framed
+    c.args.out.now c.answer.new.out c.told.result c.answer.ensures c.told.ensures
+
+pub returns-in-None : goal.returns-in-None
+returns-in-None g c = λ t f live is.
+    let old = c.args.connection.now in
+    let unframed = unframed_as old c.frame.new.self c.args.channel t f c.frame.result c.in-Err.fault c.in-Err.is (c.frame.ensures t f live is) in
+    unmet old c.frame.new.self c.args.channel c.args.performative.now c.args.payload.now t f live is c.if-is_too_high.ensures c.in-Err.fault (sym c.in-None.ensures)
+    unframed c.args.out.now
+
+pub returns-in-Some : goal.returns-in-Some
+returns-in-Some g c = λ t f live is.
+    let old = c.args.connection.now in
+    let unframed = unframed_as old c.frame.new.self c.args.channel t f c.frame.result c.in-Err.fault c.in-Err.is (c.frame.ensures t f live is) in
+    broken old c.frame.new.self c.args.channel c.args.performative.now c.args.payload.now t f live is c.if-is_too_high.ensures c.in-Err.fault c.in-Some.condition
+    (sym c.in-Some.ensures) unframed c.fail-in-Some.new.connection c.args.out.now c.fail-in-Some.new.out c.fail-in-Some.result
+    c.fail-in-Some.ensures.connection c.fail-in-Some.ensures.unsent c.fail-in-Some.ensures.told

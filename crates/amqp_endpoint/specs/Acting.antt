@@ -1,0 +1,105 @@
+-- What becomes of a unit that is acted upon, line by line.
+use Rattle.std.specs.Prelude.{◌≡◌, ℕ, Bool, true, false, nat_lt, List, [], ◌∷◌, ◌++◌, Option, Some, None, Result, Ok, Err}
+use Rattle.amqp_perform.specs.declared.condition.Condition.{Condition}
+use Rattle.amqp_perform.specs.declared.performative.Performative.{Performative}
+use Rattle.amqp_perform.specs.declared.performative.Performative.TheVariants as performative
+use Rattle.amqp_perform.specs.Said.{Said, said}
+use Rattle.amqp_session.specs.declared.done.Answer.{Answer}
+use Rattle.amqp_session.specs.declared.done.Answer.TheVariants as answer
+use Rattle.amqp_session.specs.declared.done.Done.{Done}
+use Rattle.amqp_session.specs.declared.fault.SessionFault.{SessionFault}
+use Rattle.amqp_session.specs.declared.fault.SessionFault.TheVariants as fault
+use Rattle.amqp_session.specs.declared.slot.Slot.{Slot}
+use Rattle.amqp_session.specs.declared.slot.Slot.TheVariants.{Free, Live, Waits}
+use Rattle.amqp_session.specs.Answers as session
+use Rattle.amqp_session.specs.Answers.{said_by, answer_said, IsWithin, IsFrameRefusal}
+use Rattle.amqp_session.specs.Faults.{session_fault, session_condition, event_of, news_of, answer_of, IsRefusal}
+use Rattle.amqp_session.specs.Frames.{Attaching, Frame, attaching, attach_said, refusal_said}
+use Rattle.amqp_session.specs.Sessions.{SessionState}
+use Rattle.amqp_endpoint.specs.Connections.{InSession}
+use Rattle.amqp_endpoint.specs.declared.event.Event.{Event}
+use Rattle.amqp_endpoint.specs.Connections.{ConnectionState, connection_after}
+use Rattle.amqp_endpoint.specs.Lines.{Line, event_on, told_on, may_grow_on}
+use Rattle.amqp_endpoint.specs.Replies.{reply_on}
+
+-- the connection, its output and what is told are those of this line
+pub record IsDone (old new : ConnectionState) (before after : List ℕ) (line : Line) (event : Option Event) : Type 0 where
+  pub connection : new ≡ connection_after old (event_on old line)
+  pub unsent : after ≡ before ++ reply_on old line
+  pub told : event ≡ told_on old line
+
+-- memory was refused where this line may want it, and nothing has changed
+pub record IsWithout (old new : ConnectionState) (before after : List ℕ) (line : Line) : Type 0 where
+  pub connection : new ≡ old
+  pub unsent : after ≡ before
+  pub wants : may_grow_on line ≡ true
+
+abbrev pub HasDone : {E : Type 0} → ConnectionState → ConnectionState → List ℕ → List ℕ → Line → Result (Option Event) E → Type 0
+HasDone old new before after line (Ok told) = IsDone old new before after line told
+HasDone old new before after line (Err e) = IsWithout old new before after line
+
+-- Frames of sessions. -------------------------------------------------------------------------------------------------
+
+-- the session there may be given the performative
+abbrev pub TakesIn : Slot SessionState → Performative → Type 0
+TakesIn Free p = ⊥
+TakesIn (Live s) p = IsWithin s.terms.handle_max p
+TakesIn Waits p = ⊥
+
+-- a session lives there
+abbrev pub IsLive : Slot SessionState → Type 0
+IsLive Free = ⊥
+IsLive (Live s) = Unit {0}
+IsLive Waits = ⊥
+
+-- the performative is for a session
+abbrev pub IsForSession : Option Frame → Type 0
+IsForSession None = ⊥
+IsForSession (Some f) = Unit {0}
+
+-- what its frame leaves there, and is answered by
+abbrev pub PlaceDone : Slot SessionState → Slot SessionState → Option Frame → Result Done SessionFault → Type 0
+PlaceDone (Live old) (Live new) f (Ok done) = session.HasDone old new f done
+PlaceDone (Live old) (Live new) f (Err e) = IsFrameRefusal old f e × (new ≡ old)
+PlaceDone _ _ f result = ⊥
+
+-- an attach's handle is above the session's highest
+abbrev pub is_beyond : Slot SessionState → Performative → Bool
+is_beyond (Live s) (performative.Attach p) = nat_lt s.terms.handle_max p.handle
+is_beyond _ p = false
+
+-- What is written for the answer to a performative that the session there has taken: an attach that is accepted is answered by an attach, one that is refused by an attach and a detach. [2.6.3]
+abbrev pub attach_replied : Slot SessionState → Attaching → List Said
+attach_replied Free a = []
+attach_replied (Live s) a = attach_said s.terms.bounds.max_message_size a ∷ []
+attach_replied Waits a = []
+
+abbrev pub attach_answered : Slot SessionState → Attaching → Answer → List Said
+attach_answered slot a answer.Attach = attach_replied slot a
+attach_answered slot a (answer.Refusal d) = refusal_said a ∷ said (performative.Detach d) ∷ []
+attach_answered slot a x = said_by x
+
+abbrev pub replied : Slot SessionState → Performative → Answer → List Said
+replied slot (performative.Attach p) x = attach_answered slot (attaching p) x
+replied slot p x = said_by x
+
+-- the condition with which a session ends that refuses a frame; none where it was refused memory, which ends nothing
+abbrev pub ending : SessionFault → Option Condition
+ending fault.NoMemory = None
+ending e = Some (session_condition e)
+
+-- the session on a channel took a frame
+pub record IsFramed (old new : ConnectionState) (channel : ℕ) (s : SessionState) (f : Frame) (done : Done) : Type 0 where
+  pub accepted : session_fault s f ≡ None
+  pub after : new ≡ connection_after old (InSession channel (event_of s f))
+  pub news : done.news ≡ news_of s f
+  pub answer : answer_of s f ≡ answer_said s.terms f done.answer
+
+-- or refused it, and nothing has changed
+pub record IsUnframed (old new : ConnectionState) (s : SessionState) (f : Frame) (e : SessionFault) : Type 0 where
+  pub refused : IsRefusal s f e
+  pub same : new ≡ old
+
+abbrev pub FrameDone : ConnectionState → ConnectionState → ℕ → SessionState → Frame → Result Done SessionFault → Type 0
+FrameDone old new channel s f (Ok done) = IsFramed old new channel s f done
+FrameDone old new channel s f (Err e) = IsUnframed old new s f e

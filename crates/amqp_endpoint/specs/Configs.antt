@@ -1,0 +1,26 @@
+-- What an endpoint is set up with, and within which ranges.
+use Rattle.std.specs.Prelude.{ℕ, ◌^◌, ◌<◌, ◌≤◌, List, length}
+use Rattle.amqp_link.specs.Bounds.{Bounds, IsBounded}
+
+pub record Configured : Type 0 where
+  pub container_id : List ℕ  -- the container-id of this side, in UTF-8 [2.7.1]
+  pub max_frame : ℕ  -- the longest frame that is accepted, in bytes
+  pub channel_max : ℕ  -- the highest channel that is offered
+  pub handle_max : ℕ  -- the highest handle that is offered [2.7.2]
+  pub bounds : Bounds  -- what each link may keep
+  pub window : ℕ  -- the places of a session's incoming window at its begin [2.5.6]
+
+-- the ranges that are not those of a type
+pub record IsConfigured (container_id : List ℕ) (max_frame window : ℕ) : Type 0 where
+  pub some_name : 1 ≤ length container_id
+  pub most_name : length container_id ≤ 255
+  pub some_frame : 512 ≤ max_frame
+  pub most_frame : max_frame ≤ 1048576
+  pub most_window : window < 2 ^ 31
+
+-- what can be asked for
+pub record IsAsked (container_id : List ℕ) (max_frame channel_max handle_max allowed max_message window : ℕ) : Type 0 where
+  pub configured : IsConfigured container_id max_frame window
+  pub channels : channel_max ≤ 255
+  pub handles : handle_max ≤ 255
+  pub bounds : IsBounded allowed max_message

@@ -1,0 +1,53 @@
+-- Bytes that count as held by an endpoint, counted over its history, and how many they are at most.
+use Rattle.std.specs.Prelude.{ℕ, ◌+◌, ◌*◌, List, length, sum_by}
+use Rattle.amqp_session.specs.declared.slot.Slot.{Slot}
+use Rattle.amqp_session.specs.declared.slot.Slot.TheVariants.{Free, Live, Waits}
+use Rattle.amqp_session.specs.declared.terms.SessionTerms.{SessionTerms}
+use Rattle.amqp_session.specs.Laws as session
+use Rattle.amqp_session.specs.Places.{Life, tabulate}
+use Rattle.amqp_session.specs.Sessions.{SessionState, SessionEvent}
+use Rattle.amqp_endpoint.specs.Calls.{output_size}
+use Rattle.amqp_endpoint.specs.Configs.{Configured}
+use Rattle.amqp_endpoint.specs.Connections.{ConnectionState, ConnectionEvent, channels, connection_bytes}
+use Rattle.amqp_endpoint.specs.Histories.{part}
+use Rattle.amqp_endpoint.specs.Steps.{EndpointState}
+
+-- the bytes in the frame buffer, the output that was not moved out, and what the connection keeps
+abbrev pub held : EndpointState → ℕ
+held s = length s.input.filled + length s.unsent + connection_bytes s.connection
+
+-- sessions that live or wait for the peer's end
+abbrev pub channel_used : Slot SessionState → ℕ
+channel_used Free = 0
+channel_used (Live s) = 1
+channel_used Waits = 1
+
+abbrev pub session_count : ConnectionState → ℕ
+session_count s = sum_by channel_used s.sessions
+
+-- links that live or wait for the peer's detach
+abbrev pub channel_links : Slot SessionState → ℕ
+channel_links Free = 0
+channel_links (Live s) = session.used_count s
+channel_links Waits = 0
+
+abbrev pub link_count : ConnectionState → ℕ
+link_count s = sum_by channel_links s.sessions
+
+-- what a link counts for at most: itself, a name of 255 bytes, source and target of 1024, and for each delivery that is allowed its message and 96
+abbrev pub link_most : Configured → ℕ
+link_most config = 1407 + config.bounds.allowed * (config.bounds.max_message_size + 96)
+
+-- What an endpoint with so many sessions and links holds at most: a frame, the output, and what each session and each link counts for.
+abbrev pub held_most : Configured → ℕ → ℕ → ℕ
+held_most config sessions links = config.max_frame + output_size + 64 * sessions + links * link_most config
+
+-- the parts of all channels
+abbrev pub parts : Configured → List ConnectionEvent → List (Slot (Life SessionTerms SessionEvent))
+parts config h = tabulate 0 (channels config) (λ channel. part channel h)
+
+-- what counts as held of a part
+abbrev pub part_bytes : Slot (Life SessionTerms SessionEvent) → ℕ
+part_bytes Free = 0
+part_bytes (Live l) = 64 + sum_by session.part_bytes (session.parts l.0 l.1)
+part_bytes Waits = 64

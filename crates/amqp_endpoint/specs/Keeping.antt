@@ -1,0 +1,16 @@
+-- How a connection is kept: a place for each channel that is offered.
+use Rattle.std.specs.Prelude.{◌≡◌, ◌<◌, ◌≤◌, Bool, List, length}
+use Rattle.amqp_session.specs.declared.slot.Slot.{Slot}
+use Rattle.amqp_session.specs.Sessions.{SessionState}
+use Rattle.amqp_endpoint.specs.declared.phase.Phase.{Phase}
+use Rattle.amqp_endpoint.specs.Configs.{Configured}
+use Rattle.amqp_endpoint.specs.Connections.{ConnectionState, channels, channel_limit}
+
+abbrev pub connection_of : Configured → Phase → Bool → Bool → List (Slot SessionState) → ConnectionState
+connection_of config phase failed closed sessions = record { config = config; phase = phase; failed = failed; closed = closed; sessions = sessions }
+
+-- there is a place for each channel, and none above the highest is used
+pub record IsPlaced (config : Configured) (phase : Phase) (sessions : List (Slot SessionState)) : Type 0 where
+  pub long : length sessions ≡ channels config
+  pub limit : channel_limit phase ≤ config.channel_max
+  pub few : config.channel_max < 256

@@ -1,0 +1,15 @@
+pub mod Configs
+pub mod Fields
+pub mod Connections
+pub mod Lines
+pub mod Replies
+pub mod Calls
+pub mod Histories
+pub mod Steps
+pub mod Held
+pub mod Lengths
+pub mod Keeping
+pub mod Acting
+pub mod Asking
+pub mod Runs
+pub mod Endpoints

@@ -1,0 +1,91 @@
+-- One step of an endpoint, from the bytes of a piece, or a call, to the bytes added to its output, the answer, and the new state.
+use Rattle.std.specs.Prelude.{◌≡◌, ℕ, ◌+◌, ◌≤◌, ◌⊎◌, Bool, true, false, if◌then◌else◌, List, ◌++◌, length, take, Option, Some, None}
+use Rattle.amqp_frame.specs.Splits.{SplitterState, Waits, TakesNothing, IsUnchanged, IsEmptied}
+use Rattle.amqp_frame.specs.Units.{StreamUnit, HeaderUnit, FrameUnit, FaultUnit, due_after, IsRest}
+use Rattle.amqp_endpoint.specs.declared.event.Event.{Event}
+use Rattle.amqp_endpoint.specs.declared.event.Outcome.{Outcome}
+use Rattle.amqp_endpoint.specs.declared.event.Outcome.TheVariants as outcome
+use Rattle.amqp_endpoint.specs.Calls.{has_room}
+use Rattle.amqp_endpoint.specs.Connections.{ConnectionState, connection_after, is_dead}
+use Rattle.amqp_endpoint.specs.Lines.{line_of, event_on, told_on, may_grow_on}
+use Rattle.amqp_endpoint.specs.Replies.{reply_on}
+
+-- an endpoint: the bytes that were taken and not acted upon, those that were not moved out, and the connection
+pub record EndpointState : Type 0 where
+  pub input : SplitterState
+  pub unsent : List ℕ
+  pub connection : ConnectionState
+
+-- Taking bytes. -------------------------------------------------------------------------------------------------------
+
+-- What of a piece is taken: nothing where a unit waits or no more is taken; else all, or up to the end of the unit that is due. No byte is taken that a unit does not want.
+pub record IsTaken (old new : SplitterState) (piece : List ℕ) (used : ℕ) : Type 0 where
+  pub bound : used ≤ length piece
+  pub limit : new.limit ≡ old.limit
+  pub stage : new.stage ≡ old.stage
+  pub filled : new.filled ≡ old.filled ++ take used piece
+  pub all : used + 1 ≤ length piece → TakesNothing new
+  pub full : TakesNothing old → used ≡ 0
+  pub early : (k : ℕ) → k + 1 ≤ used → IsRest old.limit old.stage (old.filled ++ take k piece)
+
+-- Acting upon a unit. -------------------------------------------------------------------------------------------------
+
+-- the header needs no room in the output
+abbrev pub needs_room : StreamUnit → Bool
+needs_room (HeaderUnit bytes) = false
+needs_room (FrameUnit bytes) = true
+needs_room (FaultUnit fault bytes) = true
+
+-- what is told of a unit: its event, if it has one; else that more is wanted, unless the connection is over
+abbrev pub told_outcome : ConnectionState → Option Event → Outcome
+told_outcome after (Some e) = outcome.Event e
+told_outcome after None = if is_dead after.phase then outcome.Dead else outcome.More
+
+abbrev pub acted_after : ConnectionState → StreamUnit → ConnectionState
+acted_after s u = connection_after s (event_on s (line_of s u))
+
+abbrev pub acted_outcome : ConnectionState → StreamUnit → Outcome
+acted_outcome s u = told_outcome (acted_after s u) (told_on s (line_of s u))
+
+-- the unit is acted upon: it leaves the buffer, is answered, and told
+pub record IsActed (old new : EndpointState) (u : StreamUnit) (answer : Outcome) : Type 0 where
+  pub input : IsEmptied old.input new.input (due_after u)
+  pub unsent : new.unsent ≡ old.unsent ++ reply_on old.connection (line_of old.connection u)
+  pub connection : new.connection ≡ acted_after old.connection u
+  pub told : answer ≡ acted_outcome old.connection u
+
+-- it waits, and nothing has changed
+pub record IsKept (old new : EndpointState) : Type 0 where
+  pub input : IsUnchanged old.input new.input
+  pub unsent : new.unsent ≡ old.unsent
+  pub connection : new.connection ≡ old.connection
+
+-- A unit that waits is acted upon where the output has room for its answer, or it is the header; else it waits. Want of memory is answered only where it may be wanted.
+abbrev pub Acts : EndpointState → EndpointState → StreamUnit → Bool → Outcome → Type 0
+Acts old new u false answer = IsKept old new × (answer ≡ outcome.Blocked)
+Acts old new u true answer = IsActed old new u answer ⊎ (IsKept old new × (answer ≡ outcome.NoMemory) × (may_grow_on (line_of old.connection u) ≡ true))
+
+abbrev pub room_for : List ℕ → StreamUnit → Bool
+room_for unsent u = if needs_room u then has_room unsent else true
+
+abbrev pub may_act : EndpointState → StreamUnit → Bool
+may_act s u = room_for s.unsent u
+
+-- what comes of the unit that waits, or of none
+pub record Comes (old new : EndpointState) (answer : Outcome) : Type 0 where
+  pub unit : (u : StreamUnit) → Waits old.input u → Acts old new u (may_act old u) answer
+  pub none : ((u : StreamUnit) → Waits old.input u → ⊥) → IsKept old new × (answer ≡ told_outcome old.connection None)
+
+-- Bytes are taken, and what then waits is acted upon.
+pub record TakesAndActs (old new : EndpointState) (piece : List ℕ) (used : ℕ) (answer : Outcome) : Type 0 where
+  pub between : SplitterState
+  pub taken : IsTaken old.input between piece used
+  pub comes : Comes (record old { input = between }) new answer
+
+-- One feed. A connection that is over takes nothing.
+abbrev pub Feeds : Bool → EndpointState → EndpointState → List ℕ → ℕ → Outcome → Type 0
+Feeds true old new piece used answer = IsKept old new × (used ≡ 0) × (answer ≡ outcome.Dead)
+Feeds false old new piece used answer = TakesAndActs old new piece used answer
+
+abbrev pub IsFed : EndpointState → EndpointState → List ℕ → ℕ → Outcome → Type 0
+IsFed old new piece used answer = Feeds (is_dead old.connection.phase) old new piece used answer

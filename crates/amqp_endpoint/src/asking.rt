@@ -1,0 +1,178 @@
+//! What the application asks of a session: each call is refused with nothing changed, or said to the peer.
+ghost use Rattle.std.specs.Prelude.{◌≡◌, ◌||◌, [], IfOk};
+ghost use Rattle.amqp_session.specs.Calls.{Widen, Grant, Drain, Take, Settle, Detach, call_fault};
+ghost use Rattle.amqp_endpoint.specs.Asking.{CallAnswered, SlotHandsUp, call_of, ready_at};
+ghost use Rattle.amqp_endpoint.specs.Calls.{at_session};
+ghost use Rattle.amqp_endpoint.specs.Connections.{is_closing, is_dead, slot_at};
+ghost use Rattle.amqp_endpoint.specs.Runs.{Dropped, accepted_answer};
+
+use crate::connection::Connection;
+use crate::fault::CallFault;
+use crate::laws::answers_fit_their_room;
+use crate::output::Output;
+use crate::phase::Phase;
+use crate::request::{Request, fault_of};
+use amqp_link::Taken;
+use amqp_perform::Outcome;
+use amqp_session::{CallFault as SessionCallFault, Session};
+use std::alloc::Allocator;
+
+/// Widens the incoming window of the session on a channel by `n` places, and says so [2.5.6]. Refused, with nothing
+/// changed, with the first of these: `Dead`, `NoSession`, `WindowTooWide`, `Full`.
+pub fn widen<A: Allocator + Copy>(
+    connection: &mut Connection<A>,
+    out: &mut Output<A>,
+    channel: u16,
+    n: u32,
+) -> Result<(), CallFault>
+    ensures { CallAnswered connection.old connection.new out.old out.new channel (Widen n) result }
+{
+    ask(connection, out, channel, Request::Widen { n })
+}
+
+/// Grants the link at a handle `n` places of credit, and says so [2.6.7]. Refused, with nothing changed, with the
+/// first of these: `Dead`, `NoSession`, `NoLink`, `TooMuchCredit`, `Full`.
+pub fn grant<A: Allocator + Copy>(
+    connection: &mut Connection<A>,
+    out: &mut Output<A>,
+    channel: u16,
+    handle: u32,
+    n: u32,
+) -> Result<(), CallFault>
+    ensures { CallAnswered connection.old connection.new out.old out.new channel (Grant handle n) result }
+{
+    ask(connection, out, channel, Request::Grant { handle, n })
+}
+
+/// Asks the sender on the link at a handle to use its credit up [2.6.7]. Refused, with nothing changed, with the first
+/// of these: `Dead`, `NoSession`, `NoLink`, `Full`.
+pub fn drain<A: Allocator + Copy>(
+    connection: &mut Connection<A>,
+    out: &mut Output<A>,
+    channel: u16,
+    handle: u32,
+) -> Result<(), CallFault>
+    ensures { CallAnswered connection.old connection.new out.old out.new channel (Drain handle) result }
+{
+    ask(connection, out, channel, Request::Drain { handle })
+}
+
+/// Settles the delivery with this id, which was handed up, or in mode second tells the sender what became of it
+/// [2.6.12, 2.8.3]. Refused, with nothing changed, with the first of these: `Dead`, `NoSession`, `NoDelivery`,
+/// `NotTaken`, `AlreadyTold`, `Full`.
+pub fn settle<A: Allocator + Copy>(
+    connection: &mut Connection<A>,
+    out: &mut Output<A>,
+    channel: u16,
+    id: u32,
+    outcome: Outcome,
+) -> Result<(), CallFault>
+    ensures { CallAnswered connection.old connection.new out.old out.new channel (Settle id outcome) result }
+{
+    ask(connection, out, channel, Request::Settle { id, outcome })
+}
+
+/// Ends the link at a handle, says so, and answers how many ready deliveries are dropped [2.6.6]. Refused, with
+/// nothing changed, with the first of these: `Dead`, `NoSession`, `NoLink`, `Full`.
+pub fn detach<A: Allocator + Copy>(
+    connection: &mut Connection<A>,
+    out: &mut Output<A>,
+    channel: u16,
+    handle: u32,
+) -> Result<u32, CallFault>
+    ensures answered { CallAnswered connection.old connection.new out.old out.new channel (Detach handle) result }
+    ensures dropped { IfOk result (λ dropped. Dropped dropped ≡ accepted_answer (slot_at connection.old channel) (Detach handle)) }
+{
+    let dropped = ready(connection, channel, handle);
+    ask(connection, out, channel, Request::Detach { handle })?;
+    Ok(dropped)
+}
+
+/// Hands up the first ready delivery of the link at a handle. Refused, with nothing changed, with the first of these:
+/// `Dead`, `NoSession`, `NoLink`, `NothingReady`. Takes no memory, and no room of the output.
+pub fn take<A: Allocator + Copy>(
+    connection: &mut Connection<A>,
+    channel: u16,
+    handle: u32,
+) -> Result<Taken<A>, CallFault>
+    ensures answered { CallAnswered connection.old connection.new [] [] channel (Take handle) result }
+    ensures taken { IfOk result (λ taken. SlotHandsUp (slot_at connection.old channel) handle taken) }
+{
+    if is_over(connection) {
+        return Err(CallFault::Dead);
+    }
+    connection.take(channel, handle)
+}
+
+/// A request for the session on a channel. Where it is refused nothing has changed.
+fn ask<A: Allocator + Copy>(
+    connection: &mut Connection<A>,
+    out: &mut Output<A>,
+    channel: u16,
+    request: Request,
+) -> Result<(), CallFault>
+    ensures { CallAnswered connection.old connection.new out.old out.new channel (call_of request) result }
+{
+    answers_fit_their_room();
+    if is_over(connection) {
+        return Err(CallFault::Dead);
+    }
+    if !out.has_room() {
+        return Err(fault(connection, channel, request).unwrap_or(CallFault::Full));
+    }
+    let asked = connection.ask(channel, request)?;
+    out.put_frame(channel, &asked.performative());
+    Ok(())
+}
+
+/// Whether the connection is over, or this side has closed it.
+fn is_over<A: Allocator + Copy>(connection: &Connection<A>) -> bool
+    ensures { result ≡ (is_dead connection.now.phase || is_closing connection.now.phase) }
+{
+    matches!(connection.phase(), Phase::Closing | Phase::Dead)
+}
+
+/// Why the session on a channel would refuse a request; `NoSession` where none is live.
+fn fault<A: Allocator + Copy>(
+    connection: &Connection<A>,
+    channel: u16,
+    request: Request,
+) -> Option<CallFault>
+    ensures { result ≡ at_session (slot_at connection.now channel) (call_of request) }
+{
+    match connection.session(channel) {
+        Some(session) => match session_fault(session, request) {
+            Some(fault) => Some(fault_of(fault)),
+            None => None,
+        },
+        None => Some(CallFault::NoSession),
+    }
+}
+
+/// Why a session would refuse a request.
+fn session_fault<A: Allocator + Copy>(
+    session: &Session<A>,
+    request: Request,
+) -> Option<SessionCallFault>
+    ensures { result ≡ call_fault session.now (call_of request) }
+{
+    match request {
+        Request::Widen { n } => session.widen_fault(n),
+        Request::Grant { handle, n } => session.grant_fault(handle, n),
+        Request::Drain { handle } | Request::Detach { handle } => session.link_fault(handle),
+        Request::Settle { id, .. } => session.settle_fault(id),
+    }
+}
+
+/// How many deliveries are ready on the link at a handle of the session on a channel.
+fn ready<A: Allocator + Copy>(connection: &Connection<A>, channel: u16, handle: u32) -> u32
+    ensures { result ≡ ready_at (slot_at connection.now channel) handle }
+{
+    match connection.session(channel) {
+        Some(session) => match session.link(handle) {
+            Some(link) => link.ready,
+            None => 0,
+        },
+        None => 0,
+    }
+}

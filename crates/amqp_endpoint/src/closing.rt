@@ -1,0 +1,89 @@
+//! How a connection ends: by a fault of its peer, by a close, or with its input.
+ghost use Rattle.std.specs.Prelude.{◌≡◌, ◌≤◌, ◌+◌, ◌++◌, [], ◌∷◌, length};
+ghost use Rattle.amqp_endpoint.specs.Calls.{output_size, reply_room, close_call_spoken};
+ghost use Rattle.amqp_endpoint.specs.Connections.{connection_after, connection_ready, Broken, Failed, CloseAsked, PeerClosed};
+ghost use Rattle.amqp_endpoint.specs.Replies.{joined, close_spoken, aloud, close_said};
+
+use crate::connection::Connection;
+use crate::event::{Event, Scope};
+use crate::frames;
+use crate::output::Output;
+use crate::phase::Phase;
+use amqp_perform::Condition;
+use std::alloc::Allocator;
+
+/// Says the close with an error; before the peer's open came the open goes first [2.4.3].
+fn say_close<A: Allocator + Copy>(
+    connection: &Connection<A>,
+    out: &mut Output<A>,
+    condition: Condition,
+)
+    requires { length out.old + reply_room ≤ output_size }
+    ensures { out.new ≡ out.old ++ joined (close_spoken connection.now condition) }
+{
+    if matches!(connection.phase(), Phase::Unopened) {
+        out.say(0, &frames::open(connection.config(), 0));
+    }
+    out.say(0, &frames::close(frames::error(condition)));
+}
+
+/// This side closes the connection with an error.
+pub fn fail<A: Allocator + Copy>(
+    connection: &mut Connection<A>,
+    out: &mut Output<A>,
+    condition: Condition,
+) -> Event
+    requires { length out.old + reply_room ≤ output_size }
+    ensures connection { connection.new ≡ connection_after connection.old Failed }
+    ensures unsent { out.new ≡ out.old ++ joined (close_spoken connection.old condition) }
+    ensures told { result ≡ Event.Failed Scope.Connection condition (connection_ready connection.old) }
+{
+    say_close(connection, out, condition);
+    Event::Failed {
+        scope: Scope::Connection,
+        condition,
+        dropped: connection.fail(),
+    }
+}
+
+/// A frame came that is none: the connection is over at once [2.3.1].
+pub fn break_off<A: Allocator + Copy>(connection: &mut Connection<A>, out: &mut Output<A>) -> Event
+    requires { length out.old + reply_room ≤ output_size }
+    ensures connection { connection.new ≡ connection_after connection.old Broken }
+    ensures unsent { out.new ≡ out.old ++ joined (close_spoken connection.old Condition.FramingError) }
+    ensures told { result ≡ Event.Failed Scope.Connection Condition.FramingError (connection_ready connection.old) }
+{
+    say_close(connection, out, Condition::FramingError);
+    Event::Failed {
+        scope: Scope::Connection,
+        condition: Condition::FramingError,
+        dropped: connection.break_off(),
+    }
+}
+
+/// The peer closes an open connection, and is answered [2.4.3].
+pub fn peer_closes<A: Allocator + Copy>(
+    connection: &mut Connection<A>,
+    out: &mut Output<A>,
+) -> Event
+    requires { length out.old + reply_room ≤ output_size }
+    ensures connection { connection.new ≡ connection_after connection.old PeerClosed }
+    ensures unsent { out.new ≡ out.old ++ joined (aloud (close_said []) ∷ []) }
+    ensures told { result ≡ Event.Closed (connection_ready connection.old) }
+{
+    out.say(0, &frames::close(&[]));
+    Event::Closed {
+        dropped: connection.peer_closed(),
+    }
+}
+
+/// The application closes the connection. Answers how many ready deliveries are dropped.
+pub fn close<A: Allocator + Copy>(connection: &mut Connection<A>, out: &mut Output<A>) -> u32
+    requires { length out.old + reply_room ≤ output_size }
+    ensures connection { connection.new ≡ connection_after connection.old CloseAsked }
+    ensures unsent { out.new ≡ out.old ++ joined close_call_spoken }
+    ensures dropped { result ≡ connection_ready connection.old }
+{
+    out.say(0, &frames::close(&[]));
+    connection.close()
+}

@@ -1,0 +1,131 @@
+//! What an endpoint is set up with.
+ghost use Rattle.std.specs.Prelude.{◌≡◌, ◌↔◌, ◌≤◌, ◌<◌, ◌^◌, length, IsSome, IfSome, IfOk};
+ghost use Rattle.std.specs.String.{string_bytes};
+ghost use Rattle.amqp_link.specs.Bounds.{IsBounded};
+ghost use Rattle.amqp_endpoint.specs.Configs.{Configured, IsConfigured, IsAsked};
+
+use amqp_link::LinkBounds;
+use std::alloc::{AllocError, Allocator, Global};
+use std::marker::Model;
+
+/// What an endpoint is set up with: what it says of itself, and how much its peer may make it keep.
+#[derive(Drop)]
+pub struct Config<A: Allocator + Copy = Global> {
+    container_id: String<A>,
+    max_frame: u32,
+    channel_max: u8,
+    handle_max: u8,
+    bounds: LinkBounds,
+    window: u32,
+}
+
+impl<A: Allocator + Copy> Model for Config<A> {
+    ghost use Rattle.std.specs.String.{string_bytes};
+    ghost use Rattle.amqp_endpoint.specs.Configs.{Configured, IsConfigured};
+
+    ghost Value = { Configured };
+
+    ghost view = { λ a. record { container_id = string_bytes a.container_id; max_frame = a.max_frame; channel_max = a.channel_max; handle_max = a.handle_max; bounds = a.bounds; window = a.window } };
+
+    ghost invariant = { λ a. IsConfigured (string_bytes a.container_id) a.max_frame a.window };
+}
+
+impl<A: Allocator + Copy> Config<A> {
+    /// These settings. `None` where one is outside its range: a container-id of 1 to 255 bytes; frames of at most 512 to
+    /// 1048576 bytes; a channel-max and a handle-max of 0 to 255; 1 to 1024 deliveries that a link is allowed, and
+    /// messages of at most 1 to 2^30 bytes; a window of at most 2147483647 places.
+    pub fn checked(
+        container_id: String<A>,
+        max_frame: u32,
+        channel_max: u32,
+        handle_max: u32,
+        allowed: u32,
+        max_message: u32,
+        window: u32,
+    ) -> Option<Self>
+        ensures some { IsSome result ↔ IsAsked (string_bytes container_id) max_frame channel_max handle_max allowed max_message window }
+        ensures is { IfSome result (λ c. c ≡ record { container_id = string_bytes container_id; max_frame = max_frame; channel_max = channel_max; handle_max = handle_max; bounds = record { allowed = allowed; max_message_size = max_message }; window = window }) }
+    {
+        let bounds = LinkBounds::new(allowed, max_message)?;
+        let is_named = 1 <= container_id.len() && container_id.len() <= 255;
+        let is_framed = 512 <= max_frame && max_frame <= 1048576;
+        if !is_named || !is_framed || window >= 1 << 31 || channel_max > 255 || handle_max > 255 {
+            return None;
+        }
+        Some(Config {
+            container_id,
+            max_frame,
+            channel_max: channel_max as u8,
+            handle_max: handle_max as u8,
+            bounds,
+            window,
+        })
+    }
+
+    /// The container-id of this side [2.7.1].
+    pub fn container_id(&self) -> &str
+        ensures name { result.now ≡ self.now.container_id }
+        ensures short { length result.now ≤ 255 }
+    {
+        self.container_id.as_str()
+    }
+
+    /// The longest frame that is accepted, in bytes.
+    pub fn max_frame(&self) -> u32
+        ensures value { result ≡ self.now.max_frame }
+        ensures least { 512 ≤ result }
+        ensures most { result ≤ 1048576 }
+    {
+        self.max_frame
+    }
+
+    /// The highest channel that is offered.
+    pub fn channel_max(&self) -> u8
+        ensures value { result ≡ self.now.channel_max }
+        ensures most { result < 256 }
+    {
+        self.channel_max
+    }
+
+    /// The highest handle that is offered [2.7.2].
+    pub fn handle_max(&self) -> u8
+        ensures { result ≡ self.now.handle_max }
+    {
+        self.handle_max
+    }
+
+    /// What each link may keep.
+    pub fn bounds(&self) -> LinkBounds
+        ensures { result ≡ self.now.bounds }
+    {
+        self.bounds
+    }
+
+    /// The places of a session's window at its begin [2.5.6].
+    pub fn window(&self) -> u32
+        ensures { result ≡ self.now.window }
+    {
+        self.window
+    }
+
+    /// An equal one.
+    pub fn copy(&self, alloc: A) -> Result<Self, AllocError>
+        ensures { IfOk result (λ c. c ≡ self.now) }
+    {
+        let container_id = String::from_str(alloc, self.container_id.as_str())?;
+        let (max_frame, channel_max, handle_max) = (
+            self.max_frame,
+            self.channel_max,
+            self.handle_max,
+        );
+        let (bounds, window) = (self.bounds, self.window);
+        Ok(Config {
+            container_id,
+            max_frame,
+            channel_max,
+            handle_max,
+            bounds,
+            window,
+        })
+    }
+}

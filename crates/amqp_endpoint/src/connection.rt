@@ -1,0 +1,290 @@
+//! One connection: how far it has come, and what stands at its channels.
+ghost use Rattle.std.specs.Prelude.{◌≡◌, ◌≤◌, ◌<◌, ◌+◌, ◌^◌, true, false, Some, None, slice_get, IfOk, OnOk, OnErr, IfSome, IfNone, option_map};
+ghost use Rattle.amqp_session.specs.declared.slot.Slot.TheVariants.{Free, Live, Waits};
+ghost use Rattle.amqp_session.specs.Calls.{Take};
+ghost use Rattle.amqp_session.specs.Frames.{Frame, frame_of};
+ghost use Rattle.amqp_session.specs.Places.{live_in};
+ghost use Rattle.amqp_session.specs.Sessions.{SessionState};
+ghost use Rattle.amqp_endpoint.specs.Acting.{TakesIn, FrameDone};
+ghost use Rattle.amqp_endpoint.specs.Asking.{IsAsked, SlotHandsUp, all_said, none_said, call_of};
+ghost use Rattle.amqp_endpoint.specs.Connections.{connection_begins, connection_after, connection_ready, connection_bytes, channel_ready, channel_limit, slot_at, Opened, Broken, Failed, CloseAsked, PeerClosed, Lost, HeaderRefused, Finished, Begun, SessionFailed, SessionEnded};
+
+use crate::channels::{self, KeptSession, Place};
+use crate::config::Config;
+use crate::fault::CallFault;
+use crate::phase::Phase;
+use crate::request::{Asked, Request};
+use amqp_link::Taken;
+use amqp_perform::Performative;
+use amqp_session::{Done, Session, SessionFault, SessionTerms, Slot};
+use std::alloc::{AllocError, Allocator, Global};
+use std::marker::Model;
+
+/// How far a connection has come, how it ended, and what stands at its channels [2.4.6].
+#[derive(Drop)]
+pub struct Connection<A: Allocator + Copy = Global> {
+    alloc: A,
+    config: Config<A>,
+    phase: Phase,
+    failed: bool,
+    closed: bool,
+    places: Vec<Place<A>, A>,
+}
+
+impl<A: Allocator + Copy> Model for Connection<A> {
+    ghost use Rattle.amqp_endpoint.specs.Connections.{ConnectionState};
+    ghost use Rattle.amqp_endpoint.specs.Keeping.{connection_of, IsPlaced};
+
+    ghost Value = { ConnectionState };
+
+    ghost view = { λ a. connection_of a.config a.phase a.failed a.closed a.places.items };
+
+    ghost invariant = { λ a. IsPlaced a.config a.phase a.places.items };
+}
+
+impl<A: Allocator + Copy> Connection<A> {
+    /// A connection before its header. Only this and a begin take memory here.
+    pub fn new(alloc: A, config: Config<A>) -> Result<Self, AllocError>
+        ensures { IfOk result (λ c. c ≡ connection_begins config) }
+    {
+        let count = config.channel_max() as usize + 1;
+        let places = channels::free_places(alloc, count)?;
+        Ok(Connection {
+            alloc,
+            config,
+            phase: Phase::Unopened,
+            failed: false,
+            closed: false,
+            places,
+        })
+    }
+
+    /// What it was set up with.
+    pub fn config(&self) -> &Config<A>
+        ensures { result.now ≡ self.now.config }
+    {
+        &self.config
+    }
+
+    /// How far it has come.
+    pub fn phase(&self) -> Phase
+        ensures { result ≡ self.now.phase }
+    {
+        self.phase
+    }
+
+    /// Whether this side ended it with an error, or refused its header.
+    pub fn has_failed(&self) -> bool
+        ensures { result ≡ self.now.failed }
+    {
+        self.failed
+    }
+
+    /// Whether the peer's close came.
+    pub fn is_closed(&self) -> bool
+        ensures { result ≡ self.now.closed }
+    {
+        self.closed
+    }
+
+    /// The highest channel on which frames are taken.
+    pub fn channel_limit(&self) -> u16
+        ensures value { result ≡ channel_limit self.now.phase }
+        ensures offered { result ≤ self.now.config.channel_max }
+        ensures most { result < 256 }
+    {
+        match self.phase {
+            Phase::Open { channel_max, .. } => channel_max as u16,
+            _ => 0,
+        }
+    }
+
+    /// What stands at a channel.
+    pub fn place(&self, channel: u8) -> &Place<A>
+        requires { channel ≤ self.now.config.channel_max }
+        ensures { result.now ≡ slot_at self.now channel }
+    {
+        &self.places[channel as usize]
+    }
+
+    /// How many deliveries are ready on all links.
+    pub fn ready(&self) -> u32
+        ensures { result ≡ connection_ready self.now }
+    {
+        channels::ready(&self.places)
+    }
+
+    /// The bytes that count as held.
+    pub fn held(&self) -> u64
+        ensures value { result ≡ connection_bytes self.now }
+        ensures most { result < 2 ^ 61 }
+    {
+        channels::held(&self.places)
+    }
+
+    /// The peer opened it.
+    pub fn open(&mut self, max_frame_size: u32, channel_max: u8)
+        requires { channel_max ≤ self.old.config.channel_max }
+        ensures { self.new ≡ connection_after self.old (Opened max_frame_size channel_max) }
+    {
+        self.phase = Phase::Open {
+            max_frame_size,
+            channel_max,
+        };
+    }
+
+    /// This side closes it with an error. Answers how many ready deliveries are dropped.
+    pub fn fail(&mut self) -> u32
+        ensures new { self.new ≡ connection_after self.old Failed }
+        ensures dropped { result ≡ connection_ready self.old }
+    {
+        let dropped = self.ready();
+        self.failed = true;
+        self.phase = Phase::Closing;
+        channels::free_all(&mut self.places);
+        dropped
+    }
+
+    /// The application closes it. Answers how many ready deliveries are dropped.
+    pub fn close(&mut self) -> u32
+        ensures new { self.new ≡ connection_after self.old CloseAsked }
+        ensures dropped { result ≡ connection_ready self.old }
+    {
+        let dropped = self.ready();
+        self.phase = Phase::Closing;
+        channels::free_all(&mut self.places);
+        dropped
+    }
+
+    /// The peer closed it. Answers how many ready deliveries are dropped.
+    pub fn peer_closed(&mut self) -> u32
+        ensures new { self.new ≡ connection_after self.old PeerClosed }
+        ensures dropped { result ≡ connection_ready self.old }
+    {
+        let dropped = self.ready();
+        self.closed = true;
+        self.phase = Phase::Dead;
+        channels::free_all(&mut self.places);
+        dropped
+    }
+
+    /// A frame came that is none. Answers how many ready deliveries are dropped.
+    pub fn break_off(&mut self) -> u32
+        ensures new { self.new ≡ connection_after self.old Broken }
+        ensures dropped { result ≡ connection_ready self.old }
+    {
+        let dropped = self.ready();
+        self.failed = true;
+        self.phase = Phase::Dead;
+        channels::free_all(&mut self.places);
+        dropped
+    }
+
+    /// A header came that is not acceptable.
+    pub fn refuse_header(&mut self)
+        ensures { self.new ≡ connection_after self.old HeaderRefused }
+    {
+        self.failed = true;
+        self.phase = Phase::Dead;
+        channels::free_all(&mut self.places);
+    }
+
+    /// A frame came that is none, while the peer's close was awaited.
+    pub fn lose(&mut self)
+        ensures { self.new ≡ connection_after self.old Lost }
+    {
+        self.phase = Phase::Dead;
+        channels::free_all(&mut self.places);
+    }
+
+    /// The input ended.
+    pub fn finish(&mut self)
+        ensures { self.new ≡ connection_after self.old Finished }
+    {
+        self.phase = Phase::Dead;
+        channels::free_all(&mut self.places);
+    }
+
+    /// A session begins on a channel where nothing stands. Where memory is refused nothing has changed.
+    pub fn begin(&mut self, channel: u8, terms: SessionTerms) -> Result<(), AllocError>
+        requires { channel ≤ self.old.config.channel_max }
+        ensures new { OnOk result (self.new ≡ connection_after self.old (Begun channel terms)) }
+        ensures err { OnErr result (self.new ≡ self.old) }
+    {
+        let session = KeptSession::begin(self.alloc, terms)?;
+        self.places[channel as usize] = Slot::Live(session);
+        Ok(())
+    }
+
+    /// This side ends the session on a channel with an error. Answers how many ready deliveries are dropped.
+    pub fn fail_session(&mut self, channel: u8) -> u32
+        requires { channel ≤ self.old.config.channel_max }
+        ensures new { self.new ≡ connection_after self.old (SessionFailed channel) }
+        ensures dropped { result ≡ channel_ready (slot_at self.old channel) }
+    {
+        let place = channel as usize;
+        let dropped = channels::place_ready(&self.places[place]);
+        self.places[place] = Slot::Waits;
+        dropped
+    }
+
+    /// The peer ended the session on a channel. Answers how many ready deliveries are dropped.
+    pub fn session_ended(&mut self, channel: u8) -> u32
+        requires { channel ≤ self.old.config.channel_max }
+        ensures new { self.new ≡ connection_after self.old (SessionEnded channel) }
+        ensures dropped { result ≡ channel_ready (slot_at self.old channel) }
+    {
+        let place = channel as usize;
+        let dropped = channels::place_ready(&self.places[place]);
+        self.places[place] = Slot::Free;
+        dropped
+    }
+
+    /// A frame of the live session on a channel. Where it is refused nothing has changed.
+    pub fn frame(
+        &mut self,
+        channel: u8,
+        performative: &Performative<'_>,
+        payload: &[u8],
+    ) -> Result<Done, SessionFault>
+        requires channel { channel ≤ self.old.config.channel_max }
+        requires live { TakesIn (slot_at self.old channel) performative.now }
+        ensures { (s : SessionState) (f : Frame) → slot_at self.old channel ≡ Live s → frame_of performative.now payload.now ≡ Some f → FrameDone self.old self.new channel s f result }
+    {
+        channels::frame(&mut self.places[channel as usize], performative, payload)
+    }
+
+    /// The live session on a channel; `None` where none is live.
+    pub fn session(&self, channel: u16) -> Option<&Session<A>>
+        ensures { option_map (λ s. s.now) result ≡ live_in (slot_at self.now channel) }
+    {
+        match self.places.get(channel as usize) {
+            Some(Slot::Live(kept)) => Some(kept.session()),
+            _ => None,
+        }
+    }
+
+    /// A request of the application for the session on a channel. Where it is refused nothing has changed.
+    pub fn ask(&mut self, channel: u16, request: Request) -> Result<Asked, CallFault>
+        ensures { IsAsked all_said self.old self.new channel (call_of request) result }
+    {
+        let place = channel as usize;
+        if place >= self.places.len() {
+            return Err(CallFault::NoSession);
+        }
+        channels::ask(&mut self.places[place], request)
+    }
+
+    /// Hands up the first ready delivery of a link of the session on a channel. Where that is refused nothing has
+    /// changed.
+    pub fn take(&mut self, channel: u16, handle: u32) -> Result<Taken<A>, CallFault>
+        ensures asked { IsAsked none_said self.old self.new channel (Take handle) result }
+        ensures taken { IfOk result (λ taken. SlotHandsUp (slot_at self.old channel) handle taken) }
+    {
+        let place = channel as usize;
+        if place >= self.places.len() {
+            return Err(CallFault::NoSession);
+        }
+        channels::take(&mut self.places[place], handle)
+    }
+}

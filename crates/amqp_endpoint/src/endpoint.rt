@@ -1,0 +1,325 @@
+//! The receiving endpoint of one connection.
+ghost use Rattle.std.specs.Prelude.{◌≡◌, ℕ, ◌+◌, ◌≤◌, ◌++◌, ◌^◌, ◌<◌, min, length, take, drop, true, false, Some, None, option_map, IfOk, OnOk, IfErr};
+ghost use Rattle.amqp_frame.specs.Splits.{IsOver};
+ghost use Rattle.amqp_frame.specs.declared.units.Stage.{Stage};
+ghost use Rattle.amqp_session.specs.Calls.{Widen, Grant, Drain, Take, Settle, Detach};
+ghost use Rattle.amqp_session.specs.Places.{live_in};
+ghost use Rattle.amqp_endpoint.specs.Calls.{output_size, open_call_fault};
+ghost use Rattle.amqp_endpoint.specs.Connections.{slot_at, is_dead};
+ghost use Rattle.amqp_endpoint.specs.Endpoints.{HasActed, IsLinkAt, accepted_by, dropped_by, handed_by};
+ghost use Rattle.amqp_endpoint.specs.Held.{held};
+ghost use Rattle.amqp_endpoint.specs.Runs.{IsStart, IsMoved, IsFinished, CallDone, CloseDone, BeatDone, end_of};
+ghost use Rattle.amqp_endpoint.specs.Steps.{Comes, IsFed, told_outcome};
+
+use crate::config::Config;
+use crate::connection::Connection;
+use crate::event::{End, Event, Fed, Outcome};
+use crate::fault::CallFault;
+use crate::output::Output;
+use crate::phase::Phase;
+use crate::units::{act_on_fault, act_on_frame, act_on_header};
+use crate::{asking, closing};
+use amqp_frame::Splitter;
+use amqp_link::Taken;
+use amqp_perform::Outcome as Settlement;
+use amqp_session::LinkView;
+use std::alloc::{AllocError, Allocator, Global};
+use std::marker::Model;
+
+/// The receiving endpoint of one connection [2.2 to 2.7].
+///
+/// The peer's bytes go in by [`Endpoint::feed`], which tells what they come to, and the bytes for the peer come out by
+/// [`Endpoint::output`]. In between the application grants credit, widens windows, takes messages and settles them.
+/// A call that is refused changes nothing. Memory is taken by [`Endpoint::new`], and by the begin, attach and
+/// transfer frames that are fed.
+#[derive(Drop)]
+pub struct Endpoint<A: Allocator + Copy = Global> {
+    input: Splitter<A>,
+    out: Output<A>,
+    connection: Connection<A>,
+}
+
+impl<A: Allocator + Copy> Model for Endpoint<A> {
+    ghost use Rattle.amqp_endpoint.specs.Endpoints.{IsEndpoint};
+    ghost use Rattle.amqp_endpoint.specs.Steps.{EndpointState};
+
+    ghost Value = { EndpointState };
+
+    ghost view = { λ a. record { input = a.input; unsent = a.out; connection = a.connection } };
+
+    ghost invariant = { λ a. IsEndpoint a.input a.out a.connection };
+}
+
+/// What became of the unit that waits in the buffer.
+enum Acted {
+    /// It was acted upon, and told this.
+    Done(Option<Event>),
+    /// None waits.
+    Nothing,
+    /// It waits for room in the output.
+    Blocked,
+    /// It waits, since memory was refused.
+    NoMemory,
+}
+
+impl<A: Allocator + Copy> Endpoint<A> {
+    /// An endpoint before the peer's header [2.2]. Makes its buffer for a frame, its output of 8192 bytes, and a place
+    /// for each channel; an error where memory for these is refused.
+    pub fn new(alloc: A, config: Config<A>) -> Result<Self, AllocError>
+        ensures { IfOk result (λ endpoint. IsStart config endpoint) }
+    {
+        let input = Splitter::new(alloc, config.max_frame() as usize)?;
+        let out = Output::new(alloc)?;
+        let connection = Connection::new(alloc, config)?;
+        Ok(Endpoint {
+            input,
+            out,
+            connection,
+        })
+    }
+
+    /// Takes bytes of the peer, and acts upon the unit that is then whole: the header [2.2], a frame, or the bytes that
+    /// show that there is none [2.3.1].
+    ///
+    /// Bytes are taken up to the end of that unit or of the piece, and none while a unit waits. A frame is acted upon
+    /// where the output has 2560 free bytes, and else waits with `Blocked`; where memory for it is refused it waits
+    /// with `NoMemory`. Nothing else has changed then, and the next feed, also one of no bytes, tries it again.
+    ///
+    /// `Event` tells what a unit came to, and `More` that there is nothing to tell. Once the connection is over it is
+    /// `Dead`: at the unit that ends it without an event, and from then on, where no byte is taken any more.
+    pub fn feed(&mut self, piece: &[u8]) -> Fed
+        ensures { IsFed self.old self.new piece.now result.used result.outcome }
+    {
+        if self.is_dead() {
+            return Fed {
+                used: 0,
+                outcome: Outcome::Dead,
+            };
+        }
+        let used = self.input.push(piece);
+        let outcome = self.act();
+        Fed { used, outcome }
+    }
+
+    /// Whether the connection is over.
+    fn is_dead(&self) -> bool
+        ensures { result ≡ is_dead self.now.connection.phase }
+    {
+        matches!(self.connection.phase(), Phase::Dead)
+    }
+
+    /// Acts upon the unit that waits, if one does.
+    fn act(&mut self) -> Outcome
+        requires { is_dead self.old.connection.phase ≡ false }
+        ensures { Comes self.old self.new result }
+    {
+        match act_on_unit(&self.input, &mut self.connection, &mut self.out) {
+            Acted::Done(told) => {
+                self.input.drop_frame();
+                told_outcome(&self.connection, told)
+            }
+            Acted::Nothing => Outcome::More,
+            Acted::Blocked => Outcome::Blocked,
+            Acted::NoMemory => Outcome::NoMemory,
+        }
+    }
+
+    /// Moves the first bytes that wait to be sent into `out`, as many as it holds, and answers how many.
+    pub fn output(&mut self, out: &mut [u8]) -> usize
+        ensures count { result ≡ min (length out.old) (length self.old.unsent) }
+        ensures read { out.new ≡ take result self.old.unsent ++ drop result out.old }
+        ensures new { self.new ≡ record self.old { unsent = drop result self.old.unsent } }
+    {
+        self.out.read_into(out)
+    }
+
+    /// The same into a vector of the bytes that are moved, at most `room`. Where memory for it is refused nothing has
+    /// changed.
+    pub(crate) fn output_to_vec(&mut self, alloc: A, room: u32) -> Result<Vec<u8, A>, AllocError>
+        ensures ok { IfOk result (λ bytes. IsMoved self.old self.new room bytes.items) }
+        ensures err { IfErr result (λ _. self.new ≡ self.old) }
+    {
+        let count = self.out.len().min(room as usize);
+        let mut bytes = Vec::from_elem(alloc, 0, count)?;
+        self.out.read_into(bytes.as_mut_slice());
+        Ok(bytes)
+    }
+
+    /// The bytes that count as held: those in the buffer for a frame, those that wait to be sent, and for each
+    /// session and each link what it keeps.
+    pub fn held(&self) -> u64
+        ensures { result ≡ held self.now }
+    {
+        self.input.len() as u64 + self.out.len() as u64 + self.connection.held()
+    }
+
+    /// The places that are left of the incoming window of the session on a channel [2.5.6]; `None` where no session is
+    /// live there.
+    pub fn window(&self, channel: u16) -> Option<u32>
+        ensures { result ≡ option_map (λ s. s.window) (live_in (slot_at self.now.connection channel)) }
+    {
+        Some(self.connection.session(channel)?.window())
+    }
+
+    /// The live link at a handle of the session on a channel [2.6.2]; `None` where none is.
+    pub fn link(&self, channel: u16, handle: u32) -> Option<LinkView<'_>>
+        ensures { IsLinkAt (slot_at self.now.connection channel) handle result }
+    {
+        self.connection.session(channel)?.link(handle)
+    }
+
+    /// Gives the link at a handle `n` places of credit more, and writes the flow that says so [2.6.7]. Refused, with
+    /// nothing changed, with the first of `Dead`, `NoSession`, `NoLink`, `TooMuchCredit` and `Full`.
+    pub fn grant(&mut self, channel: u16, handle: u32, n: u32) -> Result<(), CallFault>
+        ensures { CallDone self.old self.new channel (Grant handle n) (accepted_by result) }
+    {
+        asking::grant(&mut self.connection, &mut self.out, channel, handle, n)
+    }
+
+    /// Widens the incoming window of the session on a channel by `n` places, and writes the flow that says so [2.5.6].
+    /// Refused, with nothing changed, with the first of `Dead`, `NoSession`, `WindowTooWide` and `Full`.
+    pub fn widen(&mut self, channel: u16, n: u32) -> Result<(), CallFault>
+        ensures { CallDone self.old self.new channel (Widen n) (accepted_by result) }
+    {
+        asking::widen(&mut self.connection, &mut self.out, channel, n)
+    }
+
+    /// Asks the sender on the link at a handle to use its credit up, by the flow that it writes [2.6.7]. Refused, with
+    /// nothing changed, with the first of `Dead`, `NoSession`, `NoLink` and `Full`.
+    pub fn drain(&mut self, channel: u16, handle: u32) -> Result<(), CallFault>
+        ensures { CallDone self.old self.new channel (Drain handle) (accepted_by result) }
+    {
+        asking::drain(&mut self.connection, &mut self.out, channel, handle)
+    }
+
+    /// Hands up the first delivery that is ready on the link at a handle [2.6.14]. Writes nothing and takes no memory.
+    /// Refused, with nothing changed, with the first of `Dead`, `NoSession`, `NoLink` and `NothingReady`.
+    pub fn take(&mut self, channel: u16, handle: u32) -> Result<Taken<A>, CallFault>
+        ensures { CallDone self.old self.new channel (Take handle) (handed_by result) }
+    {
+        asking::take(&mut self.connection, channel, handle)
+    }
+
+    /// Tells the sender what became of the delivery of a session with this id, by the disposition that it writes
+    /// [2.6.12]. In mode first that settles it; in mode second the sender settles it [2.8.3]. Refused, with nothing
+    /// changed, with the first of `Dead`, `NoSession`, `NoDelivery`, `NotTaken`, `AlreadyTold` and `Full`.
+    pub fn settle(&mut self, channel: u16, id: u32, outcome: Settlement) -> Result<(), CallFault>
+        ensures { CallDone self.old self.new channel (Settle id outcome) (accepted_by result) }
+    {
+        asking::settle(&mut self.connection, &mut self.out, channel, id, outcome)
+    }
+
+    /// Ends the link at a handle, by the detach that it writes [2.6.6], and answers how many ready deliveries are
+    /// dropped. The handle stays in use until the peer detaches it. Refused, with nothing changed, with the first of
+    /// `Dead`, `NoSession`, `NoLink` and `Full`.
+    pub fn detach(&mut self, channel: u16, handle: u32) -> Result<u32, CallFault>
+        ensures { CallDone self.old self.new channel (Detach handle) (dropped_by result) }
+    {
+        asking::detach(&mut self.connection, &mut self.out, channel, handle)
+    }
+
+    /// Closes the connection, by the close that it writes [2.4.3], and answers how many ready deliveries are dropped.
+    /// Its sessions and links are gone then, and of what the peer sends only its close counts. Refused, with nothing
+    /// changed, with the first of `Dead`, `NotOpen` and `Full`.
+    pub fn close(&mut self) -> Result<u32, CallFault>
+        ensures { CloseDone self.old self.new (dropped_by result) }
+    {
+        open_call(&self.connection, &self.out)?;
+        Ok(closing::close(&mut self.connection, &mut self.out))
+    }
+
+    /// Writes an empty frame, which tells the peer that this side is there [2.4.5]. Refused, with nothing changed, with
+    /// the first of `Dead`, `NotOpen` and `Full`.
+    pub fn heartbeat(&mut self) -> Result<(), CallFault>
+        ensures { BeatDone self.old self.new (accepted_by result) }
+    {
+        open_call(&self.connection, &self.out)?;
+        self.out.beat();
+        Ok(())
+    }
+
+    /// The input has ended. Answers how the connection stood: `Failed` where this side ended it with an error or
+    /// refused its header, else `Closed` where the peer's close came, else `Inside` where bytes of a unit wait, else
+    /// `Between`. The connection is over then, with its sessions and links, and the buffer is empty; what waits to be
+    /// sent is left. A further call answers by the same rule.
+    pub fn finish(&mut self) -> End
+        ensures finished { IsFinished self.old self.new }
+        ensures end { result ≡ end_of self.old }
+    {
+        let end = self.end();
+        self.input.finish();
+        self.connection.finish();
+        end
+    }
+
+    /// How the connection stands.
+    fn end(&self) -> End
+        ensures { result ≡ end_of self.now }
+    {
+        if self.connection.has_failed() {
+            End::Failed
+        } else if self.connection.is_closed() {
+            End::Closed
+        } else if self.input.is_empty() {
+            End::Between
+        } else {
+            End::Inside(self.input.len())
+        }
+    }
+}
+
+/// Acts upon the unit that waits, if one does and there is room for its answer.
+fn act_on_unit<A: Allocator + Copy>(
+    input: &Splitter<A>,
+    connection: &mut Connection<A>,
+    out: &mut Output<A>,
+) -> Acted
+    requires begins { input.now.stage ≡ Stage.Header → length out.old + 8 ≤ output_size }
+    requires goes_on { IsOver input.now.stage → ⊥ }
+    ensures { HasActed input.now connection.old connection.new out.old out.new result }
+{
+    if let Some(header) = input.header() {
+        act_on_header(connection, out, header);
+        return Acted::Done(None);
+    }
+    let Some(unit) = input.frame() else {
+        return Acted::Nothing;
+    };
+    if !out.has_room() {
+        return Acted::Blocked;
+    }
+    match unit {
+        Ok(frame) => match act_on_frame(connection, out, frame.channel, frame.body) {
+            Ok(told) => Acted::Done(told),
+            Err(AllocError) => Acted::NoMemory,
+        },
+        Err(_) => Acted::Done(act_on_fault(connection, out)),
+    }
+}
+
+/// What is told of a unit that was acted upon.
+fn told_outcome<A: Allocator + Copy>(connection: &Connection<A>, told: Option<Event>) -> Outcome
+    ensures { result ≡ told_outcome connection.now told }
+{
+    match told {
+        Some(event) => Outcome::Event(event),
+        None if matches!(connection.phase(), Phase::Dead) => Outcome::Dead,
+        None => Outcome::More,
+    }
+}
+
+/// Why a close and a heartbeat are refused.
+fn open_call<A: Allocator + Copy>(
+    connection: &Connection<A>,
+    out: &Output<A>,
+) -> Result<(), CallFault>
+    ensures ok { OnOk result (open_call_fault connection.now out.now ≡ None) }
+    ensures err { IfErr result (λ fault. open_call_fault connection.now out.now ≡ Some fault) }
+{
+    match connection.phase() {
+        Phase::Dead | Phase::Closing => Err(CallFault::Dead),
+        Phase::Unopened => Err(CallFault::NotOpen),
+        Phase::Open { .. } if out.has_room() => Ok(()),
+        Phase::Open { .. } => Err(CallFault::Full),
+    }
+}

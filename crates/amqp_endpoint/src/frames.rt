@@ -1,0 +1,73 @@
+//! The frames of this side for the connection and its sessions.
+ghost use Rattle.std.specs.Prelude.{◌≡◌, ◌≤◌, length};
+ghost use Rattle.amqp_perform.specs.Conditions.{condition_span};
+ghost use Rattle.amqp_perform.specs.Said.{said};
+ghost use Rattle.amqp_endpoint.specs.Lengths.{said_most};
+ghost use Rattle.amqp_endpoint.specs.Replies.{open_said, begin_said, end_said, close_said};
+
+use crate::config::Config;
+use amqp_perform::{Begin, Close, Condition, End, Open, Performative};
+use amqp_session::SessionTerms;
+use std::alloc::Allocator;
+
+/// The open, with the highest channel [2.7.1].
+pub fn open<A: Allocator + Copy>(config: &Config<A>, channel_max: u16) -> Performative<'_>
+    ensures said { said result ≡ open_said config.now channel_max }
+    ensures short { said_most (said result) ≤ 400 }
+{
+    Performative::Open(Open {
+        container_id: config.container_id(),
+        hostname: &[],
+        max_frame_size: config.max_frame(),
+        channel_max,
+        idle_time_out: &[],
+        outgoing_locales: &[],
+        incoming_locales: &[],
+        offered_capabilities: &[],
+        desired_capabilities: &[],
+        properties: &[],
+    })
+}
+
+/// The begin that answers one of the peer [2.7.2].
+pub fn begin(channel: u16, terms: &SessionTerms) -> Performative<'static>
+    ensures said { said result ≡ begin_said channel terms.now }
+    ensures short { said_most (said result) ≤ 400 }
+{
+    Performative::Begin(Begin {
+        remote_channel: Some(channel),
+        next_outgoing_id: 0,
+        incoming_window: terms.incoming_window,
+        outgoing_window: 0,
+        handle_max: terms.handle_max as u32,
+        offered_capabilities: &[],
+        desired_capabilities: &[],
+        properties: &[],
+    })
+}
+
+/// An end, with this error or none [2.7.8].
+pub fn end(error: &[u8]) -> Performative<'_>
+    requires { length error.now ≤ 100 }
+    ensures said { said result ≡ end_said error.now }
+    ensures short { said_most (said result) ≤ 400 }
+{
+    Performative::End(End { error })
+}
+
+/// A close, with this error or none [2.7.9].
+pub fn close(error: &[u8]) -> Performative<'_>
+    requires { length error.now ≤ 100 }
+    ensures said { said result ≡ close_said error.now }
+    ensures short { said_most (said result) ≤ 400 }
+{
+    Performative::Close(Close { error })
+}
+
+/// The error of a condition [2.8.14].
+pub fn error(condition: Condition) -> &'static [u8]
+    ensures value { result.now ≡ condition_span condition }
+    ensures short { length result.now ≤ 100 }
+{
+    condition.span()
+}

@@ -1,0 +1,146 @@
+//! What waits to be moved out.
+ghost use Rattle.std.specs.Prelude.{◌≡◌, ◌≤◌, ◌+◌, ◌++◌, ◌↔◌, [], min, length, take, drop, IfOk, IsTrue};
+ghost use Rattle.amqp_perform.specs.declared.performative.Performative.TheVariants as performative;
+ghost use Rattle.amqp_perform.specs.Said.{said, said_frame};
+ghost use Rattle.amqp_session.specs.Frames.{attaching, attach_said};
+ghost use Rattle.amqp_endpoint.specs.Lengths.{said_most};
+ghost use Rattle.amqp_endpoint.specs.Calls.{output_size, reply_room, has_room, heartbeat};
+
+use crate::laws::frames_are_as_long;
+use amqp_perform::{Attach, Detach, Flow, Performative, write_frame};
+use amqp_session::Session;
+use circular_buffer::HeapCircularBuffer;
+use std::alloc::{AllocError, Allocator, Global};
+use std::marker::Model;
+
+/// How many bytes may wait.
+const OUTPUT_SIZE: usize = 8192;
+
+/// How many bytes have to be free before an answer is begun. No answer is longer.
+const REPLY_ROOM: usize = 2560;
+
+/// An empty frame on channel 0 [2.4.5].
+const HEARTBEAT: [u8; 8] = [0, 0, 0, 8, 2, 0, 0, 0];
+
+/// The bytes that wait to be moved out, at most 8192, and room in which a frame is put together. Only `new` takes
+/// memory.
+#[derive(Drop)]
+pub struct Output<A: Allocator + Copy = Global> {
+    pipe: HeapCircularBuffer<u8, A>,
+    scratch: Vec<u8, A>,
+}
+
+impl<A: Allocator + Copy> Model for Output<A> {
+    ghost use Rattle.std.specs.Prelude.{ℕ, List, ◌≡◌, ◌≤◌, length};
+
+    ghost Value = { List ℕ };
+
+    ghost view = { λ a. a.pipe.items };
+
+    ghost invariant = { λ a. (a.pipe.capacity ≡ 8192) × (length a.pipe.items ≤ 8192) × (length a.scratch.items ≡ 2560) };
+}
+
+impl<A: Allocator + Copy> Output<A> {
+    /// Nothing waits.
+    pub fn new(alloc: A) -> Result<Self, AllocError>
+        ensures { IfOk result (λ a. a ≡ []) }
+    {
+        Ok(Output {
+            pipe: HeapCircularBuffer::with_capacity(alloc, OUTPUT_SIZE)?,
+            scratch: Vec::from_elem(alloc, 0, REPLY_ROOM)?,
+        })
+    }
+
+    /// How many bytes wait.
+    pub fn len(&self) -> usize
+        ensures value { result ≡ length self.now }
+        ensures most { result ≤ output_size }
+    {
+        self.pipe.len()
+    }
+
+    /// Whether there is room for any answer.
+    pub fn has_room(&self) -> bool
+        ensures value { result ≡ has_room self.now }
+        ensures room { IsTrue result ↔ (length self.now + reply_room ≤ output_size) }
+    {
+        self.pipe.len() <= OUTPUT_SIZE - REPLY_ROOM
+    }
+
+    /// Puts bytes behind those that wait.
+    pub fn put_bytes(&mut self, bytes: &[u8])
+        requires { length self.old + length bytes.now ≤ output_size }
+        ensures { self.new ≡ self.old ++ bytes.now }
+    {
+        self.pipe.fill_from_slice(bytes);
+    }
+
+    /// Puts a frame without payload behind them.
+    pub fn say(&mut self, channel: u16, performative: &Performative<'_>)
+        requires short { said_most (said performative.now) ≤ reply_room }
+        requires room { length self.old + said_most (said performative.now) ≤ output_size }
+        ensures new { self.new ≡ self.old ++ said_frame channel (said performative.now) [] }
+        ensures most { length self.new ≤ length self.old + said_most (said performative.now) }
+    {
+        frames_are_as_long();
+        self.put_frame(channel, performative);
+    }
+
+    /// The same of a frame that is known to fit.
+    pub fn put_frame(&mut self, channel: u16, performative: &Performative<'_>)
+        requires short { length (said_frame channel (said performative.now) []) ≤ reply_room }
+        requires room { length self.old + length (said_frame channel (said performative.now) []) ≤ output_size }
+        ensures { self.new ≡ self.old ++ said_frame channel (said performative.now) [] }
+    {
+        if let Some(len) = write_frame(channel, performative, &[], self.scratch.as_mut_slice()) {
+            self.pipe.fill_from_slice(&self.scratch[..len]);
+        }
+    }
+
+    /// The same of a flow.
+    pub fn put_flow(&mut self, channel: u16, flow: &Flow<'_>)
+        requires short { length (said_frame channel (said (performative.Flow flow.now)) []) ≤ reply_room }
+        requires room { length self.old + length (said_frame channel (said (performative.Flow flow.now)) []) ≤ output_size }
+        ensures { self.new ≡ self.old ++ said_frame channel (said (performative.Flow flow.now)) [] }
+    {
+        self.put_frame(channel, &Performative::Flow(*flow));
+    }
+
+    /// The same of a detach.
+    pub fn put_detach(&mut self, channel: u16, detach: &Detach<'_>)
+        requires short { length (said_frame channel (said (performative.Detach detach.now)) []) ≤ reply_room }
+        requires room { length self.old + length (said_frame channel (said (performative.Detach detach.now)) []) ≤ output_size }
+        ensures { self.new ≡ self.old ++ said_frame channel (said (performative.Detach detach.now)) [] }
+    {
+        self.put_frame(channel, &Performative::Detach(*detach));
+    }
+
+    /// Puts the answer to an attach that a session has accepted behind them [2.6.3].
+    pub fn put_attach_reply(&mut self, channel: u16, session: &Session<A>, attach: &Attach<'_>)
+        requires short { length (said_frame channel (attach_said session.now.terms.bounds.max_message_size (attaching attach.now)) []) ≤ reply_room }
+        requires room { length self.old + length (said_frame channel (attach_said session.now.terms.bounds.max_message_size (attaching attach.now)) []) ≤ output_size }
+        ensures { self.new ≡ self.old ++ said_frame channel (attach_said session.now.terms.bounds.max_message_size (attaching attach.now)) [] }
+    {
+        let written = session.write_attach_reply(channel, attach, self.scratch.as_mut_slice());
+        if let Some(len) = written {
+            self.pipe.fill_from_slice(&self.scratch[..len]);
+        }
+    }
+
+    /// Puts an empty frame behind them.
+    pub fn beat(&mut self)
+        requires { length self.old + 8 ≤ output_size }
+        ensures { self.new ≡ self.old ++ heartbeat }
+    {
+        self.pipe.fill_from_slice(HEARTBEAT.as_slice());
+    }
+
+    /// Moves the first bytes that wait into `out`, as many as it holds, and answers how many.
+    pub fn read_into(&mut self, out: &mut [u8]) -> usize
+        ensures count { result ≡ min (length out.old) (length self.old) }
+        ensures read { out.new ≡ take result self.old ++ drop result out.old }
+        ensures left { self.new ≡ drop result self.old }
+    {
+        self.pipe.read_into(out)
+    }
+}

@@ -1,0 +1,86 @@
+//! A whole run of an endpoint.
+ghost use Rattle.std.specs.Prelude.{◌≡◌, map, IfOk, IfErr};
+ghost use Rattle.amqp_session.specs.Calls.{Widen, Grant, Drain, Take, Settle, Detach};
+ghost use Rattle.amqp_endpoint.specs.Endpoints.{call_of, answer_of, accepted_by, dropped_by, handed_by, IsReplay};
+ghost use Rattle.amqp_endpoint.specs.Runs.{Does};
+
+use crate::call::{Answer, Call};
+use crate::config::Config;
+use crate::endpoint::Endpoint;
+use crate::fault::CallFault;
+use amqp_link::Taken;
+use std::alloc::{AllocError, Allocator};
+
+/// Makes these calls on a new endpoint, and answers it with their answers. An error where memory for the endpoint or
+/// for an answer is refused.
+pub fn replay<A: Allocator + Copy>(
+    alloc: A,
+    config: Config<A>,
+    calls: &[Call<'_>],
+) -> Result<(Endpoint<A>, Vec<Answer<A>, A>), AllocError>
+    ensures { IfOk result (λ r. IsReplay config (map call_of calls.now) (map answer_of r.1.items) r.0) }
+{
+    let mut endpoint = Endpoint::new(alloc, config)?;
+    let mut answers = Vec::with_capacity(alloc, calls.len())?;
+    for call in calls {
+        answers.push_reserved(endpoint.call(alloc, call)?);
+    }
+    Ok((endpoint, answers))
+}
+
+impl<A: Allocator + Copy> Endpoint<A> {
+    /// Makes one call. Only the bytes of an output take memory; where that is refused nothing has changed.
+    pub fn call(&mut self, alloc: A, call: &Call<'_>) -> Result<Answer<A>, AllocError>
+        ensures ok { IfOk result (λ answer. Does self.old self.new (call_of call.now) (answer_of answer)) }
+        ensures err { IfErr result (λ _. self.new ≡ self.old) }
+    {
+        Ok(match *call {
+            Call::Feed(piece) => Answer::Fed(self.feed(piece)),
+            Call::Grant { channel, handle, n } => accepted(self.grant(channel, handle, n)),
+            Call::Widen { channel, n } => accepted(self.widen(channel, n)),
+            Call::Drain { channel, handle } => accepted(self.drain(channel, handle)),
+            Call::Take { channel, handle } => handed_up(self.take(channel, handle)),
+            Call::Settle {
+                channel,
+                id,
+                outcome,
+            } => accepted(self.settle(channel, id, outcome)),
+            Call::Detach { channel, handle } => dropped(self.detach(channel, handle)),
+            Call::Close => dropped(self.close()),
+            Call::Heartbeat => accepted(self.heartbeat()),
+            Call::Output(room) => Answer::MovedOut(self.output_to_vec(alloc, room)?),
+            Call::Held => Answer::Holds(self.held()),
+            Call::Finish => Answer::Ended(self.finish()),
+        })
+    }
+}
+
+/// The answer of a call that gives nothing.
+fn accepted<A: Allocator + Copy>(given: Result<(), CallFault>) -> Answer<A>
+    ensures { answer_of result ≡ accepted_by given }
+{
+    match given {
+        Ok(()) => Answer::Accepted,
+        Err(fault) => Answer::Refused(fault),
+    }
+}
+
+/// The answer of one that gives how many ready deliveries were dropped.
+fn dropped<A: Allocator + Copy>(given: Result<u32, CallFault>) -> Answer<A>
+    ensures { answer_of result ≡ dropped_by given }
+{
+    match given {
+        Ok(count) => Answer::Dropped(count),
+        Err(fault) => Answer::Refused(fault),
+    }
+}
+
+/// The answer of a take.
+fn handed_up<A: Allocator + Copy>(given: Result<Taken<A>, CallFault>) -> Answer<A>
+    ensures { answer_of result ≡ handed_by given }
+{
+    match given {
+        Ok(taken) => Answer::HandedUp(taken),
+        Err(fault) => Answer::Refused(fault),
+    }
+}

@@ -1,0 +1,11 @@
+//! `amqp replay`: a script of calls, run on a new endpoint, with a line for each answer.
+//!
+//! [`replay_script`] reads a script whole and checks each of its lines before it runs the first. `docs/PROTOCOL.md` has
+//! the lines' format.
+#![tactic(auto)]
+
+mod answers;
+mod lines;
+mod replay;
+
+pub use replay::{ScriptFault, replay_script};

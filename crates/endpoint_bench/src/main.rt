@@ -1,0 +1,23 @@
+//! Times messages through an endpoint, from the bytes of a peer.
+#![tactic(auto)]
+
+mod case;
+mod delivery;
+mod measure;
+mod stream;
+
+use crate::case::cases;
+use bench_order::order_of;
+use std::env;
+
+/// How the program is run.
+const USAGE: &str = "usage: endpoint_bench run [CASE] [ROUNDS]";
+
+/// Measures what the command line asks for, or says how to ask.
+fn main(rt: HostRuntime) -> Result<(), measure::Failure> {
+    let words: Vec<String> = env::args(&rt)?.collect(rt.alloc())?;
+    match order_of(&words, &cases()) {
+        Some(order) => measure::run(&rt, rt.alloc(), order),
+        None => Ok(println!(rt; "{USAGE}")?),
+    }
+}

@@ -1,0 +1,165 @@
+//! What an endpoint shows of itself, and what `replay` answers.
+
+use amqp_endpoint::{Answer, Call, Config, Endpoint, Event, Outcome, replay};
+use std::alloc::{AllocError, Allocator};
+use std::test::Fail;
+
+/// The peer's header, open, begin and attach.
+const STREAM: &[u8] =
+    b"AMQP\x00\x01\x00\x00\x00\x00\x00\x11\x02\x00\x00\x00\x00\x53\x10\xc0\x04\x01\xa1\x01a\x00\x00\x00\x14\x02\x00\x00\x00\x00\x53\x11\xc0\x07\x04\x40\x43\x52\x64\x52\x64\x00\x00\x00\x20\x02\x00\x00\x00\x00\x53\x12\xc0\x13\x0a\xa1\x01l\x43\x42\x40\x40\x00\x53\x28\x45\x00\x53\x29\x45\x40\x40\x43";
+
+/// A delivery with the id 0 in three transfers.
+const PARTS: [&[u8]; 3] = [
+    b"\x00\x00\x00\x19\x02\x00\x00\x00\x00\x53\x14\xc0\x09\x06\x43\x43\xa0\x01t\x40\x40\x41abc",
+    b"\x00\x00\x00\x15\x02\x00\x00\x00\x00\x53\x14\xc0\x07\x06\x43\x40\x40\x40\x40\x41d",
+    b"\x00\x00\x00\x10\x02\x00\x00\x00\x00\x53\x14\xc0\x02\x01\x43e",
+];
+
+/// An endpoint of the container 'r', with frames of 512 bytes, channel 0, the handles 0 and 1, four deliveries of ten bytes
+/// for a link, and a window of 100 places.
+fn config<A: Allocator + Copy>(alloc: A) -> Result<Config<A>, Fail> {
+    let name = String::from_str(alloc, "r")?;
+    Ok(Config::checked(name, 512, 0, 1, 4, 10, 100).ok_or("refused settings")?)
+}
+
+/// Feeds all of a stream, and answers the last outcome.
+fn feed_all<A: Allocator + Copy>(endpoint: &mut Endpoint<A>, stream: &[u8]) -> Outcome {
+    let mut at = 0;
+    let mut last = Outcome::More;
+    for _ in 0..stream.len() {
+        let fed = endpoint.feed(stream.get(at..).unwrap_or(&[]));
+        at = at.saturating_add(fed.used).min(stream.len());
+        if fed.used > 0 {
+            last = fed.outcome;
+        }
+    }
+    last
+}
+
+#[test]
+fn settings_have_their_ranges(rt: HostRuntime) -> Result<(), Fail> {
+    let alloc = rt.alloc();
+    let long =
+        "rrrrrrrrrrrrrrrrrrrrrrrrrrrrrrrrrrrrrrrrrrrrrrrrrrrrrrrrrrrrrrrrrrrrrrrrrrrrrrrrrrrrrrrrrrrrrrrrrrrrrrrrrrrrrrrrrrrrrrrrrrrrrrrr";
+    let mut longest = String::from_str(alloc, long)?;
+    longest.push_str(&long[1..])?;
+    let least = ("r", [512, 0, 0, 1, 1, 0]);
+    let most = (
+        longest.as_str(),
+        [1048576, 255, 255, 1024, 1 << 30, (1 << 31) - 1],
+    );
+    let makes = |(
+        name,
+        [
+            max_frame,
+            channel_max,
+            handle_max,
+            allowed,
+            max_message,
+            window,
+        ],
+    ): (&str, [u32; 6])| -> Result<bool, AllocError> {
+        let name = String::from_str(alloc, name)?;
+        Ok(Config::checked(
+            name,
+            max_frame,
+            channel_max,
+            handle_max,
+            allowed,
+            max_message,
+            window,
+        )
+        .is_some())
+    };
+    assert!(rt; makes(least)?);
+    assert!(rt; makes(most)?);
+    assert!(rt; !makes(("", least.1))?);
+    for (index, below) in [511, 0, 0, 0, 0, 0].into_iter().enumerate() {
+        let mut settings = least.1;
+        settings[index] = below;
+        assert_eq!(rt;
+            makes(("r", settings))?,
+            matches!(index, 1 | 2 | 5),
+            "{index}"
+        );
+        let mut settings = most.1;
+        settings[index] = settings[index].saturating_add(1);
+        assert!(rt; !makes(("r", settings))?, "{index}");
+    }
+    longest.push('r')?;
+    assert_eq!(rt; longest.len(), 256);
+    assert!(rt; !makes((&longest, least.1))?);
+    Ok(())
+}
+
+#[test]
+fn an_endpoint_shows_its_windows_and_links(rt: HostRuntime) -> Result<(), Fail> {
+    let alloc = rt.alloc();
+    let mut endpoint = Endpoint::new(alloc, config(alloc)?.copy(alloc)?)?;
+    assert_eq!(rt; endpoint.window(0), None);
+    assert!(rt; endpoint.link(0, 0).is_none());
+    let attached = Outcome::Event(Event::Attached {
+        channel: 0,
+        handle: 0,
+    });
+    assert_eq!(rt; feed_all(&mut endpoint, STREAM), attached);
+    assert_eq!(rt; endpoint.window(0), Some(100));
+    assert_eq!(rt; endpoint.window(1), None);
+    assert!(rt; endpoint.link(0, 1).is_none());
+    assert!(rt; endpoint.link(65535, 0).is_none());
+    assert_eq!(rt; endpoint.grant(0, 0, 1), Ok(()));
+    for part in PARTS {
+        let _ = endpoint.feed(part);
+    }
+    let link = endpoint.link(0, 0).ok_or("no link")?;
+    assert_eq!(rt;
+        (link.name, link.source, link.target),
+        (
+            b"l".as_slice(),
+            b"\x00\x53\x28\x45".as_slice(),
+            b"\x00\x53\x29\x45".as_slice()
+        )
+    );
+    assert_eq!(rt; (link.credit, link.opened, link.ready), (0, 1, 1));
+    assert_eq!(rt; endpoint.window(0), Some(97));
+    let taken = endpoint.take(0, 0).ok().ok_or("nothing taken")?;
+    let message = taken.message.to_vec(alloc)?;
+    assert_eq!(rt; message.as_slice(), b"abcde".as_slice());
+    assert_eq!(rt; endpoint.detach(0, 0), Ok(0));
+    assert!(rt; endpoint.link(0, 0).is_none());
+    Ok(())
+}
+
+#[test]
+fn a_replay_has_an_answer_for_each_call(rt: HostRuntime) -> Result<(), Fail> {
+    let alloc = rt.alloc();
+    let calls = [
+        Call::Feed(&STREAM[..8]),
+        Call::Held,
+        Call::Output(5),
+        Call::Heartbeat,
+        Call::Take {
+            channel: 0,
+            handle: 0,
+        },
+        Call::Finish,
+    ];
+    let (endpoint, answers) = replay(alloc, config(alloc)?, &calls)?;
+    assert_eq!(rt; answers.len(), 6);
+    assert_eq!(rt; endpoint.held(), 3);
+    match answers.as_slice() {
+        [
+            Answer::Fed(fed),
+            Answer::Holds(8),
+            Answer::MovedOut(moved),
+            Answer::Refused(_),
+            Answer::Refused(_),
+            Answer::Ended(_),
+        ] => {
+            assert_eq!(rt; (fed.used, fed.outcome), (8, Outcome::More));
+            assert_eq!(rt; moved.as_slice(), b"AMQP\x00".as_slice());
+            Ok(())
+        }
+        _ => Err(Fail::from("another answer")),
+    }
+}
