@@ -1,6 +1,6 @@
 //! The command line.
 
-use clap::{Arg, ArgMatches, Command};
+use clap::{Arg, ArgMatches, Command, value_parser};
 use std::alloc::{AllocError, Global};
 
 /// What `amqp --version` names.
@@ -10,11 +10,84 @@ const VERSION: &str = "0.1.0";
 #[derive(Clone, Copy, Debug, PartialEq, Eq)]
 pub enum Order<'a> {
     /// To print the frames of this file.
-    Dump { file: &'a str },
+    Dump {
+        file: &'a str,
+    },
     /// To run the calls of this script.
-    Replay { script: &'a str },
+    Replay {
+        script: &'a str,
+    },
+    /// To serve connections at this address.
+    Recv {
+        address: &'a str,
+        settings: RecvSettings,
+    },
     /// To send this file as one message to the listener at this address.
-    Send { address: &'a str, file: &'a str },
+    Send {
+        address: &'a str,
+        file: &'a str,
+    },
+}
+
+/// How many connections are served, and with which settings.
+#[derive(Clone, Copy, Debug, PartialEq, Eq)]
+pub struct RecvSettings {
+    pub connections: u32,
+    pub max_frame: u32,
+    pub allowed: u32,
+    pub max_message: u32,
+    pub window: u32,
+}
+
+/// An option that takes a number between these two.
+fn number<'a>(alloc: Global, name: &'a str, least: i64, most: i64, default: &'a str) -> Arg<'a> {
+    Arg::new(alloc, name)
+        .long(name)
+        .value_name("N")
+        .value_parser(value_parser!(u32).range(least..=most))
+        .default_value(default)
+}
+
+/// The command that serves connections.
+fn recv_line<'a>(alloc: Global) -> Result<Command<'a>, AllocError> {
+    let address = Arg::new(alloc, "ADDR")
+        .long("listen")
+        .required(true)
+        .help("Where to listen: HOST:PORT");
+    let connections = number(alloc, "connections", 1, 1000, "1").help(
+        "How many connections are served, one after the other",
+    );
+    let max_frame = number(alloc, "max-frame", 512, 1048576, "65536").help(
+        "The longest frame that is accepted, in bytes",
+    );
+    let allowed = number(alloc, "allowed", 1, 1024, "16").help(
+        "The deliveries that a link may have open, and its credit",
+    );
+    let max_message = number(alloc, "max-message", 1, 1073741824, "1048576").help(
+        "The longest message, in bytes",
+    );
+    let window = number(alloc, "window", 0, 2147483647, "2048").help(
+        "The places of a session's window at its begin",
+    );
+    Command::new(alloc, "recv")
+        .about("Serves connections, and writes the records of their messages")
+        .arg(address)?
+        .arg(connections)?
+        .arg(max_frame)?
+        .arg(allowed)?
+        .arg(max_message)?
+        .arg(window)
+}
+
+/// The settings of a command line that was read as one of [`recv_line`].
+fn recv_settings(recv: &ArgMatches<'_>) -> Option<RecvSettings> {
+    Some(RecvSettings {
+        connections: recv.get_one("connections")?,
+        max_frame: recv.get_one("max-frame")?,
+        allowed: recv.get_one("allowed")?,
+        max_message: recv.get_one("max-message")?,
+        window: recv.get_one("window")?,
+    })
 }
 
 /// The command line that `amqp` takes.
@@ -47,6 +120,7 @@ pub fn command_line<'a>(alloc: Global) -> Result<Command<'a>, AllocError> {
         .arg_required_else_help(true)
         .subcommand(dump)?
         .subcommand(replay)?
+        .subcommand(recv_line(alloc)?)?
         .subcommand(send)
 }
 
@@ -56,6 +130,11 @@ pub fn order_of<'a>(matches: &ArgMatches<'a>) -> Option<Order<'a>> {
         let address = send.get_str("ADDR")?;
         let file = send.get_str("FILE")?;
         return Some(Order::Send { address, file });
+    }
+    if let Some(recv) = matches.subcommand_matches("recv") {
+        let address = recv.get_str("ADDR")?;
+        let settings = recv_settings(recv)?;
+        return Some(Order::Recv { address, settings });
     }
     if let Some(replay) = matches.subcommand_matches("replay") {
         let script = replay.get_str("SCRIPT")?;

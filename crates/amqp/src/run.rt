@@ -3,15 +3,18 @@
 ghost use Rattle.std.specs.Prelude.{◌≡◌};
 ghost use Rattle.amqp.specs.declared.run.Fault.TheVariants.{NoMemory};
 
-use crate::command::{Order, command_line, order_of};
+use crate::command::{Order, RecvSettings, command_line, order_of};
+use crate::recv::recv_on;
 use crate::send::Fate;
 use crate::send_file::{FileFault, send_file};
 use amqp_dump::{DumpFault, dump};
+use amqp_endpoint::{Config, Policy};
 use amqp_frame::Device;
+use amqp_perform::Outcome;
 use amqp_script::{ScriptFault, replay_script};
 use clap::error::ErrorKind;
 use std::alloc::AllocError;
-use std::net::Net;
+use std::net::{Net, TcpListener};
 use std::process::ExitCode;
 use std::rt::{Env, Files};
 use std::{env, fs, io};
@@ -67,6 +70,7 @@ fn obey<R: Print + Eprint + Env + Files + Net + AllocGlobal>(rt: &R) -> Result<E
     };
     match order_of(&matches) {
         Some(Order::Dump { file }) => dump_file(rt, file),
+        Some(Order::Recv { address, settings }) => recv(rt, address, settings),
         Some(Order::Replay { script }) => replay_file(rt, script),
         Some(Order::Send { address, file }) => send(rt, address, file),
         None => Ok(ExitCode::from(USAGE)),
@@ -127,6 +131,63 @@ fn replay_file<R: Print + Files + AllocGlobal>(rt: &R, path: &str) -> Result<Exi
         Ok(()) => Ok(ExitCode::SUCCESS),
         Err(fault) => Err(Fault::Script(fault)),
     }
+}
+
+/// The container-id of the receiver, and the highest channel and handle that it offers.
+const RECEIVER: &str = "recv";
+
+const CHANNEL_MAX: u32 = 7;
+
+const HANDLE_MAX: u32 = 7;
+
+/// Serves connections, with the records on standard output and how each was served on standard error.
+fn recv<R: Print + Eprint + Net + AllocGlobal>(
+    rt: &R,
+    address: &str,
+    settings: RecvSettings,
+) -> Result<ExitCode, Fault> {
+    let alloc = rt.alloc();
+    let name = String::from_str(alloc, RECEIVER)?;
+    let RecvSettings {
+        connections,
+        max_frame,
+        allowed,
+        max_message,
+        window,
+    } = settings;
+    let Some(config) = Config::checked(
+        name,
+        max_frame,
+        CHANNEL_MAX,
+        HANDLE_MAX,
+        allowed,
+        max_message,
+        window,
+    ) else {
+        return Ok(ExitCode::from(USAGE));
+    };
+    let Ok(listener) = TcpListener::bind(rt, address) else {
+        return Err(Fault::Open);
+    };
+    let policy = Policy {
+        credit: allowed,
+        outcome: Outcome::Accepted,
+    };
+    let mut sink = Device::new(io::writer(rt));
+    let all_closed = recv_on(
+        alloc,
+        &listener,
+        &config,
+        policy,
+        connections,
+        &mut sink,
+        rt,
+    );
+    Ok(if all_closed {
+        ExitCode::SUCCESS
+    } else {
+        ExitCode::FAILURE
+    })
 }
 
 /// Sends a file, and prints what became of it on standard output.

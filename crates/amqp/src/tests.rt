@@ -307,7 +307,7 @@ fn runs_a_script(rt: HostRuntime) -> Result<(), Fail> {
 }
 
 #[test]
-fn says_that_no_receiver_listens(rt: HostRuntime) -> Result<(), Fail> {
+fn says_that_an_address_is_not_open(rt: HostRuntime) -> Result<(), Fail> {
     let words = ["amqp", "send", "--to", "127.0.0.1:5672", "a.amqp"];
     let file = Bytes {
         bytes: b"hi",
@@ -318,6 +318,10 @@ fn says_that_no_receiver_listens(rt: HostRuntime) -> Result<(), Fail> {
         assert!(rt; run(&host) == ExitCode::FAILURE);
         assert_eq!(rt; host.err.into_inner().as_str(), "fault: Open\n");
     }
+    let words = ["amqp", "recv", "--listen", "127.0.0.1:5672"];
+    let host = host_of(rt.alloc(), &words, None);
+    assert!(rt; run(&host) == ExitCode::FAILURE);
+    assert_eq!(rt; host.err.into_inner().as_str(), "fault: Open\n");
     Ok(())
 }
 
@@ -327,12 +331,16 @@ fn answers_a_command_line(rt: HostRuntime) -> Result<(), Fail> {
     let host = host_of(alloc, &["amqp", "--version"], None);
     assert!(rt; run(&host) == ExitCode::SUCCESS);
     assert_eq!(rt; host.out.into_inner().as_str(), "amqp 0.1.0\n");
-    let lines: [&[&str]; 5] = [
+    let lines: [&[&str]; 9] = [
         &["amqp"],
         &["amqp", "dump"],
         &["amqp", "dump", "a", "b"],
         &["amqp", "replay"],
         &["amqp", "send", "a"],
+        &["amqp", "recv"],
+        &["amqp", "recv", "--listen", "a:1", "--allowed", "0"],
+        &["amqp", "recv", "--listen", "a:1", "--connections", "1001"],
+        &["amqp", "recv", "--listen", "a:1", "--max-frame", "x"],
     ];
     for words in lines {
         let host = host_of(alloc, words, None);

@@ -1,5 +1,6 @@
 -- What was printed of a stream so far, and at its end.
-use Rattle.std.proofs.Common.{◌≡◌, ℕ, Bool, true, false, not, ◌||◌, List, [], ◌∷◌, ◌++◌, take, Option, Some, None, Result, Ok, Err, OnErr, IfOk, IfSome, IsTrue, inl, inr, ◌⊎◌, refl, sym, ap, subst, ◌∙◌, append_assoc, append-nil}
+use Rattle.std.proofs.Common.{◌≡◌, ℕ, Bool, true, false, not, ◌||◌, List, [], ◌∷◌, ◌++◌, take, Option, Some, None, Result, Ok, Err, OnErr, IfOk, IfSome, IsTrue, inl, inr, ◌⊎◌, refl, sym, ap, subst}
+use Rattle.std.proofs.Common.{◌∙◌, append_assoc, append-nil}
 use Rattle.std.proofs.KnownBytes.{Appends-nil, Appends-trans, Appends-kept, Consumes-nil}
 use Rattle.std.proofs.lemmas.Bool.{false≢true}
 use Rattle.std.proofs.lemmas.List.Folds.{list_any-append}
@@ -188,7 +189,11 @@ end_began held now new s item bytes h ends (inl k) = record {
 }
 end_began held now new s item bytes h ends (inr p) =
     began_line held now new [] p.0 s bytes bytes (entry_of item) true h
-    (λ more none. ([], subst (λ (x : List Entry). TellsOf (bytes ++ more) x) (sym (append-nil (h.entries ++ entry_of item ∷ []))) (alone bytes (h.entries ++ entry_of item ∷ []) (ends bytes h.entries h.told) more none))) p.1
+    (λ more none. (
+      [],
+      subst (λ (x : List Entry). TellsOf (bytes ++ more) x) (sym (append-nil (h.entries ++ entry_of item ∷ []))) (alone bytes (h.entries ++ entry_of item ∷ [])
+          (ends bytes h.entries h.told) more none),
+    )) p.1
 
 -- what was begun whatever follows was begun where something follows or not
 pub begun_weak : (held now : Option (List ℕ)) (bytes : List ℕ) (all : Bool) → BeginsDump held now bytes false → BeginsDump held now bytes all

@@ -1,5 +1,6 @@
 -- What was told of a stream so far, and what is told of it at its end.
-use Rattle.std.proofs.Common.{◌≡◌, ℕ, zero-add, add-zero, ◌+◌, ◌-◌, ◌<◌, ◌≤◌, inl, inr, Bool, true, false, cond, ◌==◌, ◌||◌, List, [], ◌∷◌, ◌++◌, length, take, drop, Some, refl, sym, ap, subst, ◌∙◌, arith, rules}
+use Rattle.std.proofs.Common.{◌≡◌, ℕ, zero-add, add-zero, ◌+◌, ◌-◌, ◌<◌, ◌≤◌, inl, inr, Bool, true, false, cond, ◌==◌, ◌||◌, List, [], ◌∷◌, ◌++◌, length, take, drop, Some, refl, sym, ap, subst, ◌∙◌}
+use Rattle.std.proofs.Common.{arith, rules}
 use Rattle.std.proofs.Math.Seq.{take-length, take-add}
 use Rattle.std.proofs.lemmas.Bool.{false≢true, cases_lt}
 use Rattle.std.proofs.lemmas.List.{length-append, length-drop, take-append-drop, append_assoc, append-nil}
@@ -225,7 +226,8 @@ pub told_more : (now : SplitterState) (place : ℕ) (bytes : List ℕ) (entries 
     → is_fault (entry_of item) ≡ false
     → HasTold s bytes (entries ++ entry_of item ∷ [])
 told_more now place bytes entries s item w t d p clean =
-    let l = ap length (flat_map-append bytes_of w.units (t.unit ∷ []) ∙ ap (λ (x : List ℕ). flat_map bytes_of w.units ++ x) (append-nil (bytes_of t.unit))) ∙ length-append (flat_map bytes_of w.units) (bytes_of t.unit) in
+    let l = ap length (flat_map-append bytes_of w.units (t.unit ∷ []) ∙ ap (λ (x : List ℕ). flat_map bytes_of w.units ++ x) (append-nil (bytes_of t.unit)))
+    ∙ length-append (flat_map bytes_of w.units) (bytes_of t.unit) in
     let n = ap length t.waits.whole in
     let e = w.behind in
     record {

@@ -42,7 +42,8 @@ read_entry place size channel start valid (Err fault) = FaultEntry (place + star
 
 -- the entry of a frame by its body: where there is none it has no value
 abbrev pub body_entry : (place size channel start : ℕ) → List ℕ → Entry
-body_entry place size channel start body = if length body == 0 then FrameEntry place size channel None false 0 else read_entry place size channel start (is_some (body_at body)) (decoded LIMITS.depth LIMITS.nodes body)
+body_entry place size channel start body = if length body == 0 then FrameEntry place size channel None false 0 else read_entry place size channel start (is_some (body_at body))
+    (decoded LIMITS.depth LIMITS.nodes body)
 
 -- the entry of the eight bytes in the header's place
 abbrev pub header_entry : ℕ → List ℕ → Entry

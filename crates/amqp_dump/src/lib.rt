@@ -1,7 +1,8 @@
 //! The dump of one direction of a connection: a line for its header, for each of its frames, and for the first
 //! fault.
 //!
-//! [`dump`] reads from a `Device`, prints the lines of all frames that came, and reads again.
+//! [`dump`] (`printer`) reads a piece from a `Device`, has `scan` cut it into units and tell of each (`scanned`), prints
+//! their lines (`lines`, values by `text`), and reads again.
 //! `specs/Entries.antt` has what is told of a stream, `specs/Printing.antt` what is printed of it.
 #![tactic(auto)]
 

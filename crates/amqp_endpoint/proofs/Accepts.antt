@@ -33,7 +33,8 @@ use Rattle.amqp_endpoint.specs.declared.phase.Phase.TheVariants as phase
 use Rattle.amqp_endpoint.specs.Configs.{Configured}
 use Rattle.amqp_endpoint.specs.Connections.{ConnectionState, ConnectionEvent, ConnectionMay, channels, slot_at, lesser, channel_limit, is_unopened, is_open, is_closing, is_dead}
 use Rattle.amqp_endpoint.specs.Fields.{whole_in, Read, Opens, Begins, Ends, Closes, ForSession, Other, begin_in, attach_in, transfer_in, read_in}
-use Rattle.amqp_endpoint.specs.Lines.{Line, attach_too_high, by_fault, session_line, on_live, channel_line, opened_line, unopened_line, read_line, unread_line, body_line, frame_line, is_read_close, closing_line, line_of, begun_terms, event_on}
+use Rattle.amqp_endpoint.specs.Lines.{Line, attach_too_high, by_fault, session_line, on_live, channel_line, opened_line, unopened_line, read_line, unread_line, body_line, frame_line, is_read_close}
+use Rattle.amqp_endpoint.specs.Lines.{closing_line, line_of, begun_terms, event_on}
 use Rattle.amqp_endpoint.specs.Lines as line
 use Rattle.amqp_endpoint.specs.Calls.{dead_fault, at_session, of_option, writes, full_fault, call_fault, slot_event, call_event}
 use Rattle.amqp_endpoint.specs.Histories.{phase_of, part, state_of, IsSoundPart, Sound}
@@ -100,7 +101,8 @@ read_ranged _ cells payload all = tt
 record Stands (s : ConnectionState) : Type 0 where
   long : length s.sessions ≡ channels s.config
   limit : channel_limit s.phase ≤ s.config.channel_max
-  frames : (channel : ℕ) (t : SessionState) (f : Frame) → slice_get s.sessions channel ≡ Some (Live t) → IsInRange t.terms.handle_max f → session.session_fault t f ≡ None → SessionMay t (session.event_of t f)
+  frames : (channel : ℕ) (t : SessionState) (f : Frame) → slice_get s.sessions channel ≡ Some (Live t) → IsInRange t.terms.handle_max f → session.session_fault t f ≡ None →
+      SessionMay t (session.event_of t f)
   calls : (channel : ℕ) (t : SessionState) (c : asks.Call) → slice_get s.sessions channel ≡ Some (Live t) → IsCallInRange c → asks.call_fault t c ≡ None → SessionMay t (asks.call_event t c)
   none : is_open s.phase ≡ false → (channel : ℕ) → slot_at s channel ≡ Free
 
@@ -326,7 +328,8 @@ stands_for frames calls config h sound =
       limit = sound.limit;
       frames = λ channel t f e range none.
           let place = got (channels config) at channel (Live t) e in
-          live_sound (λ (x : SessionState). IsInRange x.terms.handle_max f → session.session_fault x f ≡ None → SessionMay x (session.event_of x f)) config (λ terms hs whole. frames terms hs f whole) (part channel h)
+          live_sound (λ (x : SessionState). IsInRange x.terms.handle_max f → session.session_fault x f ≡ None → SessionMay x (session.event_of x f)) config
+          (λ terms hs whole. frames terms hs f whole) (part channel h)
           (sound.sessions channel place.0) t place.1 range none;
       calls = λ channel t c e range none.
           let place = got (channels config) at channel (Live t) e in

@@ -1,19 +1,21 @@
 -- What a connection keeps, counted over its history, and how much that is at most.
-use Rattle.std.proofs.Common.{arith, ◌≡◌, ℕ, zero, suc, ◌+◌, ◌*◌, ◌<◌, ◌≤◌, List, ◌∷◌, refl, ap, add-mul}
-use Rattle.std.specs.Prelude.{sum_by}
-use Rattle.std.proofs.lemmas.List.Sums.{sum_by-cons}
+use Rattle.std.proofs.Common.{arith, ◌≡◌, ℕ, zero, suc, ◌+◌, ◌*◌, ◌<◌, ◌≤◌, List, ◌∷◌, length, subst, refl, sym, ap, ◌∙◌, add-mul}
+use Rattle.std.specs.Prelude.{sum_by, not}
+use Rattle.std.proofs.lemmas.List.Sums.{sum_by-cons, count_by-le-length}
 use Rattle.amqp_session.specs.declared.slot.Slot.{Slot}
 use Rattle.amqp_session.specs.declared.slot.Slot.TheVariants.{Free, Live, Waits}
 use Rattle.amqp_session.specs.declared.terms.SessionTerms.{SessionTerms}
 use Rattle.amqp_link.specs.Bounds.{Bounds}
+use Rattle.amqp_session.specs.Faults.{is_free}
 use Rattle.amqp_session.specs.Histories as session
 use Rattle.amqp_session.specs.Laws as laws
 use Rattle.amqp_session.specs.Places.{Life, IfLive, tabulate, life_state}
 use Rattle.amqp_session.specs.Sessions.{SessionState, SessionEvent, session_bytes}
 use Rattle.amqp_endpoint.specs.Configs.{Configured}
-use Rattle.amqp_endpoint.specs.Connections.{ConnectionEvent, channels, channel_bytes, connection_bytes}
-use Rattle.amqp_endpoint.specs.Held.{channel_used, session_count, channel_links, link_count, link_most, parts, part_bytes}
+use Rattle.amqp_endpoint.specs.Connections.{ConnectionState, ConnectionEvent, channels, channel_bytes, connection_bytes}
+use Rattle.amqp_endpoint.specs.Held.{channel_used, session_count, channel_links, link_count, link_most, parts, part_bytes, HoldsWithin}
 use Rattle.amqp_endpoint.specs.Histories.{part, state_of, IsSoundPart, Sound}
+use Rattle.amqp_endpoint.specs.Steps.{EndpointState}
 
 -- what the sessions owe
 abbrev pub SessionCounted : Type 0
@@ -71,3 +73,65 @@ pub connection_within : SessionBound → (config : Configured) (h : List Connect
     connection_bytes (state_of config h) ≤ 64 * session_count (state_of config h) + link_count (state_of config h) * link_most config
 connection_within law config h sound =
     sum_within (link_most config) (λ k. life_state session.state_of (part k h)) 0 (channels config) (λ k l. one_within law config (part k h) (sound.sessions k (omega (arith, l))))
+
+-- How many sessions and links there are. --------------------------------------------------------------------------------
+
+one_session : (x : Slot SessionState) → channel_used x ≤ 1
+one_session Free = omega arith
+one_session (Live s) = omega arith
+one_session Waits = omega arith
+
+sessions_few : (f : ℕ → Slot SessionState) (k n : ℕ) → sum_by channel_used (tabulate k n f) ≤ n
+sessions_few f k zero = omega arith
+sessions_few f k (suc n) = omega (arith, one_session (f k), sessions_few f (suc k) n, sum_by-cons channel_used (f k) (tabulate (suc k) n f))
+
+-- where each place has at most so many links if it has a session, and else none
+links_few : (most : ℕ) (f : ℕ → Slot SessionState) (k n : ℕ) → ((j : ℕ) → j < k + n → channel_links (f j) ≤ channel_used (f j) * most) →
+    sum_by channel_links (tabulate k n f) ≤ sum_by channel_used (tabulate k n f) * most
+links_few most f k zero each = omega arith
+links_few most f k (suc n) each =
+    let rest = tabulate (suc k) n f in
+    let here = each k (omega arith) in
+    let later = links_few most f (suc k) n (λ j l. each j (omega (arith, l))) in
+    let both : sum_by channel_used (f k ∷ rest) * most ≡ (channel_used (f k) + sum_by channel_used rest) * most = ap (λ (n : ℕ). n * most) (sum_by-cons channel_used (f k) rest) in
+    omega (arith, here, later, sum_by-cons channel_links (f k) rest, both, add-mul (channel_used (f k)) (sum_by channel_used rest) most)
+
+table_long : {A : Type 0} (k n : ℕ) (f : ℕ → A) → length (tabulate k n f) ≡ n
+table_long k zero f = refl
+table_long k (suc n) f = omega (arith, table_long (suc k) n f)
+
+-- a session has at most a link for each handle
+one_links : (config : Configured) (l : Slot (Life SessionTerms SessionEvent)) → IfLive (λ life. IsSoundPart config life.0 life.1) l →
+    channel_links (life_state session.state_of l) ≤ channel_used (life_state session.state_of l) * suc config.handle_max
+one_links config Free sound = omega arith
+one_links config (Live l) sound =
+    let s = session.state_of l.0 l.1 in
+    let few = count_by-le-length (λ x. not (is_free x)) s.links in
+    let long = table_long 0 (suc l.0.handle_max) (λ k. life_state session.live_state (session.part k l.1)) in
+    omega (arith, few, long, sound.begun.handles)
+one_links config Waits sound = omega arith
+
+-- what is owed of the bytes of a connection
+abbrev pub IsHeldCount : Type 0
+IsHeldCount = (config : Configured) (h : List ConnectionEvent) → connection_bytes (state_of config h) ≡ sum_by part_bytes (parts config h)
+
+abbrev pub IsHeldBound : Type 0
+IsHeldBound = (config : Configured) (h : List ConnectionEvent) → Sound config h →
+    connection_bytes (state_of config h) ≤ 64 * session_count (state_of config h) + link_count (state_of config h) * link_most config
+
+added : (filled unsent kept max sessions links : ℕ) → filled ≤ max → unsent ≤ 8192 → kept ≤ 64 * sessions + links → filled + unsent + kept ≤ max + 8192 + 64 * sessions + links
+added filled unsent kept max sessions links a b c = omega (arith, a, b, c)
+
+pub within : IsHeldCount → IsHeldBound → (config : Configured) (h : List ConnectionEvent) (s : EndpointState) → s.connection ≡ state_of config h → Sound config h →
+    length s.input.filled ≤ config.max_frame → length s.unsent ≤ 8192 → HoldsWithin config h s
+within count bound config h s e sound buffer output =
+    let slots = λ (k : ℕ). life_state session.state_of (part k h) in record {
+      counted = ap (λ (c : ConnectionState). length s.input.filled + length s.unsent + connection_bytes c) e ∙ ap (λ (n : ℕ). length s.input.filled + length s.unsent + n) (count config h);
+      buffer = buffer;
+      output = output;
+      most = added (length s.input.filled) (length s.unsent) (connection_bytes s.connection) config.max_frame (session_count s.connection) (link_count s.connection * link_most config) buffer output
+          (subst (λ (c : ConnectionState). connection_bytes c ≤ 64 * session_count c + link_count c * link_most config) (sym e) (bound config h sound));
+      sessions = subst (λ (c : ConnectionState). session_count c ≤ channels config) (sym e) (sessions_few slots 0 (channels config));
+      links = subst (λ (c : ConnectionState). link_count c ≤ session_count c * suc config.handle_max) (sym e)
+          (links_few (suc config.handle_max) slots 0 (channels config) (λ k l. one_links config (part k h) (sound.sessions k (omega (arith, l)))));
+    }

@@ -2,7 +2,7 @@
 use Rattle.std.proofs.Common.{arith, ◌≡◌, ℕ, zero, suc, ◌*◌, ◌≤◌, ◌⊎◌, inl, inr, List, [], ◌∷◌, ◌++◌, length, take, drop, refl, sym, ap, ◌∙◌, subst}
 use Rattle.std.specs.Prelude.{unwrap_or, slice_get}
 use Rattle.std.proofs.lemmas.Bool.{cases_lt}
-use Rattle.std.proofs.lemmas.List.{append-nil, take-append-drop}
+use Rattle.std.proofs.lemmas.List.{append-nil, take-append-drop, length-take-le}
 use Rattle.amqp_frame.specs.Splits.{SplitterState, Waits, IsOne, IsHeld, IsEmptied}
 use Rattle.amqp_frame.specs.Units.{StreamUnit, HeaderUnit, FrameUnit, FaultUnit, bytes_of, due_after, IsUnit, IsRest, IsSized, IsPlaced, size_of, offset_of, type_of}
 use Rattle.amqp_frame.specs.declared.units.FrameFault.TheVariants.{TooSmall, TooLarge, BadOffset, BadType}
@@ -41,6 +41,10 @@ sized_few max s m l r z =
         | inr within ↦ placed_few max s m l r z (record { least = least; within = within })
       ]
     ]
+
+-- less than a header is less than eight bytes
+pub header_few : (max : ℕ) (s : List ℕ) → 8 ≤ length s → IsRest max Header s → ⊥
+header_few max s l r = refuted max Header s 8 (HeaderUnit (take 8 s)) r refl (length-take-le 8 s l)
 
 -- less than a unit is less than the longest frame
 pub rest_few : (max : ℕ) (s : List ℕ) → 8 ≤ max → max ≤ length s → IsRest max Frames s → ⊥
@@ -87,12 +91,13 @@ pub record IsEnded (old new : SplitterState) : Type 0 where
   pub filled : new.filled ≡ []
   pub header : new.stage ≡ Header → old.stage ≡ Header
 
-due_no_header : (u : StreamUnit) → due_after u ≡ Header → ⊥
+pub due_no_header : (u : StreamUnit) → due_after u ≡ Header → ⊥
 due_no_header (HeaderUnit bytes) e = absurd (grind (arith, e))
 due_no_header (FrameUnit bytes) e = absurd (grind (arith, e))
 due_no_header (FaultUnit f bytes) e = absurd (grind (arith, e))
 
-pub ended : (old new : SplitterState) → IsHeld old.limit old.stage old.filled → ((u : StreamUnit) → Waits old u → IsEmptied old new (due_after u)) → ((IsOne old.limit old.stage old.filled → ⊥) → IsEmptied old new old.stage) → IsEnded old new
+pub ended : (old new : SplitterState) → IsHeld old.limit old.stage old.filled → ((u : StreamUnit) → Waits old u → IsEmptied old new (due_after u)) →
+    ((IsOne old.limit old.stage old.filled → ⊥) → IsEmptied old new old.stage) → IsEnded old new
 ended old new held goes rest = by_one (one_or_not old.limit old.stage old.filled held)
   where
     by_one : IsOne old.limit old.stage old.filled ⊎ (IsOne old.limit old.stage old.filled → ⊥) → IsEnded old new
@@ -104,7 +109,8 @@ gone_at k [] i = refl
 gone_at k (s ∷ slots) zero = refl
 gone_at k (s ∷ slots) (suc i) = gone_at (suc k) slots i
 
-pub still_sound : (old new : SplitterState) (unsent : List ℕ) (s : ConnectionState) → IsEndpoint old unsent s → IsEnded old new → IsHeld new.limit new.stage new.filled → IsEndpoint new unsent (connection_after s Finished)
+pub still_sound : (old new : SplitterState) (unsent : List ℕ) (s : ConnectionState) → IsEndpoint old unsent s → IsEnded old new → IsHeld new.limit new.stage new.filled →
+    IsEndpoint new unsent (connection_after s Finished)
 still_sound old new unsent s sound ended held = record {
   limit = ended.limit ∙ sound.limit;
   least = omega (arith, ended.limit, sound.least);
@@ -120,7 +126,7 @@ is_finished old input s ended e = record { limit = ended.limit; filled = ended.f
 
 -- At the start. ---------------------------------------------------------------------------------------------------------
 
-free_at : (k n i : ℕ) → unwrap_or (slice_get (tabulate {A = Slot SessionState} k n (λ j. Free)) i) Free ≡ Free
+pub free_at : (k n i : ℕ) → unwrap_or (slice_get (tabulate {A = Slot SessionState} k n (λ j. Free)) i) Free ≡ Free
 free_at k zero i = refl
 free_at k (suc n) zero = refl
 free_at k (suc n) (suc i) = free_at (suc k) n i

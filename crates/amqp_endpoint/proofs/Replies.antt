@@ -30,7 +30,8 @@ use Rattle.amqp_session.specs.declared.terms.SessionTerms.{SessionTerms}
 use Rattle.amqp_session.specs.Calls.{Call, Widen, Grant, Drain, Take, Settle, Detach, call_event, call_answer, settles_at_once, standing_in}
 use Rattle.amqp_session.specs.Faults as session
 use Rattle.amqp_session.specs.Faults.{or_else, where_so, refusal, attach_fault, attach_answer, link_flow, slot_flow, failure_answer, flow_answer, echo_answer, detach_answer}
-use Rattle.amqp_session.specs.Frames.{Attaching, Flowing, Frame, Attaches, Flows, Transfers, Disposes, Detaches, is_coordinator, attach_said, count_stated, refusal_said, detach_said, failure_said, flow_said, link_flow_said, disposition_said}
+use Rattle.amqp_session.specs.Frames.{Attaching, Flowing, Frame, Attaches, Flows, Transfers, Disposes, Detaches, is_coordinator, attach_said, count_stated, refusal_said, detach_said, failure_said}
+use Rattle.amqp_session.specs.Frames.{flow_said, link_flow_said, disposition_said}
 use Rattle.amqp_perform.specs.declared.modes.Role.{Role}
 use Rattle.amqp_perform.specs.declared.modes.Role.TheVariants as of_role
 use Rattle.amqp_session.specs.Sessions.{SessionState, LiveLink, session_after}
@@ -42,7 +43,8 @@ use Rattle.amqp_endpoint.specs.Fields.{Read, Opens, Begins, Ends, Closes, ForSes
 use Rattle.amqp_endpoint.specs.Lengths.{cell_most, said_most}
 use Rattle.amqp_endpoint.proofs.Lengths.{number_long}
 use Rattle.amqp_endpoint.specs.Lines as line
-use Rattle.amqp_endpoint.specs.Lines.{Line, attach_too_high, by_fault, session_line, channel_line, opened_line, unopened_line, read_line, unread_line, body_line, frame_line, is_read_close, closing_line, line_of, begun_terms}
+use Rattle.amqp_endpoint.specs.Lines.{Line, attach_too_high, by_fault, session_line, channel_line, opened_line, unopened_line, read_line, unread_line, body_line, frame_line, is_read_close}
+use Rattle.amqp_endpoint.specs.Lines.{closing_line, line_of, begun_terms}
 use Rattle.amqp_endpoint.specs.Replies.{joined, open_said, begin_said, end_said, close_said, close_spoken, aloud, on_channel, reply_on}
 
 abbrev pub SaidLong : Type 0
@@ -138,7 +140,8 @@ short_ends : (terms : SessionTerms) (a : Attaching) → refusal terms a ≡ None
 short_ends terms a e =
     let second = (neither (where_so (is_receiver a.role || is_coordinator a.target) condition.NotImplemented) _ e).1 in
     ltb-false 1024 (length a.source + length a.target)
-    (not_so (nat_lt 1024 (length a.source + length a.target)) condition.ResourceLimitExceeded (neither (where_so (nat_lt 1024 (length a.source + length a.target)) condition.ResourceLimitExceeded) _ second).0)
+    (not_so (nat_lt 1024 (length a.source + length a.target)) condition.ResourceLimitExceeded
+    (neither (where_so (nat_lt 1024 (length a.source + length a.target)) condition.ResourceLimitExceeded) _ second).0)
 
 slot_flow_long : (t : SessionState) (handle : ℕ) (x : Slot LiveLink) → all_most (slot_flow t handle x) ≤ 2560
 slot_flow_long t handle Free = omega arith
@@ -221,7 +224,8 @@ module _ (law : SaidLong) (s : ConnectionState) (short : length s.config.contain
 
   session_fits : (channel : ℕ) (t : SessionState) (f : Frame) → Fits s (session_line channel t f)
   session_fits channel t f =
-      one_of (Fits s) (attach_too_high t f) line.HandleTooHigh (by_fault channel t f (session.session_fault t f)) (λ high. close_long condition.FramingError) (λ low. by_it (session.session_fault t f) refl)
+      one_of (Fits s) (attach_too_high t f) line.HandleTooHigh (by_fault channel t f (session.session_fault t f)) (λ high. close_long condition.FramingError)
+      (λ low. by_it (session.session_fault t f) refl)
     where
       by_it : (o : Option SessionFault) → session.session_fault t f ≡ o → Fits s (by_fault channel t f o)
       by_it None none = let m = channel_long law channel (session.answer_of t f) in omega (arith, m, answer_long t f none)

@@ -5,6 +5,7 @@ use Rattle.amqp_endpoint.specs.Configs.{Configured}
 use Rattle.amqp_endpoint.specs.Endpoints.{IsReplay}
 use Rattle.amqp_endpoint.specs.Runs.{Call, Answer, Does, Run}
 use Rattle.amqp_endpoint.specs.Steps.{EndpointState}
+use Rattle.amqp_endpoint.specs.Traces.{IsInRange, AreInRange}
 
 pub run_more : (s : EndpointState) (calls : List Call) (answers : List Answer) (mid last : EndpointState) (c : Call) (a : Answer) →
     Run s calls answers mid → Does mid last c a → Run s (calls ++ c ∷ []) (answers ++ a ∷ []) last
@@ -26,3 +27,11 @@ replay_on f v config xs i d before after a mid last l e r does =
     let given = ap (λ w. map v w) e ∙ map-append v before (a ∷ []) in
     subst (λ (calls : List Call). IsReplay config calls (map v after) last) (sym (map_more f xs i d l))
     (subst (λ (answers : List Answer). IsReplay config (map f (take i xs) ++ f (get_or xs i d) ∷ []) answers last) (sym given) more)
+
+ranges_more : (calls : List Call) (c : Call) → AreInRange calls → IsInRange c → AreInRange (calls ++ c ∷ [])
+ranges_more [] c all one = (one, tt)
+ranges_more (x ∷ calls) c all one = (all.0, ranges_more calls c all.1 one)
+
+-- one call in hand more is in range
+pub ranges_on : {X : Type 0} (f : X → Call) (xs : List X) (i : ℕ) (d : X) → i < length xs → AreInRange (map f (take i xs)) → IsInRange (f (get_or xs i d)) → AreInRange (map f (take (i + 1) xs))
+ranges_on f xs i d l all one = subst (λ (calls : List Call). AreInRange calls) (sym (map_more f xs i d l)) (ranges_more (map f (take i xs)) (f (get_or xs i d)) all one)

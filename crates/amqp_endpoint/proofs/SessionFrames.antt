@@ -2,12 +2,13 @@
 use Rattle.std.proofs.Common.{arith, ◌≡◌, ℕ, zero, suc, ◌+◌, ◌≤◌, subst, Bool, true, false, List, [], ◌∷◌, ◌++◌, length, refl, sym, ap, ◌∙◌, Option, Some, None, Result, Ok, Err}
 use Rattle.std.specs.Prelude.{slice_get, slice_set, unwrap_or, if◌then◌else◌}
 use Rattle.amqp_perform.specs.declared.performative.Performative.{Performative}
+use Rattle.amqp_perform.specs.declared.performative.Transfer.{Transfer}
 use Rattle.amqp_perform.specs.declared.performative.Performative.TheVariants as performative
 use Rattle.amqp_perform.specs.Conditions.{condition_span}
 use Rattle.std.proofs.lemmas.List.{length-append}
 use Rattle.amqp_perform.specs.Said.{Said, said_frame}
 use Rattle.amqp_perform.specs.declared.condition.Condition.{Condition}
-use Rattle.amqp_link.specs.Links.{sent_of}
+use Rattle.amqp_link.specs.Links.{Sent, sent_of}
 use Rattle.amqp_session.specs.declared.news.News.{News}
 use Rattle.amqp_session.specs.declared.done.Answer.{Answer}
 use Rattle.amqp_session.specs.declared.done.Answer.TheVariants as answer
@@ -17,13 +18,13 @@ use Rattle.amqp_session.specs.declared.fault.SessionFault.TheVariants as fault
 use Rattle.amqp_session.specs.declared.slot.Slot.{Slot}
 use Rattle.amqp_session.specs.declared.slot.Slot.TheVariants.{Free, Live, Waits}
 use Rattle.amqp_session.specs.Answers.{answer_said}
-use Rattle.amqp_session.specs.Faults.{session_fault, event_of, answer_of, frame_may_grow, session_condition, IsRefusal}
+use Rattle.amqp_session.specs.Faults.{failure_answer, session_fault, event_of, answer_of, frame_may_grow, session_condition, IsRefusal}
 use Rattle.amqp_session.specs.Frames.{Frame, Attaches, Flows, Transfers, Disposes, Detaches, frame_of, attaching, flowing, disposing}
 use Rattle.amqp_session.specs.Sessions.{SessionState, SessionEvent, session_after}
 use Rattle.amqp_endpoint.specs.declared.event.Event.{Event}
 use Rattle.amqp_endpoint.specs.declared.event.Event.TheVariants as told
 use Rattle.amqp_endpoint.specs.declared.event.Scope.TheVariants as scope
-use Rattle.amqp_endpoint.specs.Acting.{IsDone, IsWithout, IsLive, IsForSession, FrameDone, IsFramed, IsUnframed, is_beyond, replied, ending}
+use Rattle.amqp_endpoint.specs.Acting.{IsTold, IsDone, IsWithout, IsLive, IsForSession, FrameDone, IsFramed, IsUnframed, is_beyond, replied, ending}
 use Rattle.amqp_endpoint.specs.Connections as event
 use Rattle.amqp_endpoint.specs.Connections.{ConnectionState, connection_after, slot_at, channel_ready}
 use Rattle.amqp_endpoint.specs.Lines as line
@@ -66,6 +67,12 @@ beyond_is (performative.Disposition p) payload t f e = ap (λ (g : Frame). attac
 beyond_is (performative.Detach p) payload t f e = ap (λ (g : Frame). attach_too_high t g) (same_frame (Detaches p.handle p.closed) f e)
 beyond_is (performative.End p) payload t f e = absurd (grind (arith, e))
 beyond_is (performative.Close p) payload t f e = absurd (grind (arith, e))
+
+-- a transfer is no attach
+pub transfer_low : (x : Slot SessionState) (p : Transfer) → false ≡ is_beyond x (performative.Transfer p)
+transfer_low Free p = refl
+transfer_low (Live t) p = refl
+transfer_low Waits p = refl
 
 -- what is written for an answer is what it says of the frame
 replied_is : (p : Performative) (payload : List ℕ) (t : SessionState) (f : Frame) (x : Answer) → frame_of p payload ≡ Some f → replied (Live t) p x ≡ answer_said t.terms f x
@@ -188,4 +195,26 @@ module _ (s new : ConnectionState) (channel : ℕ) (p : Performative) (payload :
         told = ap (λ (e : Event). Some e)
             (tells ∙ ap (λ (x : ConnectionState). told.Failed (scope.Session channel) c (channel_ready (slot_at x channel))) unframed.same
             ∙ ap (λ (c : Condition). told.Failed (scope.Session channel) c (channel_ready (slot_at s channel))) why);
+      })
+
+-- Of a transfer. ----------------------------------------------------------------------------------------------------------
+
+module _ (s new : ConnectionState) (channel handle : ℕ) (x : Sent) (t : SessionState) where
+  transfer_line : (o : Option SessionFault) → session_fault t (Transfers handle x) ≡ o → session_line channel t (Transfers handle x) ≡ by_fault channel t (Transfers handle x) o
+  transfer_line o e = ap (λ (o : Option SessionFault). by_fault channel t (Transfers handle x) o) e
+
+  pub failure_fits : SaidLong → (n : News) → IsTold s new channel t (Transfers handle x) n → length (joined (on_channel channel (failure_answer n))) ≤ 2560
+  failure_fits law n done =
+      let m = channel_long law channel (answer_of t (Transfers handle x)) in
+      let short : length (joined (on_channel channel (answer_of t (Transfers handle x)))) ≤ 2560 = omega (arith, m, answer_long t (Transfers handle x) done.accepted) in
+      subst (λ (m : News). length (joined (on_channel channel (failure_answer m))) ≤ 2560) (sym done.news) short
+
+  -- it is taken
+  pub transfer_taken : (n : News) → IsTold s new channel t (Transfers handle x) n → (before after : List ℕ) (event : Option Event) →
+      after ≡ before ++ joined (on_channel channel (failure_answer n)) → event ≡ news_told channel n → IsDone s new before after (session_line channel t (Transfers handle x)) event
+  transfer_taken n done before after event written tells =
+      subst (λ (l : Line). IsDone s new before after l event) (sym (transfer_line None done.accepted)) (record {
+        connection = done.after;
+        unsent = written ∙ ap (λ (m : News). before ++ joined (on_channel channel (failure_answer m))) done.news;
+        told = tells ∙ ap (λ (m : News). news_told channel m) done.news;
       })

@@ -13,7 +13,8 @@ use Rattle.amqp_endpoint.specs.declared.phase.Phase.{Phase}
 use Rattle.amqp_endpoint.specs.declared.phase.Phase.TheVariants as phase
 use Rattle.amqp_endpoint.specs.Configs.{Configured}
 use Rattle.amqp_endpoint.specs.Connections as event
-use Rattle.amqp_endpoint.specs.Connections.{ConnectionState, ConnectionEvent, channels, channel_limit, is_dead, is_open, is_end, is_own_close, opened_by, phase_after, happens, connection_begins, connection_after}
+use Rattle.amqp_endpoint.specs.Connections.{ConnectionState, ConnectionEvent, channels, channel_limit, is_dead, is_open, is_end, is_own_close, opened_by, phase_after, happens, connection_begins}
+use Rattle.amqp_endpoint.specs.Connections.{connection_after}
 use Rattle.amqp_endpoint.specs.Connections.{IsTimely, IsOffered, IsBegun, ConnectionMay}
 use Rattle.amqp_endpoint.specs.Histories.{opening_in, phase_of, part, state_of, IsSoundPart, Sound, after_all, Accepted}
 

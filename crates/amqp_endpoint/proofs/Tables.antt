@@ -53,7 +53,8 @@ pub none_after : (slots : Table) → From 0 Nothing slots ≡ slots
 none_after slots = none_from 0 Nothing slots (λ j l s. refl)
 
 -- something happens at one place, and nothing elsewhere
-one_from : (k place : ℕ) (x : Happens SessionTerms SessionEvent) (slots : Table) (i : ℕ) (s new : Slot SessionState) → place ≡ k + i → ((j : ℕ) → (place ≡ j → ⊥) → (t : Slot SessionState) → At j x t ≡ t) →
+one_from : (k place : ℕ) (x : Happens SessionTerms SessionEvent) (slots : Table) (i : ℕ) (s new : Slot SessionState) → place ≡ k + i →
+    ((j : ℕ) → (place ≡ j → ⊥) → (t : Slot SessionState) → At j x t ≡ t) →
     At place x s ≡ new → slice_get slots i ≡ Some s → From k x slots ≡ slice_set slots i new
 one_from k place x [] i s new at only here e = absurd (grind (arith, e))
 one_from k place x (t ∷ slots) zero s new at only here e =

@@ -9,13 +9,14 @@ use Rattle.amqp_session.specs.declared.done.Answer.TheVariants as answer
 use Rattle.amqp_session.specs.declared.done.Done.{Done}
 use Rattle.amqp_session.specs.declared.fault.SessionFault.{SessionFault}
 use Rattle.amqp_session.specs.declared.fault.SessionFault.TheVariants as fault
+use Rattle.amqp_session.specs.declared.news.News.{News}
 use Rattle.amqp_session.specs.declared.slot.Slot.{Slot}
 use Rattle.amqp_session.specs.declared.slot.Slot.TheVariants.{Free, Live, Waits}
 use Rattle.amqp_session.specs.Answers as session
 use Rattle.amqp_session.specs.Answers.{said_by, answer_said, IsWithin, IsFrameRefusal}
 use Rattle.amqp_session.specs.Faults.{session_fault, session_condition, event_of, news_of, answer_of, IsRefusal}
 use Rattle.amqp_session.specs.Frames.{Attaching, Frame, attaching, attach_said, refusal_said}
-use Rattle.amqp_session.specs.Sessions.{SessionState}
+use Rattle.amqp_session.specs.Sessions.{SessionState, session_after}
 use Rattle.amqp_endpoint.specs.Connections.{InSession}
 use Rattle.amqp_endpoint.specs.declared.event.Event.{Event}
 use Rattle.amqp_endpoint.specs.Connections.{ConnectionState, connection_after}
@@ -63,6 +64,20 @@ PlaceDone (Live old) (Live new) f (Ok done) = session.HasDone old new f done
 PlaceDone (Live old) (Live new) f (Err e) = IsFrameRefusal old f e × (new ≡ old)
 PlaceDone _ _ f result = ⊥
 
+-- the session took a transfer, of which this is told
+pub record IsTransferred (old new : SessionState) (f : Frame) (told : News) : Type 0 where
+  pub accepted : session_fault old f ≡ None
+  pub after : new ≡ session_after old (event_of old f)
+  pub news : told ≡ news_of old f
+
+abbrev pub SessionTransferred : SessionState → SessionState → Frame → Result News SessionFault → Type 0
+SessionTransferred old new f (Ok told) = IsTransferred old new f told
+SessionTransferred old new f (Err e) = IsRefusal old f e × (new ≡ old)
+
+abbrev pub PlaceTransferred : Slot SessionState → Slot SessionState → Frame → Result News SessionFault → Type 0
+PlaceTransferred (Live old) (Live new) f result = SessionTransferred old new f result
+PlaceTransferred _ _ f result = ⊥
+
 -- an attach's handle is above the session's highest
 abbrev pub is_beyond : Slot SessionState → Performative → Bool
 is_beyond (Live s) (performative.Attach p) = nat_lt s.terms.handle_max p.handle
@@ -103,3 +118,13 @@ pub record IsUnframed (old new : ConnectionState) (s : SessionState) (f : Frame)
 abbrev pub FrameDone : ConnectionState → ConnectionState → ℕ → SessionState → Frame → Result Done SessionFault → Type 0
 FrameDone old new channel s f (Ok done) = IsFramed old new channel s f done
 FrameDone old new channel s f (Err e) = IsUnframed old new s f e
+
+-- the session on a channel took a transfer, of which this is told
+pub record IsTold (old new : ConnectionState) (channel : ℕ) (s : SessionState) (f : Frame) (told : News) : Type 0 where
+  pub accepted : session_fault s f ≡ None
+  pub after : new ≡ connection_after old (InSession channel (event_of s f))
+  pub news : told ≡ news_of s f
+
+abbrev pub TransferDone : ConnectionState → ConnectionState → ℕ → SessionState → Frame → Result News SessionFault → Type 0
+TransferDone old new channel s f (Ok told) = IsTold old new channel s f told
+TransferDone old new channel s f (Err e) = IsUnframed old new s f e

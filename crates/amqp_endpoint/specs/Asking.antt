@@ -1,5 +1,6 @@
 -- What becomes of a call for a session, seen from the session, from its place, and from the connection with its output.
 use Rattle.std.specs.Prelude.{◌≡◌, ℕ, List, [], ◌∷◌, ◌++◌, Some, None, Result, Ok, Err}
+use Rattle.amqp_perform.specs.declared.performative.Disposition.{Disposition}
 use Rattle.amqp_perform.specs.declared.performative.Performative.TheVariants as performative
 use Rattle.amqp_perform.specs.Said.{Said, said}
 use Rattle.amqp_link.specs.declared.link.Taken.{Taken}
@@ -21,21 +22,23 @@ use Rattle.amqp_endpoint.specs.Connections.{ConnectionState, connection_after, s
 use Rattle.amqp_endpoint.specs.Replies.{on_channel, joined}
 
 -- the call that a request is
-abbrev pub call_of : Request → session.Call
-call_of (request.Widen n) = session.Widen n
-call_of (request.Grant handle n) = session.Grant handle n
-call_of (request.Drain handle) = session.Drain handle
-call_of (request.Settle id outcome) = session.Settle id outcome
-call_of (request.Detach handle) = session.Detach handle
+abbrev pub asked_of : Request → session.Call
+asked_of (request.Widen n) = session.Widen n
+asked_of (request.Grant handle n) = session.Grant handle n
+asked_of (request.Drain handle) = session.Drain handle
+asked_of (request.Detach handle) = session.Detach handle
 
 -- what is said for it
 abbrev pub asked_said : Asked → Said
 asked_said (asked.Flow p) = said (performative.Flow p)
-asked_said (asked.Disposition p) = said (performative.Disposition p)
 asked_said (asked.Detach p) = said (performative.Detach p)
 
 abbrev pub all_said : Asked → List Said
 all_said a = asked_said a ∷ []
+
+-- a settle says what became of a delivery
+abbrev pub outcome_said : Disposition → List Said
+outcome_said p = said (performative.Disposition p) ∷ []
 
 -- a take says nothing
 abbrev pub none_said : {X : Type 0} → X → List Said

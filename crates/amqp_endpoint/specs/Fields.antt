@@ -22,7 +22,7 @@ abbrev pub number_in : Cell → Option ℕ
 number_in (Whole n) = Some n
 number_in _ = None
 
--- a number that is there, or has a default
+-- a number that is there: one that is missing was read as its default
 abbrev pub whole_in : Cell → ℕ
 whole_in c = unwrap_or (number_in c) 0
 

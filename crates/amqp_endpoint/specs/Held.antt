@@ -1,5 +1,5 @@
 -- Bytes that count as held by an endpoint, counted over its history, and how many they are at most.
-use Rattle.std.specs.Prelude.{ℕ, ◌+◌, ◌*◌, List, length, sum_by}
+use Rattle.std.specs.Prelude.{◌≡◌, ℕ, suc, ◌+◌, ◌*◌, ◌≤◌, List, length, sum_by}
 use Rattle.amqp_session.specs.declared.slot.Slot.{Slot}
 use Rattle.amqp_session.specs.declared.slot.Slot.TheVariants.{Free, Live, Waits}
 use Rattle.amqp_session.specs.declared.terms.SessionTerms.{SessionTerms}
@@ -51,3 +51,18 @@ abbrev pub part_bytes : Slot (Life SessionTerms SessionEvent) → ℕ
 part_bytes Free = 0
 part_bytes (Live l) = 64 + sum_by session.part_bytes (session.parts l.0 l.1)
 part_bytes Waits = 64
+
+-- What an endpoint with this history of its connection holds is counted, and bounded by its configuration.
+pub record HoldsWithin (config : Configured) (h : List ConnectionEvent) (s : EndpointState) : Type 0 where
+  -- held are the bytes in the buffer, those in the output, and those that the parts of the history keep
+  pub counted : held s ≡ length s.input.filled + length s.unsent + sum_by part_bytes (parts config h)
+  -- the buffer holds at most the longest frame
+  pub buffer : length s.input.filled ≤ config.max_frame
+  -- the output holds at most 8192 bytes
+  pub output : length s.unsent ≤ output_size
+  -- all that is held is at most what so many sessions and links may hold
+  pub most : held s ≤ held_most config (session_count s.connection) (link_count s.connection)
+  -- there is at most a session for each channel that is offered
+  pub sessions : session_count s.connection ≤ channels config
+  -- there is at most a link for each handle that is offered on each of them
+  pub links : link_count s.connection ≤ session_count s.connection * suc config.handle_max

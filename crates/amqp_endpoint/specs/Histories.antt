@@ -1,4 +1,5 @@
--- The history of one connection: a list of its events, newest first, and what stands in it, by selections over the whole list and by the part of it that each session has (AMQP 1.0, part 2, sections 2.4 and 2.5).
+-- The history of one connection: a list of its events, newest first, and what stands in it, by selections over the whole list and by the part of it that each
+-- session has (AMQP 1.0, part 2, sections 2.4 and 2.5).
 use Rattle.std.specs.Prelude.{◌≡◌, ℕ, ◌≤◌, false, if◌then◌else◌, List, [], ◌∷◌, Option, None, is_some, unwrap_or}
 use Rattle.std.specs.List.{list_any}
 use Rattle.amqp_session.specs.declared.slot.Slot.{Slot}
@@ -10,7 +11,8 @@ use Rattle.amqp_session.specs.Histories as session
 use Rattle.amqp_endpoint.specs.declared.phase.Phase.{Phase}
 use Rattle.amqp_endpoint.specs.declared.phase.Phase.TheVariants as phase
 use Rattle.amqp_endpoint.specs.Configs.{Configured}
-use Rattle.amqp_endpoint.specs.Connections.{ConnectionState, ConnectionEvent, channels, channel_limit, is_open, connection_begins, connection_after, ConnectionMay, IsBegun, happens, is_end, is_own_close, is_failure, is_peer_close, opened_by}
+use Rattle.amqp_endpoint.specs.Connections.{ConnectionState, ConnectionEvent, channels, channel_limit, is_open, connection_begins, connection_after, ConnectionMay, IsBegun, happens, is_end}
+use Rattle.amqp_endpoint.specs.Connections.{is_own_close, is_failure, is_peer_close, opened_by}
 
 -- what the peer's open fixed, if it came
 abbrev pub opening_in : List ConnectionEvent → Option Phase

@@ -9,7 +9,7 @@ use Rattle.amqp_endpoint.specs.Connections.{ConnectionState, channels, channel_l
 abbrev pub connection_of : Configured → Phase → Bool → Bool → List (Slot SessionState) → ConnectionState
 connection_of config phase failed closed sessions = record { config = config; phase = phase; failed = failed; closed = closed; sessions = sessions }
 
--- there is a place for each channel, and none above the highest is used
+-- there is a place for each channel that is offered, and frames are taken on no other
 pub record IsPlaced (config : Configured) (phase : Phase) (sessions : List (Slot SessionState)) : Type 0 where
   pub long : length sessions ≡ channels config
   pub limit : channel_limit phase ≤ config.channel_max

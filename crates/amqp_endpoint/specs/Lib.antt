@@ -13,3 +13,9 @@ pub mod Acting
 pub mod Asking
 pub mod Runs
 pub mod Endpoints
+pub mod Takings
+pub mod Windows
+pub mod Credits
+pub mod Traces
+pub mod Serving
+pub mod Cuts

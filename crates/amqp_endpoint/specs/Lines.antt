@@ -30,11 +30,11 @@ use Rattle.amqp_endpoint.specs.Fields.{Opening, Beginning, Read, Opens, Begins, 
 
 -- The table. ----------------------------------------------------------------------------------------------------------
 
--- What a unit comes to. Of the lines that hold the first counts, in this order.
+-- What a unit comes to. `line_of` below says which; docs/PROTOCOL.md has the lines as a table, in the order in which they are looked for.
 pub data Line : Type 0 where
   HeaderAccepted : Line  -- the header of this version [2.2]
   HeaderUnknown : Line  -- another
-  FrameBad : Line  -- a frame that is none [2.3.1]
+  FrameBad : Line  -- a frame that is none, unless the peer's close is awaited [2.3.1]
   FrameBadInClosing : Line  -- the same, while the peer's close is awaited
   CloseAwaited : Line  -- the peer's close, while it is awaited [2.4.3]
   DroppedInClosing : Line  -- anything else then
@@ -232,7 +232,7 @@ told_on s line = connection_told s (fault_on line)
 
 -- Memory. -------------------------------------------------------------------------------------------------------------
 
--- A unit may want memory where a session begins, or where its session's frame may.
+-- A unit may want memory where a session begins, since its record is made then, or where its session's frame may.
 abbrev pub may_grow_on : Line → Bool
 may_grow_on (PeerBegins channel b) = true
 may_grow_on (SessionFrame channel s f) = session.frame_may_grow s f

@@ -1,5 +1,5 @@
 -- A whole run of an endpoint: its calls, its answers, and what went before each of them (AMQP 1.0, part 2, sections 2.2 to 2.7).
-use Rattle.std.specs.Prelude.{◌≡◌, ℕ, Bool, if◌then◌else◌, nat_eq, List, [], ◌∷◌, ◌++◌, length, take, drop, Option, Some, None}
+use Rattle.std.specs.Prelude.{◌≡◌, ℕ, Bool, false, if◌then◌else◌, nat_eq, nat_lt, min, List, [], ◌∷◌, ◌++◌, length, take, drop, Option, Some, None}
 use Rattle.amqp_frame.specs.Splits.{IsUnchanged}
 use Rattle.amqp_frame.specs.Units.{StreamUnit}
 use Rattle.amqp_frame.specs.declared.units.Stage.TheVariants as due
@@ -139,6 +139,11 @@ Does old new Held (Holds n) = IsKept old new × (n ≡ held old)
 Does old new Finish (Ended end) = IsFinished old new × (end ≡ end_of old)
 Does old new call answer = ⊥
 
+-- Whether a call may want memory by itself: only for bytes that are moved out. What a feed wants it answers for.
+abbrev pub may_want : EndpointState → Call → Bool
+may_want s (Output room) = nat_lt 0 (min room (length s.unsent))
+may_want s call = false
+
 -- Calls and answers, one by one.
 abbrev pub Run : EndpointState → List Call → List Answer → EndpointState → Type 0
 Run s [] [] last = last ≡ s
@@ -158,11 +163,11 @@ pub record IsStart (config : Configured) (s : EndpointState) : Type 0 where
 
 -- What stands in it: each unit that was acted upon, and each call that was accepted and changed something.
 pub data Happened : Type 0 where
-  Acted : StreamUnit → Happened
-  Called : ℕ → session.Call → Happened
-  Closed : Happened
-  Beat : Happened
-  Over : Happened
+  Acted : StreamUnit → Happened  -- this unit was acted upon
+  Called : ℕ → session.Call → Happened  -- this call for the session on this channel was accepted
+  Closed : Happened  -- a close of the application was accepted
+  Beat : Happened  -- a heartbeat was accepted
+  Over : Happened  -- finish was called
 
 -- the events of the connection that it comes to, the newest first
 abbrev pub event_of : ConnectionState → Happened → List ConnectionEvent

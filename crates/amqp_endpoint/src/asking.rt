@@ -1,8 +1,10 @@
 //! What the application asks of a session: each call is refused with nothing changed, or said to the peer.
-ghost use Rattle.std.specs.Prelude.{◌≡◌, ◌||◌, [], IfOk};
+ghost use Rattle.std.specs.Prelude.{◌≡◌, ◌≤◌, ◌+◌, ◌++◌, ◌||◌, [], length, IfOk};
+ghost use Rattle.amqp_perform.specs.declared.outcome.Outcome.{Outcome};
+ghost use Rattle.amqp_perform.specs.Said.{said_frame};
 ghost use Rattle.amqp_session.specs.Calls.{Widen, Grant, Drain, Take, Settle, Detach, call_fault};
-ghost use Rattle.amqp_endpoint.specs.Asking.{CallAnswered, SlotHandsUp, call_of, ready_at};
-ghost use Rattle.amqp_endpoint.specs.Calls.{at_session};
+ghost use Rattle.amqp_endpoint.specs.Asking.{CallAnswered, SlotHandsUp, asked_said, asked_of, ready_at};
+ghost use Rattle.amqp_endpoint.specs.Calls.{at_session, output_size, reply_room};
 ghost use Rattle.amqp_endpoint.specs.Connections.{is_closing, is_dead, slot_at};
 ghost use Rattle.amqp_endpoint.specs.Runs.{Dropped, accepted_answer};
 
@@ -11,7 +13,7 @@ use crate::fault::CallFault;
 use crate::laws::answers_fit_their_room;
 use crate::output::Output;
 use crate::phase::Phase;
-use crate::request::{Request, fault_of};
+use crate::request::{Asked, Request, fault_of};
 use amqp_link::Taken;
 use amqp_perform::Outcome;
 use amqp_session::{CallFault as SessionCallFault, Session};
@@ -69,7 +71,16 @@ pub fn settle<A: Allocator + Copy>(
 ) -> Result<(), CallFault>
     ensures { CallAnswered connection.old connection.new out.old out.new channel (Settle id outcome) result }
 {
-    ask(connection, out, channel, Request::Settle { id, outcome })
+    answers_fit_their_room();
+    if takes_no_call(connection) {
+        return Err(CallFault::Dead);
+    }
+    if !out.has_room() {
+        return Err(settle_fault(connection, channel, id).unwrap_or(CallFault::Full));
+    }
+    let told = connection.settle(channel, id, outcome)?;
+    out.put_disposition(channel, &told);
+    Ok(())
 }
 
 /// Ends the link at a handle, says so, and answers how many ready deliveries are dropped [2.6.6]. Refused, with
@@ -98,7 +109,7 @@ pub fn take<A: Allocator + Copy>(
     ensures answered { CallAnswered connection.old connection.new [] [] channel (Take handle) result }
     ensures taken { IfOk result (λ taken. SlotHandsUp (slot_at connection.old channel) handle taken) }
 {
-    if is_over(connection) {
+    if takes_no_call(connection) {
         return Err(CallFault::Dead);
     }
     connection.take(channel, handle)
@@ -111,22 +122,34 @@ fn ask<A: Allocator + Copy>(
     channel: u16,
     request: Request,
 ) -> Result<(), CallFault>
-    ensures { CallAnswered connection.old connection.new out.old out.new channel (call_of request) result }
+    ensures { CallAnswered connection.old connection.new out.old out.new channel (asked_of request) result }
 {
     answers_fit_their_room();
-    if is_over(connection) {
+    if takes_no_call(connection) {
         return Err(CallFault::Dead);
     }
     if !out.has_room() {
         return Err(fault(connection, channel, request).unwrap_or(CallFault::Full));
     }
     let asked = connection.ask(channel, request)?;
-    out.put_frame(channel, &asked.performative());
+    say(out, channel, &asked);
     Ok(())
 }
 
-/// Whether the connection is over, or this side has closed it.
-fn is_over<A: Allocator + Copy>(connection: &Connection<A>) -> bool
+/// Writes what is said for a request.
+fn say<A: Allocator + Copy>(out: &mut Output<A>, channel: u16, asked: &Asked)
+    requires short { length (said_frame channel (asked_said asked.now) []) ≤ reply_room }
+    requires room { length out.old + length (said_frame channel (asked_said asked.now) []) ≤ output_size }
+    ensures { out.new ≡ out.old ++ said_frame channel (asked_said asked.now) [] }
+{
+    match asked {
+        Asked::Flow(flow) => out.put_flow(channel, flow),
+        Asked::Detach(detach) => out.put_detach(channel, detach),
+    }
+}
+
+/// Whether any call for a session is refused: the connection is over, or this side has closed it.
+fn takes_no_call<A: Allocator + Copy>(connection: &Connection<A>) -> bool
     ensures { result ≡ (is_dead connection.now.phase || is_closing connection.now.phase) }
 {
     matches!(connection.phase(), Phase::Closing | Phase::Dead)
@@ -138,10 +161,27 @@ fn fault<A: Allocator + Copy>(
     channel: u16,
     request: Request,
 ) -> Option<CallFault>
-    ensures { result ≡ at_session (slot_at connection.now channel) (call_of request) }
+    ensures { result ≡ at_session (slot_at connection.now channel) (asked_of request) }
 {
     match connection.session(channel) {
         Some(session) => match session_fault(session, request) {
+            Some(fault) => Some(fault_of(fault)),
+            None => None,
+        },
+        None => Some(CallFault::NoSession),
+    }
+}
+
+/// Why the session on a channel would refuse a settle, with any outcome; `NoSession` where none is live.
+fn settle_fault<A: Allocator + Copy>(
+    connection: &Connection<A>,
+    channel: u16,
+    id: u32,
+) -> Option<CallFault>
+    ensures { (outcome : Outcome) → result ≡ at_session (slot_at connection.now channel) (Settle id outcome) }
+{
+    match connection.session(channel) {
+        Some(session) => match session.settle_fault(id) {
             Some(fault) => Some(fault_of(fault)),
             None => None,
         },
@@ -154,13 +194,12 @@ fn session_fault<A: Allocator + Copy>(
     session: &Session<A>,
     request: Request,
 ) -> Option<SessionCallFault>
-    ensures { result ≡ call_fault session.now (call_of request) }
+    ensures { result ≡ call_fault session.now (asked_of request) }
 {
     match request {
         Request::Widen { n } => session.widen_fault(n),
         Request::Grant { handle, n } => session.grant_fault(handle, n),
         Request::Drain { handle } | Request::Detach { handle } => session.link_fault(handle),
-        Request::Settle { id, .. } => session.settle_fault(id),
     }
 }
 

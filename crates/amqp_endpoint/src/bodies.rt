@@ -1,6 +1,8 @@
 //! What the endpoint does with a performative of its peer, on a channel that is not too high.
 ghost use Rattle.std.specs.Prelude.{◌≡◌, ℕ, List, ◌≤◌, ◌+◌, length, Some};
-ghost use Rattle.amqp_session.specs.Frames.{Frame, frame_of};
+ghost use Rattle.amqp_perform.specs.declared.performative.Performative.TheVariants as performative;
+ghost use Rattle.amqp_link.specs.Links.{sent_of};
+ghost use Rattle.amqp_session.specs.Frames.{Frame, Transfers, frame_of};
 ghost use Rattle.amqp_endpoint.specs.Acting.{IsForSession, IsDone, HasDone};
 ghost use Rattle.amqp_endpoint.specs.Calls.{output_size, reply_room};
 ghost use Rattle.amqp_endpoint.specs.Connections.{slot_at};
@@ -12,7 +14,7 @@ use crate::event::Event;
 use crate::output::Output;
 use crate::phase::Phase;
 use crate::{closing, frames, sessions};
-use amqp_perform::{Begin, Condition, Open, Performative};
+use amqp_perform::{Begin, Condition, Open, Performative, Transfer};
 use amqp_session::Slot;
 use std::alloc::{AllocError, Allocator};
 
@@ -113,6 +115,44 @@ fn act_on_end<A: Allocator + Copy>(
             channel: channel as u16,
             dropped: connection.session_ended(channel),
         },
+    }
+}
+
+/// Acts upon a transfer with its payload, as upon any performative. Where memory is refused nothing has changed.
+pub fn act_on_transfer<A: Allocator + Copy>(
+    connection: &mut Connection<A>,
+    out: &mut Output<A>,
+    channel: u8,
+    transfer: &Transfer<'_>,
+    payload: &[u8],
+) -> Result<Option<Event>, AllocError>
+    requires room { length out.old + reply_room ≤ output_size }
+    requires channel { channel ≤ connection.old.config.channel_max }
+    ensures { HasDone connection.old connection.new out.old out.new (read_line connection.old channel (read_of (performative.Transfer transfer.now) payload.now)) result }
+{
+    if matches!(connection.phase(), Phase::Unopened) {
+        return Ok(Some(closing::fail(connection, out, Condition::IllegalState)));
+    }
+    transfer_in_session(connection, out, channel, transfer, payload)
+}
+
+/// A transfer: it is dropped where the peer's end is awaited [2.5.4].
+fn transfer_in_session<A: Allocator + Copy>(
+    connection: &mut Connection<A>,
+    out: &mut Output<A>,
+    channel: u8,
+    transfer: &Transfer<'_>,
+    payload: &[u8],
+) -> Result<Option<Event>, AllocError>
+    requires room { length out.old + reply_room ≤ output_size }
+    requires channel { channel ≤ connection.old.config.channel_max }
+    ensures { HasDone connection.old connection.new out.old out.new
+        (channel_line channel (slot_at connection.old channel) (ForSession (Transfers transfer.now.handle (sent_of transfer.now payload.now)))) result }
+{
+    match connection.place(channel) {
+        Slot::Free => Ok(Some(closing::fail(connection, out, Condition::IllegalState))),
+        Slot::Live(_) => sessions::transfer(connection, out, channel, transfer, payload),
+        Slot::Waits => Ok(None),
     }
 }
 

@@ -1,22 +1,23 @@
 //! What stands at the channels.
 ghost use Rattle.std.specs.Prelude.{◌≡◌, ◌≤◌, ◌<◌, ◌^◌, length, map, sum_by, IfOk, IfErr, OnErr};
+ghost use Rattle.amqp_link.specs.Links.{sent_of};
 ghost use Rattle.amqp_session.specs.declared.slot.Slot.TheVariants.{Free};
 ghost use Rattle.amqp_session.specs.Answers.{HasDone, IsFrameRefusal, IsWithin};
-ghost use Rattle.amqp_session.specs.Frames.{frame_of};
+ghost use Rattle.amqp_session.specs.Frames.{Transfers, frame_of};
 ghost use Rattle.amqp_session.specs.Places.{tabulate};
-ghost use Rattle.amqp_session.specs.Calls.{Take};
+ghost use Rattle.amqp_session.specs.Calls.{Take, Settle};
 ghost use Rattle.amqp_session.specs.Sessions.{session_begins, slot_at as link_slot_at};
 ghost use Rattle.amqp_session.specs.Slots.{HandsUp};
-ghost use Rattle.amqp_endpoint.specs.Acting.{TakesIn, PlaceDone};
-ghost use Rattle.amqp_endpoint.specs.Asking.{SessionAsked, SlotAsked, SlotHandsUp, all_said, none_said, call_of};
+ghost use Rattle.amqp_endpoint.specs.Acting.{IsLive, TakesIn, PlaceDone, SessionTransferred, PlaceTransferred};
+ghost use Rattle.amqp_endpoint.specs.Asking.{SessionAsked, SlotAsked, SlotHandsUp, all_said, none_said, outcome_said, asked_of};
 ghost use Rattle.amqp_endpoint.specs.Connections.{channel_bytes, channel_ready};
 
 use crate::fault::CallFault;
 use crate::request::{Asked, Request, fault_of};
 use amqp_link::Taken;
-use amqp_perform::Performative;
+use amqp_perform::{Disposition, Outcome, Performative, Transfer};
 use amqp_session::{
-    CallFault as SessionCallFault, Done, Session, SessionFault, SessionTerms, Slot,
+    CallFault as SessionCallFault, Done, News, Session, SessionFault, SessionTerms, Slot,
 };
 use std::alloc::{AllocError, Allocator, Global};
 use std::marker::Model;
@@ -62,19 +63,34 @@ impl<A: Allocator + Copy> KeptSession<A> {
         self.session.frame(performative, payload)
     }
 
+    /// A transfer with its payload. Where it is refused nothing has changed.
+    fn transfer(&mut self, transfer: &Transfer<'_>, payload: &[u8]) -> Result<News, SessionFault>
+        ensures { SessionTransferred self.old self.new (Transfers transfer.now.handle (sent_of transfer.now payload.now)) result }
+    {
+        self.session.transfer(transfer, payload)
+    }
+
     /// A request of the application. Where it is refused nothing has changed.
     fn ask(&mut self, request: Request) -> Result<Asked, SessionCallFault>
-        ensures { SessionAsked all_said self.old self.new (call_of request) result }
+        ensures { SessionAsked all_said self.old self.new (asked_of request) result }
     {
         match request {
             Request::Widen { n } => Ok(Asked::Flow(self.session.widen(n)?)),
             Request::Grant { handle, n } => Ok(Asked::Flow(self.session.grant(handle, n)?)),
             Request::Drain { handle } => Ok(Asked::Flow(self.session.drain(handle)?)),
-            Request::Settle { id, outcome } => {
-                Ok(Asked::Disposition(self.session.settle(id, outcome)?))
-            }
             Request::Detach { handle } => Ok(Asked::Detach(self.session.detach(handle)?.0)),
         }
+    }
+
+    /// What became of a delivery. Where that is refused nothing has changed.
+    fn settle(
+        &mut self,
+        id: u32,
+        outcome: Outcome,
+    ) -> Result<Disposition<'static>, SessionCallFault>
+        ensures { SessionAsked outcome_said self.old self.new (Settle id outcome) result }
+    {
+        self.session.settle(id, outcome)
     }
 
     /// Hands up the first ready delivery of a link. Where that is refused nothing has changed.
@@ -108,13 +124,45 @@ pub fn frame<A: Allocator + Copy>(
     }
 }
 
+/// A transfer with its payload for the session at a place. Where it is refused nothing has changed.
+pub fn transfer<A: Allocator + Copy>(
+    place: &mut Place<A>,
+    transfer: &Transfer<'_>,
+    payload: &[u8],
+) -> Result<News, SessionFault>
+    requires { IsLive place.old }
+    ensures { PlaceTransferred place.old place.new (Transfers transfer.now.handle (sent_of transfer.now payload.now)) result }
+{
+    match place {
+        Slot::Live(kept) => kept.transfer(transfer, payload),
+        _ => unreachable!(),
+    }
+}
+
 /// A request of the application for the session at a place. Where it is refused nothing has changed.
 pub fn ask<A: Allocator + Copy>(place: &mut Place<A>, request: Request) -> Result<Asked, CallFault>
-    ensures { SlotAsked all_said place.old place.new (call_of request) result }
+    ensures { SlotAsked all_said place.old place.new (asked_of request) result }
 {
     match place {
         Slot::Live(kept) => match kept.ask(request) {
             Ok(asked) => Ok(asked),
+            Err(fault) => Err(fault_of(fault)),
+        },
+        _ => Err(CallFault::NoSession),
+    }
+}
+
+/// What became of a delivery of the session at a place. Where that is refused nothing has changed.
+pub fn settle<A: Allocator + Copy>(
+    place: &mut Place<A>,
+    id: u32,
+    outcome: Outcome,
+) -> Result<Disposition<'static>, CallFault>
+    ensures { SlotAsked outcome_said place.old place.new (Settle id outcome) result }
+{
+    match place {
+        Slot::Live(kept) => match kept.settle(id, outcome) {
+            Ok(told) => Ok(told),
             Err(fault) => Err(fault_of(fault)),
         },
         _ => Err(CallFault::NoSession),
@@ -157,7 +205,7 @@ fn place_held<A: Allocator + Copy>(place: &Place<A>) -> u64
 {
     match place {
         Slot::Free => 0,
-        Slot::Live(kept) => kept.session().held(),
+        Slot::Live(KeptSession { session }) => session.held(),
         Slot::Waits => 64,
     }
 }

@@ -31,9 +31,10 @@ impl<A: Allocator + Copy> Model for Config<A> {
 }
 
 impl<A: Allocator + Copy> Config<A> {
-    /// These settings. `None` where one is outside its range: a container-id of 1 to 255 bytes; frames of at most 512 to
-    /// 1048576 bytes; a channel-max and a handle-max of 0 to 255; 1 to 1024 deliveries that a link is allowed, and
-    /// messages of at most 1 to 2^30 bytes; a window of at most 2147483647 places.
+    /// These settings. `None` where one is outside its range: a container-id of 1 to 255 bytes; `max_frame`, the longest
+    /// frame, 512 to 1048576 bytes [2.7.1]; `channel_max` and `handle_max` 0 to 255; `allowed`, credit and open deliveries
+    /// of a link together, 1 to 1024; `max_message` 1 to 2^30 bytes [2.7.3]; `window`, places of a session at its begin,
+    /// at most 2147483647 [2.5.6].
     pub fn checked(
         container_id: String<A>,
         max_frame: u32,
@@ -62,9 +63,17 @@ impl<A: Allocator + Copy> Config<A> {
         })
     }
 
+    /// A law: its settings are within their ranges.
+    pub(crate) fn is_within(&self)
+        ensures { IsConfigured self.now.container_id self.now.max_frame self.now.window }
+    {
+        let _ = &self.container_id;
+    }
+
     /// The container-id of this side [2.7.1].
     pub fn container_id(&self) -> &str
         ensures name { result.now ≡ self.now.container_id }
+        ensures some { 1 ≤ length result.now }
         ensures short { length result.now ≤ 255 }
     {
         self.container_id.as_str()
@@ -103,12 +112,13 @@ impl<A: Allocator + Copy> Config<A> {
 
     /// The places of a session's window at its begin [2.5.6].
     pub fn window(&self) -> u32
-        ensures { result ≡ self.now.window }
+        ensures value { result ≡ self.now.window }
+        ensures most { result < 2 ^ 31 }
     {
         self.window
     }
 
-    /// An equal one.
+    /// An equal one; an error where memory for the container-id is refused.
     pub fn copy(&self, alloc: A) -> Result<Self, AllocError>
         ensures { IfOk result (λ c. c ≡ self.now) }
     {

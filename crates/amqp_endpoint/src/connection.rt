@@ -1,12 +1,13 @@
 //! One connection: how far it has come, and what stands at its channels.
 ghost use Rattle.std.specs.Prelude.{◌≡◌, ◌≤◌, ◌<◌, ◌+◌, ◌^◌, true, false, Some, None, slice_get, IfOk, OnOk, OnErr, IfSome, IfNone, option_map};
+ghost use Rattle.amqp_link.specs.Links.{sent_of};
 ghost use Rattle.amqp_session.specs.declared.slot.Slot.TheVariants.{Free, Live, Waits};
-ghost use Rattle.amqp_session.specs.Calls.{Take};
-ghost use Rattle.amqp_session.specs.Frames.{Frame, frame_of};
+ghost use Rattle.amqp_session.specs.Calls.{Take, Settle};
+ghost use Rattle.amqp_session.specs.Frames.{Frame, Transfers, frame_of};
 ghost use Rattle.amqp_session.specs.Places.{live_in};
 ghost use Rattle.amqp_session.specs.Sessions.{SessionState};
-ghost use Rattle.amqp_endpoint.specs.Acting.{TakesIn, FrameDone};
-ghost use Rattle.amqp_endpoint.specs.Asking.{IsAsked, SlotHandsUp, all_said, none_said, call_of};
+ghost use Rattle.amqp_endpoint.specs.Acting.{IsLive, TakesIn, FrameDone, TransferDone};
+ghost use Rattle.amqp_endpoint.specs.Asking.{IsAsked, SlotHandsUp, all_said, none_said, outcome_said, asked_of};
 ghost use Rattle.amqp_endpoint.specs.Connections.{connection_begins, connection_after, connection_ready, connection_bytes, channel_ready, channel_limit, slot_at, Opened, Broken, Failed, CloseAsked, PeerClosed, Lost, HeaderRefused, Finished, Begun, SessionFailed, SessionEnded};
 
 use crate::channels::{self, KeptSession, Place};
@@ -15,8 +16,8 @@ use crate::fault::CallFault;
 use crate::phase::Phase;
 use crate::request::{Asked, Request};
 use amqp_link::Taken;
-use amqp_perform::Performative;
-use amqp_session::{Done, Session, SessionFault, SessionTerms, Slot};
+use amqp_perform::{Disposition, Outcome, Performative, Transfer};
+use amqp_session::{Done, News, Session, SessionFault, SessionTerms, Slot};
 use std::alloc::{AllocError, Allocator, Global};
 use std::marker::Model;
 
@@ -119,7 +120,15 @@ impl<A: Allocator + Copy> Connection<A> {
         ensures value { result ≡ connection_bytes self.now }
         ensures most { result < 2 ^ 61 }
     {
-        channels::held(&self.places)
+        let Connection {
+            alloc: _,
+            config: _,
+            phase: _,
+            failed: _,
+            closed: _,
+            places,
+        } = self;
+        channels::held(places)
     }
 
     /// The peer opened it.
@@ -254,6 +263,20 @@ impl<A: Allocator + Copy> Connection<A> {
         channels::frame(&mut self.places[channel as usize], performative, payload)
     }
 
+    /// A transfer with its payload for the live session on a channel. Where it is refused nothing has changed.
+    pub fn transfer(
+        &mut self,
+        channel: u8,
+        transfer: &Transfer<'_>,
+        payload: &[u8],
+    ) -> Result<News, SessionFault>
+        requires channel { channel ≤ self.old.config.channel_max }
+        requires live { IsLive (slot_at self.old channel) }
+        ensures { (s : SessionState) → slot_at self.old channel ≡ Live s → TransferDone self.old self.new channel s (Transfers transfer.now.handle (sent_of transfer.now payload.now)) result }
+    {
+        channels::transfer(&mut self.places[channel as usize], transfer, payload)
+    }
+
     /// The live session on a channel; `None` where none is live.
     pub fn session(&self, channel: u16) -> Option<&Session<A>>
         ensures { option_map (λ s. s.now) result ≡ live_in (slot_at self.now channel) }
@@ -266,13 +289,29 @@ impl<A: Allocator + Copy> Connection<A> {
 
     /// A request of the application for the session on a channel. Where it is refused nothing has changed.
     pub fn ask(&mut self, channel: u16, request: Request) -> Result<Asked, CallFault>
-        ensures { IsAsked all_said self.old self.new channel (call_of request) result }
+        ensures { IsAsked all_said self.old self.new channel (asked_of request) result }
     {
         let place = channel as usize;
         if place >= self.places.len() {
             return Err(CallFault::NoSession);
         }
         channels::ask(&mut self.places[place], request)
+    }
+
+    /// What became of a delivery of the session on a channel. Where that is refused nothing has changed.
+    pub fn settle(
+        &mut self,
+        channel: u16,
+        id: u32,
+        outcome: Outcome,
+    ) -> Result<Disposition<'static>, CallFault>
+        ensures { IsAsked outcome_said self.old self.new channel (Settle id outcome) result }
+    {
+        let place = channel as usize;
+        if place >= self.places.len() {
+            return Err(CallFault::NoSession);
+        }
+        channels::settle(&mut self.places[place], id, outcome)
     }
 
     /// Hands up the first ready delivery of a link of the session on a channel. Where that is refused nothing has

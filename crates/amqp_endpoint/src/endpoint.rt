@@ -90,7 +90,7 @@ impl<A: Allocator + Copy> Endpoint<A> {
     pub fn feed(&mut self, piece: &[u8]) -> Fed
         ensures { IsFed self.old self.new piece.now result.used result.outcome }
     {
-        if self.is_dead() {
+        if self.is_over() {
             return Fed {
                 used: 0,
                 outcome: Outcome::Dead,
@@ -99,13 +99,6 @@ impl<A: Allocator + Copy> Endpoint<A> {
         let used = self.input.push(piece);
         let outcome = self.act();
         Fed { used, outcome }
-    }
-
-    /// Whether the connection is over.
-    fn is_dead(&self) -> bool
-        ensures { result ≡ is_dead self.now.connection.phase }
-    {
-        matches!(self.connection.phase(), Phase::Dead)
     }
 
     /// Acts upon the unit that waits, if one does.
@@ -133,16 +126,34 @@ impl<A: Allocator + Copy> Endpoint<A> {
         self.out.read_into(out)
     }
 
-    /// The same into a vector of the bytes that are moved, at most `room`. Where memory for it is refused nothing has
-    /// changed.
+    /// The same into a vector of the bytes that are moved, at most `room`. Where memory for some bytes is refused nothing
+    /// has changed.
     pub(crate) fn output_to_vec(&mut self, alloc: A, room: u32) -> Result<Vec<u8, A>, AllocError>
         ensures ok { IfOk result (λ bytes. IsMoved self.old self.new room bytes.items) }
-        ensures err { IfErr result (λ _. self.new ≡ self.old) }
+        ensures err { IfErr result (λ _. (self.new ≡ self.old) × (0 < min room (length self.old.unsent))) }
     {
         let count = self.out.len().min(room as usize);
+        if count == 0 {
+            return Ok(Vec::new(alloc));
+        }
         let mut bytes = Vec::from_elem(alloc, 0, count)?;
         self.out.read_into(bytes.as_mut_slice());
         Ok(bytes)
+    }
+
+    /// What it was set up with.
+    pub fn config(&self) -> &Config<A>
+        ensures { result.now ≡ self.now.connection.config }
+    {
+        self.connection.config()
+    }
+
+    /// Whether the connection is over: it takes no more bytes.
+    pub fn is_over(&self) -> bool
+        ensures value { result ≡ is_dead self.now.connection.phase }
+        ensures stage { IsOver self.now.input.stage → result ≡ true }
+    {
+        matches!(self.connection.phase(), Phase::Dead)
     }
 
     /// The bytes that count as held: those in the buffer for a frame, those that wait to be sent, and for each
@@ -150,7 +161,7 @@ impl<A: Allocator + Copy> Endpoint<A> {
     pub fn held(&self) -> u64
         ensures { result ≡ held self.now }
     {
-        self.input.len() as u64 + self.out.len() as u64 + self.connection.held()
+        fields_listed(self)
     }
 
     /// The places that are left of the incoming window of the session on a channel [2.5.6]; `None` where no session is
@@ -168,8 +179,8 @@ impl<A: Allocator + Copy> Endpoint<A> {
         self.connection.session(channel)?.link(handle)
     }
 
-    /// Gives the link at a handle `n` places of credit more, and writes the flow that says so [2.6.7]. Refused, with
-    /// nothing changed, with the first of `Dead`, `NoSession`, `NoLink`, `TooMuchCredit` and `Full`.
+    /// Gives the link at a handle `n` places of credit more, and writes the flow that says so [2.6.7]. The sender is then
+    /// no longer asked to use its credit up, where `n` is 0 too. Refused, with nothing changed, with the first of `Dead`, `NoSession`, `NoLink`, `TooMuchCredit` and `Full`.
     pub fn grant(&mut self, channel: u16, handle: u32, n: u32) -> Result<(), CallFault>
         ensures { CallDone self.old self.new channel (Grant handle n) (accepted_by result) }
     {
@@ -209,7 +220,7 @@ impl<A: Allocator + Copy> Endpoint<A> {
         asking::settle(&mut self.connection, &mut self.out, channel, id, outcome)
     }
 
-    /// Ends the link at a handle, by the detach that it writes [2.6.6], and answers how many ready deliveries are
+    /// Ends the link at a handle, by the detach with closed true that it writes [2.6.6], and answers how many ready deliveries are
     /// dropped. The handle stays in use until the peer detaches it. Refused, with nothing changed, with the first of
     /// `Dead`, `NoSession`, `NoLink` and `Full`.
     pub fn detach(&mut self, channel: u16, handle: u32) -> Result<u32, CallFault>
@@ -266,6 +277,19 @@ impl<A: Allocator + Copy> Endpoint<A> {
             End::Inside(self.input.len())
         }
     }
+}
+
+/// The bytes that count as held, with all fields named, so that a new one does not compile until it is listed here; the
+/// input, the output and the connection do the same with theirs. Of a session and a link tests do (`fields_listed`).
+fn fields_listed<A: Allocator + Copy>(endpoint: &Endpoint<A>) -> u64
+    ensures { result ≡ held endpoint.now }
+{
+    let Endpoint {
+        input,
+        out,
+        connection,
+    } = endpoint;
+    input.len() as u64 + out.len() as u64 + connection.held()
 }
 
 /// Acts upon the unit that waits, if one does and there is room for its answer.

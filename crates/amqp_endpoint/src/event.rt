@@ -84,7 +84,7 @@ pub enum Outcome {
     Blocked,
     /// A whole unit waits, since memory was refused. Nothing else has changed.
     NoMemory,
-    /// The connection is over, and takes no bytes.
+    /// The connection is over: at the unit that ended it without an event, and from then on, where no byte is taken.
     Dead,
 }
 

@@ -1,22 +1,39 @@
 //! What holds of a connection and its history, whoever keeps it. The calls do nothing: their contracts are the laws.
-ghost use Rattle.std.specs.Prelude.{◌≡◌, ℕ, ◌+◌, ◌*◌, ◌^◌, ◌<◌, ◌≤◌, false, List, ◌∷◌, [], length, sum_by, slice_index, None};
+ghost use Rattle.std.specs.Prelude.{◌≡◌, ℕ, ◌+◌, ◌*◌, ◌^◌, ◌<◌, ◌≤◌, ◌↔◌, Bool, false, List, ◌∷◌, ◌++◌, [], length, map, sum_by, slice_index, Option, Some, None};
 ghost use Rattle.amqp_frame.specs.Units.{StreamUnit, bytes_of};
+ghost use Rattle.amqp_link.specs.Histories.{handed_up};
+ghost use Rattle.amqp_link.specs.Links.{LinkEvent};
 ghost use Rattle.amqp_perform.specs.declared.performative.Performative.{Performative};
 ghost use Rattle.amqp_perform.specs.Performatives.{type_of, performative_cells};
-ghost use Rattle.amqp_session.specs.Calls.{Call};
+ghost use Rattle.amqp_session.specs.declared.slot.Slot.TheVariants.{Live};
+ghost use Rattle.amqp_session.specs.Calls.{Call, Grant, Take};
 ghost use Rattle.amqp_session.specs.Laws.{IsCallInRange};
+ghost use Rattle.amqp_session.specs.Sessions.{Attached, LiveLink};
+ghost use Rattle.amqp_endpoint.specs.declared.fault.CallFault.TheVariants as refused;
 ghost use Rattle.amqp_endpoint.specs.Calls.{reply_room, call_fault, call_event, call_spoken};
-ghost use Rattle.amqp_endpoint.specs.Configs.{Configured};
+ghost use Rattle.amqp_endpoint.specs.Configs.{Configured, IsConfigured};
 ghost use Rattle.amqp_endpoint.specs.Connections as connection;
 ghost use Rattle.amqp_endpoint.specs.Connections.{ConnectionState, ConnectionEvent, connection_after, connection_bytes, ConnectionMay, is_dead};
+ghost use Rattle.amqp_endpoint.specs.Credits.{credit_on, granted_to};
 ghost use Rattle.amqp_endpoint.specs.Fields.{read_in, read_of};
 ghost use Rattle.amqp_endpoint.specs.Held.{session_count, link_count, link_most, parts, part_bytes};
 ghost use Rattle.amqp_endpoint.specs.Lengths.{said_most};
 ghost use Rattle.amqp_perform.specs.Said.{Said, said_frame};
 ghost use Rattle.amqp_endpoint.specs.Histories.{phase_of, state_of, Sound, after_all, Accepted};
-ghost use Rattle.amqp_endpoint.specs.Lines.{line_of, event_on};
+ghost use Rattle.amqp_endpoint.specs.Lines.{line_of, event_on, fault_on, told_on};
 ghost use Rattle.amqp_endpoint.specs.Replies.{joined, reply_on};
+ghost use Rattle.amqp_endpoint.specs.Runs as runs;
+ghost use Rattle.amqp_endpoint.specs.Runs.{Answer, Run, IsStart, handed_of};
+ghost use Rattle.std.specs.List.{flat_map};
+ghost use Rattle.amqp_endpoint.specs.Serving.{Stand, Over, reading, Step, Serves, IsServed, fed, moved, recorded, record_of, calls_of, answers_of};
+ghost use Rattle.amqp_endpoint.specs.declared.event.End.{End};
+ghost use Rattle.amqp_endpoint.specs.Cuts.{Made, IsMade, AreAlike, IsFront};
+ghost use Rattle.amqp_endpoint.specs.Steps.{EndpointState};
+ghost use Rattle.amqp_endpoint.specs.Takings.{lives, taken_in, link_at, link_part, HasNoneReady};
+ghost use Rattle.amqp_endpoint.specs.Traces.{AreInRange, IsWholeRun, failure_in, heard, message_in};
+ghost use Rattle.amqp_endpoint.specs.declared.serving.Policy.{Policy};
 
+use amqp_link::laws::open_deliveries_are_selected;
 use amqp_perform::laws as performatives;
 use amqp_perform::laws::{fields_are_as_long, reading_is_exact, what_is_read_may_be_written};
 use amqp_session::laws as session;
@@ -96,4 +113,95 @@ pub fn answers_fit_their_room()
     ensures calls { (s : ConnectionState) (channel : ℕ) (c : Call) → length (joined (call_spoken s channel c)) ≤ reply_room }
 {
     frames_are_as_long();
+}
+
+/// Of a unit a failure is told exactly where its line names a fault, and then that one [2.4.6, 2.5.4, 2.6.5].
+pub fn failures_are_the_faults()
+    ensures { (s : ConnectionState) (u : StreamUnit) → failure_in (told_on s (line_of s u)) ≡ fault_on (line_of s u) }
+{}
+
+/// Every list of calls of a new endpoint has a history: its connection is what the selections over the whole history
+/// give, the bytes that the feeds took are its units and the rest, all that it wrote was moved out or stands in the
+/// output, and what was told is the events of its units and the answers to its calls [2.2 to 2.7]. The bytes that it holds
+/// are counted and bounded, and of each link that lives the messages taken are the first of its whole deliveries. It is
+/// one history that grows with the calls: the same holds after each of them, of what had happened by then.
+pub fn runs_have_a_history()
+    ensures { (config : Configured) (calls : List runs.Call) (answers : List Answer) (start last : EndpointState) → IsConfigured config.container_id config.max_frame config.window → AreInRange calls → IsStart config start → Run start calls answers last → IsWholeRun config calls answers last }
+{
+    connection_begins();
+    connection_goes_on();
+    units_are_accepted();
+    calls_are_accepted();
+    frames_are_as_long();
+    answers_fit_their_room();
+    held_is_counted();
+    held_is_bounded();
+    open_deliveries_are_selected();
+}
+
+/// What was handed up in the life of a link, over the history of a whole connection, is what the part that this link
+/// has of the history hands up. Links follow one another at a handle: each attach there begins the next life [2.6.2].
+pub fn each_life_has_its_own_messages()
+    ensures { (channel handle : ℕ) (h : List ConnectionEvent) (a : Attached) (past : List LinkEvent) → link_part channel handle h ≡ Live (a, past) → taken_in channel handle (lives channel handle h) h ≡ map handed_of (handed_up past) }
+{}
+
+/// A take is refused with `NothingReady` exactly where its link lives and no delivery of it is ready: each whole one
+/// was taken [2.6.14].
+pub fn takes_are_refused_where_none_is_ready()
+    ensures { (config : Configured) (h : List ConnectionEvent) (unsent : List ℕ) (channel handle : ℕ) → Sound config h → (call_fault (state_of config h) unsent channel (Take handle) ≡ Some refused.NothingReady) ↔ HasNoneReady (state_of config h) channel handle }
+{}
+
+/// Over the history of an endpoint the credit of a link rises by an accepted grant for it alone, and by exactly as much
+/// [2.6.7].
+pub fn credit_rises_by_grants()
+    ensures granted { (config : Configured) (h : List runs.Happened) (channel handle n : ℕ) (l : LiveLink) → Sound config (runs.events config h) → link_at (state_of config (runs.events config h)) channel handle ≡ Live l → credit_on (state_of config (runs.events config (runs.Called channel (Grant handle n) ∷ h))) channel handle ≡ l.link.credit + n }
+    ensures most { (config : Configured) (h : List runs.Happened) (x : runs.Happened) (channel handle : ℕ) → credit_on (state_of config (runs.events config (x ∷ h))) channel handle ≤ credit_on (state_of config (runs.events config h)) channel handle + granted_to channel handle x }
+{
+    session::credit_rises_by_grants();
+}
+
+/// What is served is a run: each call stands in it with its answer.
+#[tactic(auto, using(crate::proofs::Servings::run_of, crate::proofs::Servings::ranges_of))]
+pub fn serving_is_a_run()
+    ensures range { (p : Policy) (a b : Stand) (s t : EndpointState) (steps : List Step) → Serves p a s steps b t → AreInRange (calls_of steps) }
+    ensures run { (p : Policy) (a b : Stand) (s t : EndpointState) (steps : List Step) → Serves p a s steps b t → Run s (calls_of steps) (answers_of steps) t }
+{}
+
+/// What is served by a new endpoint has a history, as every run has: what it holds is bounded, what it told are the
+/// events of its units, and what it recorded are the first of each link's whole deliveries [2.2 to 2.7].
+pub fn what_is_served_has_a_history()
+    ensures { (p : Policy) (a b : Stand) (config : Configured) (s t : EndpointState) (steps : List Step) → IsConfigured config.container_id config.max_frame config.window → IsStart config s → Serves p a s steps b t → IsWholeRun config (calls_of steps) (answers_of steps) t }
+{
+    runs_have_a_history();
+    serving_is_a_run();
+}
+
+/// What serving records is the record of each message that was handed up, in order, and of no other.
+#[tactic(auto, using(crate::proofs::ServingRecords::records_handed_up))]
+pub fn records_are_what_was_handed_up()
+    ensures { (steps : List Step) → recorded steps ≡ flat_map (λ m. record_of m.0 m.1 m.2) (flat_map message_in (heard (calls_of steps) (answers_of steps))) }
+{}
+
+/// A new endpoint that was served to its end wrote and recorded what the units of the bytes make, served one by one,
+/// and ended so. Where its reader cut the bytes does not count.
+pub fn serving_follows_the_units()
+    ensures { (p : Policy) (config : Configured) (end : End) (bytes : List ℕ) (ended : Bool) (old new : EndpointState) (held now kept keeps : Option (List ℕ)) → IsStart config old → (x : IsServed p end bytes ended old new held now kept keeps) → IsMade p config bytes (record { connection = x.before.connection; written = moved x.steps; recorded = recorded x.steps }) end }
+{}
+
+/// So they are a function of the bytes: over the same bytes, by the same policy, two new endpoints that were served to
+/// their end wrote the same bytes, recorded the same, and ended alike, however their readers cut the bytes.
+pub fn serving_ignores_cuts()
+    ensures { (p : Policy) (config : Configured) (bytes : List ℕ) (end end2 : End) (ended ended2 : Bool) (old old2 new new2 : EndpointState) (held held2 now now2 kept kept2 keeps keeps2 : Option (List ℕ)) → IsConfigured config.container_id config.max_frame config.window → IsStart config old → IsStart config old2 → (x : IsServed p end bytes ended old new held now kept keeps) → (y : IsServed p end2 bytes ended2 old2 new2 held2 now2 kept2 keeps2) → (end ≡ end2) × (moved x.steps ≡ moved y.steps) × (recorded x.steps ≡ recorded y.steps) × AreAlike held now held2 now2 × AreAlike kept keeps kept2 keeps2 }
+{
+    serving_follows_the_units();
+}
+
+/// At any moment before its end, as where it breaks off, serving has moved out a beginning of what is written once the
+/// bytes go on and are served to their end, and recorded a beginning of what is recorded then: of what the units of
+/// these bytes make, whether another server comes to their end or not.
+pub fn serving_begins_the_same()
+    ensures made { (p : Policy) (config : Configured) (end : End) (bytes unfed : List ℕ) (old now : EndpointState) (stand : Stand) (steps : List Step) (made : Made) → IsConfigured config.container_id config.max_frame config.window → IsStart config old → Serves p reading old steps stand now → (stand ≡ Over → ⊥) → bytes ≡ fed steps ++ unfed → IsMade p config bytes made end → IsFront (moved steps) made.written × IsFront (recorded steps) made.recorded }
+    ensures same { (p : Policy) (config : Configured) (end : End) (bytes unfed : List ℕ) (ended : Bool) (old old2 now new : EndpointState) (stand : Stand) (steps : List Step) (held has kept keeps : Option (List ℕ)) → IsConfigured config.container_id config.max_frame config.window → IsStart config old → IsStart config old2 → Serves p reading old steps stand now → (stand ≡ Over → ⊥) → bytes ≡ fed steps ++ unfed → (y : IsServed p end bytes ended old2 new held has kept keeps) → IsFront (moved steps) (moved y.steps) × IsFront (recorded steps) (recorded y.steps) }
+{
+    serving_follows_the_units();
 }

@@ -1,5 +1,16 @@
 //! The receiving endpoint of one connection: bytes of the peer and calls of the application go in, bytes for the peer,
 //! events and whole messages come out.
+//!
+//! [`Endpoint::new`] with a [`Config`]; then [`Endpoint::feed`] until a piece is used up, what its [`Event`]s ask for by
+//! [`Endpoint::grant`], [`Endpoint::widen`], [`Endpoint::drain`], [`Endpoint::take`], [`Endpoint::settle`] and
+//! [`Endpoint::detach`], and [`Endpoint::output`] for the peer; [`Endpoint::close`], and at the end of the input
+//! [`Endpoint::finish`]. [`serve`] does this over a reader, a writer and a sink; [`replay`] makes a list of calls, and its
+//! contract is the theorem over all such lists.
+//!
+//! A frame goes through `endpoint`, `units` (a unit), `bodies` (a performative), `sessions` (a frame of a live session),
+//! `connection` and `channels` (what stands at the channel) to `amqp_session`; `telling` makes an event of its news. A call
+//! goes through `asking` or `closing`. `specs/Lines.antt` has what a unit comes to, `specs/Replies.antt` what is written,
+//! `specs/Calls.antt` the calls, `specs/Traces.antt` what holds of every run. The tests stand in `endpoint_tests`.
 #![tactic(auto)]
 
 mod asking;
@@ -18,6 +29,7 @@ mod output;
 mod phase;
 mod replays;
 mod request;
+mod serving;
 mod sessions;
 mod telling;
 mod units;
@@ -29,3 +41,4 @@ pub use event::{End, Event, Fed, Outcome, Scope};
 pub use fault::CallFault;
 pub use phase::Phase;
 pub use replays::replay;
+pub use serving::{Policy, ServeFault, serve};

@@ -7,7 +7,9 @@ ghost use Rattle.amqp_endpoint.specs.Lengths.{said_most};
 ghost use Rattle.amqp_endpoint.specs.Calls.{output_size, reply_room, has_room, heartbeat};
 
 use crate::laws::frames_are_as_long;
-use amqp_perform::{Attach, Detach, Flow, Performative, write_frame};
+use amqp_perform::{
+    Attach, Detach, Disposition, Flow, Performative, write_disposition, write_frame,
+};
 use amqp_session::Session;
 use circular_buffer::HeapCircularBuffer;
 use std::alloc::{AllocError, Allocator, Global};
@@ -56,7 +58,8 @@ impl<A: Allocator + Copy> Output<A> {
         ensures value { result ≡ length self.now }
         ensures most { result ≤ output_size }
     {
-        self.pipe.len()
+        let Output { pipe, scratch: _ } = self;
+        pipe.len()
     }
 
     /// Whether there is room for any answer.
@@ -104,6 +107,22 @@ impl<A: Allocator + Copy> Output<A> {
         ensures { self.new ≡ self.old ++ said_frame channel (said (performative.Flow flow.now)) [] }
     {
         self.put_frame(channel, &Performative::Flow(*flow));
+    }
+
+    /// The same of a disposition.
+    pub fn put_disposition(&mut self, channel: u16, disposition: &Disposition<'_>)
+        requires short { length (said_frame channel (said (performative.Disposition disposition.now)) []) ≤ reply_room }
+        requires room { length self.old + length (said_frame channel (said (performative.Disposition disposition.now)) []) ≤ output_size }
+        ensures { self.new ≡ self.old ++ said_frame channel (said (performative.Disposition disposition.now)) [] }
+    {
+        if let Some(len) = write_disposition(
+            channel,
+            disposition,
+            &[],
+            self.scratch.as_mut_slice(),
+        ) {
+            self.pipe.fill_from_slice(&self.scratch[..len]);
+        }
     }
 
     /// The same of a detach.

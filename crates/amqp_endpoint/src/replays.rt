@@ -1,38 +1,66 @@
 //! A whole run of an endpoint.
-ghost use Rattle.std.specs.Prelude.{◌≡◌, map, IfOk, IfErr};
+ghost use Rattle.std.specs.Prelude.{◌≡◌, ℕ, ◌<◌, ◌^◌, slice_index, map, true, IfOk, IfErr};
 ghost use Rattle.amqp_session.specs.Calls.{Widen, Grant, Drain, Take, Settle, Detach};
 ghost use Rattle.amqp_endpoint.specs.Endpoints.{call_of, answer_of, accepted_by, dropped_by, handed_by, IsReplay};
-ghost use Rattle.amqp_endpoint.specs.Runs.{Does};
+ghost use Rattle.amqp_endpoint.specs.Runs.{Does, may_want};
+ghost use Rattle.amqp_endpoint.specs.Traces.{IsInRange, IsWholeRun};
 
 use crate::call::{Answer, Call};
 use crate::config::Config;
 use crate::endpoint::Endpoint;
 use crate::fault::CallFault;
+use crate::laws::runs_have_a_history;
 use amqp_link::Taken;
 use std::alloc::{AllocError, Allocator};
 
-/// Makes these calls on a new endpoint, and answers it with their answers. An error where memory for the endpoint or
-/// for an answer is refused.
+/// Makes these calls on a new endpoint, in order, and gives the endpoint and their answers. An error where memory for
+/// the endpoint, for the answers or for the bytes of an output is refused.
 pub fn replay<A: Allocator + Copy>(
     alloc: A,
     config: Config<A>,
     calls: &[Call<'_>],
 ) -> Result<(Endpoint<A>, Vec<Answer<A>, A>), AllocError>
-    ensures { IfOk result (λ r. IsReplay config (map call_of calls.now) (map answer_of r.1.items) r.0) }
+    ensures run { IfOk result (λ r. IsReplay config (map call_of calls.now) (map answer_of r.1.items) r.0) }
+    ensures whole { IfOk result (λ r. IsWholeRun config (map call_of calls.now) (map answer_of r.1.items) r.0) }
 {
+    runs_have_a_history();
+    config.is_within();
     let mut endpoint = Endpoint::new(alloc, config)?;
     let mut answers = Vec::with_capacity(alloc, calls.len())?;
     for call in calls {
+        is_in_range(call);
         answers.push_reserved(endpoint.call(alloc, call)?);
     }
     Ok((endpoint, answers))
 }
 
+/// A law: the bytes of a call are bytes, and its delivery-id has 32 bits.
+fn is_in_range(call: &Call<'_>)
+    ensures { IsInRange (call_of call.now) }
+{
+    match *call {
+        Call::Feed(piece) => are_bytes(piece),
+        Call::Settle { id, .. } => is_id(id),
+        _ => {}
+    }
+}
+
+/// A law: each of them is a byte.
+pub(crate) fn are_bytes(piece: &[u8])
+    ensures { (i : ℕ) → slice_index piece.now i < 256 }
+{}
+
+/// A law: it has 32 bits.
+pub(crate) fn is_id(id: u32)
+    ensures { id < 2 ^ 32 }
+{}
+
 impl<A: Allocator + Copy> Endpoint<A> {
-    /// Makes one call. Only the bytes of an output take memory; where that is refused nothing has changed.
+    /// Makes one call. An error only where memory for the bytes that an output moves out is refused; nothing has changed
+    /// then. What a feed is refused it tells in its outcome.
     pub fn call(&mut self, alloc: A, call: &Call<'_>) -> Result<Answer<A>, AllocError>
         ensures ok { IfOk result (λ answer. Does self.old self.new (call_of call.now) (answer_of answer)) }
-        ensures err { IfErr result (λ _. self.new ≡ self.old) }
+        ensures err { IfErr result (λ _. (self.new ≡ self.old) × (may_want self.old (call_of call.now) ≡ true)) }
     {
         Ok(match *call {
             Call::Feed(piece) => Answer::Fed(self.feed(piece)),

@@ -1,14 +1,12 @@
 //! What the application asks of a session, and what is said for it.
 ghost use Rattle.std.specs.Prelude.{◌≡◌};
-ghost use Rattle.amqp_perform.specs.Said.{said};
-ghost use Rattle.amqp_endpoint.specs.Asking.{asked_said};
 ghost use Rattle.amqp_endpoint.specs.Calls.{fault_of_session};
 
 use crate::fault::CallFault;
-use amqp_perform::{Detach, Disposition, Flow, Outcome, Performative};
+use amqp_perform::{Detach, Flow};
 use amqp_session::CallFault as SessionCallFault;
 
-/// A call of the application that says something to the peer.
+/// A call of the application that says something of the window or of a link.
 #[derive(Clone, Copy)]
 pub enum Request {
     /// The window gets so many places more.
@@ -17,33 +15,17 @@ pub enum Request {
     Grant { handle: u32, n: u32 },
     /// Its sender is asked to use its credit up.
     Drain { handle: u32 },
-    /// What became of the delivery with this id.
-    Settle { id: u32, outcome: Outcome },
     /// The link at a handle is ended.
     Detach { handle: u32 },
 }
 
 /// What is said for a request that was accepted.
+#[derive(Clone, Copy)]
 pub enum Asked {
     /// Of credit, a drain or the window [2.7.4].
     Flow(Flow<'static>),
-    /// Of a settle [2.7.6].
-    Disposition(Disposition<'static>),
     /// Of a detach [2.7.7].
     Detach(Detach<'static>),
-}
-
-impl Asked {
-    /// As it is written.
-    pub fn performative(self) -> Performative<'static>
-        ensures { said result ≡ asked_said self }
-    {
-        match self {
-            Asked::Flow(p) => Performative::Flow(p),
-            Asked::Disposition(p) => Performative::Disposition(p),
-            Asked::Detach(p) => Performative::Detach(p),
-        }
-    }
 }
 
 /// Why the endpoint refuses a call that its session refuses.

@@ -1,9 +1,11 @@
 //! What the peer does with the sessions of an open connection.
 ghost use Rattle.std.specs.Prelude.{◌≡◌, ◌≤◌, ◌<◌, ◌+◌, ◌^◌, ◌++◌, [], ◌∷◌, length, true, Some, None, OnOk, OnErr, IfOk};
 ghost use Rattle.amqp_perform.specs.Conditions.{condition_span};
+ghost use Rattle.amqp_link.specs.Links.{sent_of};
 ghost use Rattle.amqp_session.specs.declared.slot.Slot.TheVariants.{Live};
 ghost use Rattle.amqp_session.specs.Answers.{said_by};
-ghost use Rattle.amqp_session.specs.Frames.{Frame, frame_of, attaching};
+ghost use Rattle.amqp_session.specs.Faults.{failure_answer};
+ghost use Rattle.amqp_session.specs.Frames.{Frame, Transfers, frame_of, attaching};
 ghost use Rattle.amqp_session.specs.Sessions.{SessionState};
 ghost use Rattle.amqp_endpoint.specs.Acting.{IsLive, IsForSession, HasDone, is_beyond, replied, attach_answered};
 ghost use Rattle.amqp_endpoint.specs.Calls.{output_size, reply_room};
@@ -18,8 +20,8 @@ use crate::laws::frames_are_as_long;
 use crate::output::Output;
 use crate::phase::Phase;
 use crate::{closing, frames, telling};
-use amqp_perform::{Attach, Begin, Condition, Performative};
-use amqp_session::{Answer, SessionTerms, Slot, refusal_reply};
+use amqp_perform::{Attach, Begin, Condition, Performative, Transfer};
+use amqp_session::{Answer, News, SessionTerms, Slot, failure, refusal_reply};
 use std::alloc::{AllocError, Allocator};
 
 /// What a session begins with [2.5.1, 2.7.2].
@@ -138,6 +140,49 @@ pub fn frame<A: Allocator + Copy>(
             Some(condition) => Ok(Some(fail(connection, out, channel, condition))),
             None => Err(AllocError),
         },
+    }
+}
+
+/// A transfer with its payload for the live session on a channel [2.6.14]. Where memory is refused nothing has changed.
+pub fn transfer<A: Allocator + Copy>(
+    connection: &mut Connection<A>,
+    out: &mut Output<A>,
+    channel: u8,
+    transfer: &Transfer<'_>,
+    payload: &[u8],
+) -> Result<Option<Event>, AllocError>
+    requires room { length out.old + reply_room ≤ output_size }
+    requires channel { channel ≤ connection.old.config.channel_max }
+    requires live { IsLive (slot_at connection.old channel) }
+    ensures { (s : SessionState) → slot_at connection.old channel ≡ Live s
+        → HasDone connection.old connection.new out.old out.new (session_line channel s (Transfers transfer.now.handle (sent_of transfer.now payload.now))) result }
+{
+    frames_are_as_long();
+    match connection.transfer(channel, transfer, payload) {
+        Ok(news) => {
+            answer_failure(out, channel, news);
+            Ok(telling::told(channel as u16, news))
+        }
+        Err(fault) => match telling::condition_of(fault) {
+            Some(why) => Ok(Some(fail(connection, out, channel, why))),
+            None => Err(AllocError),
+        },
+    }
+}
+
+/// Writes the detach of a link that a transfer has ended [2.6.5].
+fn answer_failure<A: Allocator + Copy>(out: &mut Output<A>, channel: u8, news: News)
+    requires room { length out.old + reply_room ≤ output_size }
+    requires short { length (joined (on_channel channel (failure_answer news))) ≤ reply_room }
+    ensures { out.new ≡ out.old ++ joined (on_channel channel (failure_answer news)) }
+{
+    if let News::Failed {
+        handle,
+        condition,
+        ..
+    } = news
+    {
+        out.put_detach(channel as u16, &failure(handle, condition));
     }
 }
 

@@ -15,7 +15,7 @@ use crate::output::Output;
 use crate::phase::Phase;
 use crate::{bodies, closing};
 use amqp_frame::HEADER;
-use amqp_perform::{BodyFault, Condition, Performative, read_body};
+use amqp_perform::{BodyFault, Condition, Performative, read_body, read_transfer_body};
 use std::alloc::{AllocError, Allocator};
 
 /// Acts upon the protocol header: it is answered by the own one, and another than the own one ends the connection
@@ -74,6 +74,25 @@ pub fn act_on_frame<A: Allocator + Copy>(
 
 /// Acts upon a body that is not empty, on a channel that is not too high.
 fn act_on_body<A: Allocator + Copy>(
+    connection: &mut Connection<A>,
+    out: &mut Output<A>,
+    channel: u8,
+    body: &[u8],
+) -> Result<Option<Event>, AllocError>
+    requires room { length out.old + reply_room ≤ output_size }
+    requires channel { channel ≤ connection.old.config.channel_max }
+    ensures { HasDone connection.old connection.new out.old out.new (body_line connection.old channel body.now (body_at body.now)) result }
+{
+    fields_say_the_performative();
+    if let Some((transfer, len)) = &read_transfer_body(body) {
+        return bodies::act_on_transfer(connection, out, channel, transfer, &body[*len..]);
+    }
+    act_on_any_body(connection, out, channel, body)
+}
+
+/// The same of any body, without the short way for a transfer.
+#[inline(never)]
+fn act_on_any_body<A: Allocator + Copy>(
     connection: &mut Connection<A>,
     out: &mut Output<A>,
     channel: u8,

@@ -6,7 +6,7 @@ use Rattle.std.proofs.lemmas.Bool.Decides.{nat_tests}
 use Rattle.std.proofs.lemmas.List.{length-append, length-take, length-drop, length-take-le, take-append-drop, get_or_append_left, append_cancel_left, append_assoc, append-nil}
 use Rattle.byteorder.specs.Numbers.{big_from-append}
 use Rattle.amqp_frame.specs.Units.{StreamUnit, HeaderUnit, FrameUnit, FaultUnit, bytes_of, due_after, IsUnit, IsFault, IsFrame, IsSized, IsPlaced, IsRest, size_of, offset_of, type_of}
-use Rattle.amqp_frame.specs.Splits.{IsOne, IsHeld, IsOver, Stands, IsProgress, IsWanted, IsNext}
+use Rattle.amqp_frame.specs.Splits.{SplitterState, Waits, IsOne, IsHeld, IsJudged, IsSound, IsOver, Stands, IsProgress, IsWanted, IsWholeIn, IsNext}
 use Rattle.amqp_frame.specs.declared.units.FrameFault.{FrameFault}
 use Rattle.amqp_frame.specs.declared.units.FrameFault.TheVariants.{TooSmall, TooLarge, BadOffset, BadType}
 use Rattle.amqp_frame.specs.declared.units.Progress.{Progress}
@@ -78,7 +78,8 @@ unit_is max m (FrameUnit b) more h =
     let e = size-append b more (omega arith) in
     let o = offset-append b more l in
     let t = type-append b more l in
-    let v : verdict max (b ++ more) ≡ None = verdict-none max (size_of (b ++ more)) (offset_of (b ++ more)) (type_of (b ++ more)) (omega arith) (omega arith) (omega arith) (omega arith) (omega arith) in
+    let v : verdict max (b ++ more) ≡ None = verdict-none max (size_of (b ++ more)) (offset_of (b ++ more)) (type_of (b ++ more)) (omega arith) (omega arith) (omega arith) (omega arith)
+    (omega arith) in
     rw v (ap FrameUnit (take_front b more (size_of (b ++ more)) (omega arith)))
 unit_is max m (FaultUnit TooSmall b) more h =
     let e = size-append b more (omega arith) in
@@ -100,7 +101,8 @@ unit_is max m (FaultUnit BadType b) more h =
     let e = size-append b more (omega arith) in
     let o = offset-append b more l in
     let t = type-append b more l in
-    let v : verdict max (b ++ more) ≡ Some BadType = verdict-type max (size_of (b ++ more)) (offset_of (b ++ more)) (type_of (b ++ more)) (omega arith) (omega arith) (omega arith) (omega arith) (omega arith) in
+    let v : verdict max (b ++ more) ≡ Some BadType = verdict-type max (size_of (b ++ more)) (offset_of (b ++ more)) (type_of (b ++ more)) (omega arith) (omega arith) (omega arith) (omega arith)
+    (omega arith) in
     rw v (ap (FaultUnit BadType) (take_front b more 8 h.0))
 
 -- No unit begins another.
@@ -344,7 +346,8 @@ pub part_upto : (max : ℕ) (stage : Stage) (s : List ℕ) (n : ℕ) → BeginsW
 part_upto max stage s n b l = elim (front max stage s) [ inl r ↦ inl r | inr f ↦ inr (one_if max stage s n b l f) ]
 
 -- what is held is no more than the unit that begins it
-pub held_front : (max : ℕ) (stage : Stage) (s : List ℕ) (u : StreamUnit) (more : List ℕ) → 8 ≤ max → IsRest max stage s ⊎ IsOne max stage s → IsUnit max stage u → s ≡ bytes_of u ++ more → s ≡ bytes_of u
+pub held_front : (max : ℕ) (stage : Stage) (s : List ℕ) (u : StreamUnit) (more : List ℕ) → 8 ≤ max → IsRest max stage s ⊎ IsOne max stage s → IsUnit max stage u → s ≡ bytes_of u ++ more →
+    s ≡ bytes_of u
 held_front max stage s u more m (inl r) h e = absurd (r.none u more h e)
 held_front max stage s u more m (inr o) h e =
     let same = one_front max stage u o.unit more [] m h o.stands.is (sym e ∙ o.stands.whole ∙ sym (append-nil (bytes_of o.unit))) in
@@ -513,3 +516,63 @@ taken_more old now new piece at count e f =
 
 pub length_rest : (piece : List ℕ) (at : ℕ) → length (take (length piece - at) (drop at piece)) ≡ length piece - at
 length_rest piece at = simp (length-take, length-drop) (omega arith)
+
+-- what the bytes say of the whole frame at their front
+pub record IsWholeAt (max : ℕ) (s : List ℕ) (n : ℕ) : Type 0 where
+  pub size : n ≡ size_of s
+  pub eight : 8 ≤ n
+  pub lawful : IsLawful max s
+
+pub whole_at : (max : ℕ) (s : List ℕ) (n : ℕ) → n ≤ length s → IsFrame max (take n s) → IsWholeAt max s n
+whole_at max s n l h =
+    let p = length-take-le n s l in
+    let eight : 8 ≤ n = let w = h.whole in let z = h.sized.least in omega arith in
+    let e = size_front n s (omega arith) l in
+    let o = offset_front n s eight l in
+    let t = type_front n s eight l in
+    record {
+      size = let w = h.whole in omega arith;
+      eight = eight;
+      lawful = record {
+        sized = record { least = let z = h.sized.least in omega arith; most = let z = h.sized.most in omega arith };
+        placed = record { least = let d = h.placed.least in omega arith; within = let d = h.placed.within in omega arith };
+        typed = sym t ∙ h.typed;
+      };
+    }
+
+pub judged_none : (max : ℕ) (stage : Stage) → 8 ≤ max → IsJudged max stage [] (Wants 4)
+judged_none max Header m = tt
+judged_none max Frames m = wants_size max [] m (omega arith)
+judged_none max Refused m = tt
+judged_none max (Faulty f) m = tt
+
+-- an empty buffer is sound
+pub sound_none : (max : ℕ) (stage : Stage) (reserved : ℕ) → 8 ≤ max → max ≤ reserved → IsSound max stage [] reserved (Wants 4)
+sound_none max stage reserved m r = record { least = m; room = r; held = none_held max stage; judged = judged_none max stage m }
+
+-- the frame that lay whole in a piece waits
+pub whole_one : (max : ℕ) (stage : Stage) (held piece new : List ℕ) (size : ℕ) → IsWholeIn max stage held piece (Some size) → new ≡ held ++ take size piece → IsOne max stage new
+whole_one max stage held piece new size w e =
+    let frame : IsOne max Frames (take size piece) = frame_one max (take size piece) w.2.1 in
+    rw (w.0, e, w.1) frame
+
+pub whole_sound : (max : ℕ) (stage : Stage) (held piece new : List ℕ) (size reserved : ℕ) → 8 ≤ max → max ≤ reserved →
+    IsWholeIn max stage held piece (Some size) → new ≡ held ++ take size piece → IsSound max stage new reserved Whole
+whole_sound max stage held piece new size reserved m r w e =
+    let here : IsHeld max Frames (take size piece) = inr (frame_one max (take size piece) w.2.1) in
+    let frame : IsSound max Frames (take size piece) reserved Whole = record { least = m; room = r; held = here; judged = w.2.1 } in
+    rw (w.0, e, w.1) frame
+
+front_waits : (s : SplitterState) → 8 ≤ s.limit → (u : StreamUnit) (more : List ℕ) → IsUnit s.limit s.stage u → s.filled ≡ bytes_of u ++ more →
+    ((v : StreamUnit) × Waits s v) ⊎ ((v : StreamUnit) → Waits s v → ⊥)
+front_waits s least u [] is e = inl (u, record { is = is; whole = e ∙ append-nil (bytes_of u) })
+front_waits s least u (x ∷ more) is e =
+    inr (λ v w. let same = one_front s.limit s.stage u v (x ∷ more) [] least is w.is (sym e ∙ w.whole ∙ sym (append-nil (bytes_of v))) in absurd (grind (arith, same.1)))
+
+-- a unit waits, or none does
+pub waits_or_not : (s : SplitterState) → 8 ≤ s.limit → ((u : StreamUnit) × Waits s u) ⊎ ((u : StreamUnit) → Waits s u → ⊥)
+waits_or_not s least =
+    elim (front s.limit s.stage s.filled) [
+      | inl r ↦ inr (λ u w. r.none u [] w.is (w.whole ∙ sym (append-nil (bytes_of u))))
+      | inr f ↦ front_waits s least f.unit f.more f.is f.joined
+    ]

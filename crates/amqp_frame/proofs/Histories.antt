@@ -24,7 +24,8 @@ joined_more us u rest =
     ∙ append_assoc (flat_map bytes_of us) (bytes_of u) rest
 
 -- the unit that waited went by
-pub unit_went : (old new : SplitterState) (us : List StreamUnit) (taken : List ℕ) (u : StreamUnit) → IsEmptied old new (due_after u) → WentBy old us taken → Waits old u → WentBy new (us ++ u ∷ []) taken
+pub unit_went : (old new : SplitterState) (us : List StreamUnit) (taken : List ℕ) (u : StreamUnit) → IsEmptied old new (due_after u) → WentBy old us taken → Waits old u →
+    WentBy new (us ++ u ∷ []) taken
 unit_went old new us taken u e w h = record {
   joined =
       w.joined ∙ ap (λ (x : List ℕ). flat_map bytes_of us ++ x) (h.whole ∙ sym (append-nil (bytes_of u)))

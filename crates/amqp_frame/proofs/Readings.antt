@@ -56,14 +56,17 @@ reads (suc n) max stage stream l =
 pub each_is_read : (max : ℕ) (stage : Stage) (stream : List ℕ) → (us : List StreamUnit) × (rest : List ℕ) × IsReading max stage stream us rest
 each_is_read max stage stream = let r = reads (length stream) max stage stream (omega arith) in (r.units, r.rest, r.reading)
 
-behind_first : {max : ℕ} {stage : Stage} {stream : List ℕ} {u : StreamUnit} {us : List StreamUnit} {r : List ℕ} → IsReading max stage stream (u ∷ us) r → IsReading max (due_after u) (flat_map bytes_of us ++ r) us r
+behind_first : {max : ℕ} {stage : Stage} {stream : List ℕ} {u : StreamUnit} {us : List StreamUnit} {r : List ℕ} → IsReading max stage stream (u ∷ us) r →
+    IsReading max (due_after u) (flat_map bytes_of us ++ r) us r
 behind_first h = record { joined = refl; each = h.each.1; behind = h.behind }
 
-begins_with : {max : ℕ} {stage : Stage} {stream : List ℕ} {u : StreamUnit} {us : List StreamUnit} {r : List ℕ} → IsReading max stage stream (u ∷ us) r → stream ≡ bytes_of u ++ (flat_map bytes_of us ++ r)
+begins_with : {max : ℕ} {stage : Stage} {stream : List ℕ} {u : StreamUnit} {us : List StreamUnit} {r : List ℕ} → IsReading max stage stream (u ∷ us) r →
+    stream ≡ bytes_of u ++ (flat_map bytes_of us ++ r)
 begins_with {u = u} {us = us} {r = r} h = h.joined ∙ append_assoc (bytes_of u) (flat_map bytes_of us) r
 
 -- a stream has no second reading
-pub one_reading : (max : ℕ) (stage : Stage) (stream : List ℕ) (us vs : List StreamUnit) (r q : List ℕ) → 8 ≤ max → IsReading max stage stream us r → IsReading max stage stream vs q → (us ≡ vs) × (r ≡ q)
+pub one_reading : (max : ℕ) (stage : Stage) (stream : List ℕ) (us vs : List StreamUnit) (r q : List ℕ) → 8 ≤ max → IsReading max stage stream us r → IsReading max stage stream vs q →
+    (us ≡ vs) × (r ≡ q)
 one_reading max stage stream [] [] r q m g h = (refl, sym g.joined ∙ h.joined)
 one_reading max stage stream [] (v ∷ vs) r q m g h = absurd (g.behind.none v (flat_map bytes_of vs ++ q) h.each.0 (sym g.joined ∙ begins_with h))
 one_reading max stage stream (u ∷ us) [] r q m g h = absurd (h.behind.none u (flat_map bytes_of us ++ r) g.each.0 (sym h.joined ∙ begins_with g))
@@ -104,7 +107,8 @@ went_on s us taken more r w = record {
 }
 
 -- what a splitter that took all it could makes of all bytes, taken or not
-pub reading_ends : (s : SplitterState) (us : List StreamUnit) (taken more : List ℕ) → IsHeld s.limit s.stage s.filled → ((u : StreamUnit) → Waits s u → ⊥) → (0 < length more → TakesNothing s) → WentBy s us taken → Units s.limit (taken ++ more) us (s.filled ++ more)
+pub reading_ends : (s : SplitterState) (us : List StreamUnit) (taken more : List ℕ) → IsHeld s.limit s.stage s.filled → ((u : StreamUnit) → Waits s u → ⊥) → (0 < length more → TakesNothing s) →
+    WentBy s us taken → Units s.limit (taken ++ more) us (s.filled ++ more)
 reading_ends s us taken [] held none full w =
     went_on s us taken [] (rw append-nil (held_rest s.limit s.stage s.filled held (λ o. none o.unit o.stands))) w
 reading_ends s us taken (x ∷ more) held none full w =
@@ -114,7 +118,8 @@ reading_ends s us taken (x ∷ more) held none full w =
     ]
 
 -- the last unit waits: whatever follows is no unit
-pub reading_stops : (s : SplitterState) (us : List StreamUnit) (taken more : List ℕ) (u : StreamUnit) → Waits s u → IsOver (due_after u) → WentBy s us taken → Units s.limit (taken ++ more) (us ++ u ∷ []) more
+pub reading_stops : (s : SplitterState) (us : List StreamUnit) (taken more : List ℕ) (u : StreamUnit) → Waits s u → IsOver (due_after u) → WentBy s us taken →
+    Units s.limit (taken ++ more) (us ++ u ∷ []) more
 reading_stops s us taken more u h over w = record {
   joined =
       ap (λ (x : List ℕ). x ++ more) (w.joined ∙ ap (λ (x : List ℕ). flat_map bytes_of us ++ x) h.whole)

@@ -11,9 +11,13 @@ module _ {T : Type 0} where
   abbrev pub has_failed : Device T → Bool
   has_failed d = d.failed
 
-  -- a read into some room gave nothing
+  -- a read into some room gave nothing, or no read was left to ask
   abbrev pub has_ended : Device T → Bool
   has_ended d = d.ended
+
+  -- nothing was written behind its last flush
+  abbrev pub is_flushed : Device T → Bool
+  is_flushed d = d.flushed
 
   -- how many reads it may still ask of the reader
   abbrev pub reads_left : Device T → ℕ

@@ -1,7 +1,7 @@
 -- What a splitter holds, what it answers, and which units went by before it.
-use Rattle.std.specs.Prelude.{◌≡◌, ℕ, ◌+◌, ◌<◌, ◌≤◌, ◌⊎◌, List, [], ◌++◌, length, Option, Some, None, Result, Ok, Err}
+use Rattle.std.specs.Prelude.{◌≡◌, ℕ, ◌+◌, ◌<◌, ◌≤◌, ◌⊎◌, List, [], ◌++◌, length, take, Option, Some, None, Result, Ok, Err}
 use Rattle.std.specs.List.{flat_map}
-use Rattle.amqp_frame.specs.Units.{StreamUnit, FrameUnit, FaultUnit, bytes_of, IsUnit, IsRest, AreUnits, due_after, due_behind, channel_of, body_of}
+use Rattle.amqp_frame.specs.Units.{StreamUnit, FrameUnit, FaultUnit, bytes_of, IsUnit, IsFrame, IsRest, AreUnits, due_after, due_behind, channel_of, body_of}
 use Rattle.amqp_frame.specs.declared.units.Frame.{Frame}
 use Rattle.amqp_frame.specs.declared.units.FrameFault.{FrameFault}
 use Rattle.amqp_frame.specs.declared.units.Progress.{Progress}
@@ -44,6 +44,16 @@ IsProgress max bytes (Wants wanted) = (0 < wanted) × IsRest max Frames bytes ×
 IsProgress max bytes Whole = IsUnit max Frames (FrameUnit bytes)
 IsProgress max bytes (Fails fault) = IsUnit max Frames (FaultUnit fault bytes)
 
+-- the size of the whole frame that begins these bytes; None where none does
+abbrev pub IsWholeFront : ℕ → List ℕ → Option ℕ → Type 0
+IsWholeFront max bytes None = (n : ℕ) → n ≤ length bytes → IsFrame max (take n bytes) → ⊥
+IsWholeFront max bytes (Some size) = (size ≤ length bytes) × IsFrame max (take size bytes)
+
+-- the same, where a frame is due and nothing of it is held
+abbrev pub IsWholeIn : ℕ → Stage → List ℕ → List ℕ → Option ℕ → Type 0
+IsWholeIn max stage held piece None = stage ≡ Frames → held ≡ [] → IsWholeFront max piece None
+IsWholeIn max stage held piece (Some size) = (stage ≡ Frames) × (held ≡ []) × IsWholeFront max piece (Some size)
+
 -- what is due once the unit that waits is gone; None where none waits
 abbrev pub IsNext : ℕ → Stage → List ℕ → Option Stage → Type 0
 IsNext max stage bytes None = IsOne max stage bytes → ⊥
@@ -56,11 +66,19 @@ pub record SplitterState : Type 0 where
   pub filled : List ℕ
   pub room : ℕ
 
--- what holds of every splitter: it has room for the largest frame, and holds no more than a unit
-pub record IsSound (max : ℕ) (stage : Stage) (bytes : List ℕ) (reserved : ℕ) : Type 0 where
+-- how far the frame has come, where one is due
+abbrev pub IsJudged : ℕ → Stage → List ℕ → Progress → Type 0
+IsJudged max Header bytes progress = Unit {0}
+IsJudged max Frames bytes progress = IsProgress max bytes progress
+IsJudged max Refused bytes progress = Unit {0}
+IsJudged max (Faulty fault) bytes progress = Unit {0}
+
+-- What holds of every splitter: it has room for the largest frame, holds no more than a unit, and knows how far a frame has come.
+pub record IsSound (max : ℕ) (stage : Stage) (bytes : List ℕ) (reserved : ℕ) (progress : Progress) : Type 0 where
   pub least : 8 ≤ max
   pub room : max ≤ reserved
   pub held : IsHeld max stage bytes
+  pub judged : IsJudged max stage bytes progress
 
 -- this unit waits
 abbrev pub Waits : SplitterState → StreamUnit → Type 0

@@ -29,24 +29,24 @@ channel_of bytes = big_number 2 (drop 6 bytes)
 abbrev pub body_of : List ℕ → List ℕ
 body_of bytes = drop (4 * offset_of bytes) bytes
 
--- SIZE is at least a frame header, and at most what is accepted
+-- SIZE is at least 8, a frame header, and at most what is accepted [2.3.1]
 pub record IsSized (max : ℕ) (bytes : List ℕ) : Type 0 where
   pub least : 8 ≤ size_of bytes
   pub most : size_of bytes ≤ max
 
--- the body begins behind the frame header and within the frame
+-- DOFF is at least 2, and the body begins within the frame [2.3.1]
 pub record IsPlaced (bytes : List ℕ) : Type 0 where
   pub least : 2 ≤ offset_of bytes
   pub within : 4 * offset_of bytes ≤ size_of bytes
 
--- a whole AMQP frame
+-- a whole AMQP frame [2.3.1]
 pub record IsFrame (max : ℕ) (bytes : List ℕ) : Type 0 where
   pub whole : length bytes ≡ size_of bytes
   pub sized : IsSized max bytes
   pub placed : IsPlaced bytes
   pub typed : type_of bytes ≡ 0
 
--- the bytes of a frame header at whose last one this fault shows
+-- The bytes of a frame header at whose last one this fault shows: a SIZE below 8 or too large, a DOFF below 2 or behind the frame, a TYPE other than 0. [2.3.1]
 abbrev pub IsFault : ℕ → FrameFault → List ℕ → Type 0
 IsFault max TooSmall bytes = (length bytes ≡ 4) × (size_of bytes < 8)
 IsFault max TooLarge bytes = (length bytes ≡ 4) × (max < size_of bytes)

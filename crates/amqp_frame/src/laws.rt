@@ -3,6 +3,12 @@ ghost use Rattle.std.specs.Prelude.{◌≡◌, ℕ, ◌<◌, ◌≤◌, List, �
 ghost use Rattle.amqp_frame.specs.Units.{StreamUnit, bytes_of, IsUnit, IsReading, Units, due_after};
 ghost use Rattle.amqp_frame.specs.Splits.{SplitterState, Waits, IsHeld, TakesNothing, IsOver, WentBy};
 ghost use Rattle.amqp_frame.specs.declared.units.Stage.{Stage};
+ghost use Rattle.amqp_frame.specs.declared.units.TheConstants.{HEADER};
+
+/// The header is that of version 1.0.0 without a security layer, as part 2, section 2.2 spells it: `AMQP`, 0, 1, 0, 0.
+pub fn header_is_as_the_standard_spells_it()
+    ensures { HEADER ≡ 65 ∷ 77 ∷ 81 ∷ 80 ∷ 0 ∷ 1 ∷ 0 ∷ 0 ∷ [] }
+{}
 
 /// No unit begins another.
 pub fn no_unit_begins_another()

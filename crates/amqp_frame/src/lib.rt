@@ -2,8 +2,10 @@
 //! fault that ends a stream. No unit begins another, so how the bytes come in pieces changes
 //! nothing: [`laws`] states it.
 //!
-//! [`Splitter`] cuts, over one buffer that it reserves at the start. [`Device`] is a reader or a
-//! writer that keeps its first failure.
+//! [`Splitter::push`] takes bytes to the end of a unit, [`Splitter::header`] or [`Splitter::frame`]
+//! shows it, [`Splitter::drop_frame`] lets it go, and [`Splitter::finish`] ends; over one buffer,
+//! which is reserved at the start. [`Device`] is a reader or a writer that keeps its first failure.
+//! `specs/Units.antt` has what a unit is, `specs/Splits.antt` what a splitter holds.
 #![tactic(auto)]
 
 pub mod laws;

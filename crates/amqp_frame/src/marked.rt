@@ -1,7 +1,7 @@
 //! A reader or a writer that keeps its first failure.
 ghost use Rattle.std.specs.Prelude.{◌≡◌, ◌+◌, ◌-◌, ◌^◌, ◌<◌, ◌≤◌, ◌↔◌, true, false, length, take, IfOk, IsErr, IsTrue, MatchResult, Err, Ok, OnErr, OnOk};
 ghost use Rattle.std.specs.Io.KnownBytes.{IsAtEnd, Consumes, Keeps, WriteAppends};
-ghost use Rattle.amqp_frame.specs.Devices.{device_inner, has_failed, has_ended, reads_left, reads_ahead};
+ghost use Rattle.amqp_frame.specs.Devices.{device_inner, has_failed, has_ended, is_flushed, reads_left, reads_ahead};
 
 use std::io::{self, ErrorKind, Read, Write};
 
@@ -12,6 +12,7 @@ pub struct Device<T> {
     inner: T,
     failed: bool,
     ended: bool,
+    flushed: bool,
     reads_left: u64,
 }
 
@@ -21,12 +22,14 @@ impl<T> Device<T> {
         ensures inner { device_inner result ≡ inner }
         ensures failed { has_failed result ≡ false }
         ensures ended { has_ended result ≡ false }
+        ensures flushed { is_flushed result ≡ false }
         ensures reads { reads_left result ≡ 2 ^ 64 - 1 }
     {
         Device {
             inner,
             failed: false,
             ended: false,
+            flushed: false,
             reads_left: u64::MAX,
         }
     }
@@ -45,8 +48,18 @@ impl<T> Device<T> {
         self.ended
     }
 
+    /// An error where it is marked.
+    fn unmarked(&self) -> io::Result<()>
+        ensures { IsErr result ↔ IsTrue (has_failed self.now) }
+    {
+        if self.failed() {
+            return Err(io::Error::from(ErrorKind::Other));
+        }
+        Ok(())
+    }
+
     /// Marks it.
-    fn fail(&mut self, error: io::Error) -> io::Result<usize>
+    fn fail<X>(&mut self, error: io::Error) -> io::Result<X>
         ensures err { result ≡ Err error }
         ensures marked { self.new ≡ record self.old { failed = true } }
     {
@@ -98,9 +111,7 @@ impl<R: Read> Device<R> {
         ensures fewer { has_ended self.old ≡ false → 0 < length buf.old → OnOk result (reads_ahead self.new < reads_ahead self.old) }
         ensures kept { OnErr result (has_ended self.new ≡ has_ended self.old) }
     {
-        if self.failed {
-            return Err(io::Error::from(ErrorKind::Other));
-        }
+        self.unmarked()?;
         if buf.is_empty() {
             return Ok(0);
         }
@@ -123,6 +134,7 @@ impl<W: Write> Device<W> {
         ensures marked { IsErr result ↔ IsTrue (has_failed self.new) }
         ensures some { 0 < length buf.now → IfOk result (λ n. 0 < n) }
         ensures bytes { WriteAppends (W.contents (device_inner self.old)) (W.contents (device_inner self.new)) result buf.now }
+        ensures unflushed { 0 < length buf.now → OnOk result (is_flushed self.new ≡ false) }
         ensures ended { has_ended self.new ≡ has_ended self.old }
         ensures reads { reads_left self.new ≡ reads_left self.old }
 
@@ -130,15 +142,36 @@ impl<W: Write> Device<W> {
         ensures still { IsTrue (has_failed self.old) → self.new ≡ self.old }
         ensures empty { length buf.now ≡ 0 → self.new ≡ self.old }
     {
-        if self.failed() {
-            return Err(io::Error::from(ErrorKind::Other));
-        }
+        self.unmarked()?;
         if buf.is_empty() {
             return Ok(0);
         }
         match self.inner.write(buf) {
             Ok(0) => self.fail(io::Error::from(ErrorKind::WriteZero)),
-            Ok(count) => Ok(count),
+            Ok(count) => {
+                self.flushed = false;
+                Ok(count)
+            }
+            Err(error) => self.fail(error),
+        }
+    }
+
+    /// Flushes the writer, so that nothing of what it took waits in it. Its first error marks it. Once
+    /// marked it answers an error without asking the writer.
+    pub fn flush(&mut self) -> io::Result<()>
+        ensures marked { IsErr result ↔ IsTrue (has_failed self.new) }
+        ensures flushed { OnOk result (is_flushed self.new ≡ true) }
+        ensures bytes { Keeps (W.contents (device_inner self.old)) (W.contents (device_inner self.new)) }
+        ensures ended { has_ended self.new ≡ has_ended self.old }
+        ensures reads { reads_left self.new ≡ reads_left self.old }
+        ensures still { IsTrue (has_failed self.old) → self.new ≡ self.old }
+    {
+        self.unmarked()?;
+        match self.inner.flush() {
+            Ok(()) => {
+                self.flushed = true;
+                Ok(())
+            }
             Err(error) => self.fail(error),
         }
     }

@@ -1,9 +1,9 @@
 //! Cutting a stream into its units.
 ghost use Rattle.std.specs.Prelude.{◌≡◌, ℕ, ◌+◌, ◌*◌, ◌⊎◌, ◌<◌, ◌≤◌, ◌++◌, [], ◌∷◌, List, length, take, IfOk, IfSome, IfNone, IsTrue, ◌↔◌, vec_capacity};
 ghost use Rattle.amqp_frame.specs.Units.{StreamUnit, HeaderUnit, IsRest, due_after, offset_of, channel_of, body_of};
-ghost use Rattle.amqp_frame.specs.Splits.{IsHeld, IsWanted, IsOver, TakesNothing, IsOne, Waits, IsUnchanged, IsEmptied, IsFrameAnswer, IsNext, WentBy};
+ghost use Rattle.amqp_frame.specs.Splits.{IsHeld, IsJudged, IsSound, IsWanted, IsWholeIn, IsOver, TakesNothing, IsOne, Waits, IsUnchanged, IsEmptied, IsFrameAnswer, IsNext, WentBy};
 
-use crate::units::{Frame, FrameFault, HEADER, Progress, Stage, progress_of};
+use crate::units::{Frame, FrameFault, HEADER, Progress, Stage, progress_of, whole_size};
 use byteorder::{BigEndian, ByteOrder};
 use std::alloc::{AllocError, Allocator, Global};
 use std::marker::Model;
@@ -13,6 +13,8 @@ use std::marker::Model;
 pub struct Splitter<A: Allocator + Copy = Global> {
     limit: usize,
     stage: Stage,
+    /// How far the frame has come, where one is due.
+    progress: Progress,
     bytes: Vec<u8, A>,
 }
 
@@ -24,12 +26,12 @@ impl<A: Allocator + Copy> Model for Splitter<A> {
 
     ghost view = { λ a. record { limit = a.limit; stage = a.stage; filled = a.bytes.items; room = vec_capacity a.bytes } };
 
-    ghost invariant = { λ a. IsSound a.limit a.stage a.bytes.items (vec_capacity a.bytes) };
+    ghost invariant = { λ a. IsSound a.limit a.stage a.bytes.items (vec_capacity a.bytes) a.progress };
 }
 
 impl<A: Allocator + Copy> Splitter<A> {
-    /// A splitter at the start of a stream, which accepts frames of up to `max` bytes. It reserves
-    /// `max` bytes at once, and takes no memory after that.
+    /// A splitter at the start of a stream, which accepts frames of up to `max` bytes, at least 8. It
+    /// reserves `max` bytes at once, an error where they are refused, and takes no memory after that.
     pub fn new(alloc: A, max: usize) -> Result<Self, AllocError>
         requires { 8 ≤ max }
         ensures value { IfOk result (λ s. s ≡ record { limit = max; stage = Stage.Header; filled = []; room = max }) }
@@ -39,6 +41,7 @@ impl<A: Allocator + Copy> Splitter<A> {
         Ok(Splitter {
             limit: max,
             stage: Stage::Header,
+            progress: Progress::START,
             bytes: Vec::with_capacity(alloc, max)?,
         })
     }
@@ -64,7 +67,13 @@ impl<A: Allocator + Copy> Splitter<A> {
 
         ensures history { (us : List StreamUnit) (taken : List ℕ) → WentBy self.old us taken → WentBy self.new us (taken ++ take result piece.now) }
     {
-        fill(self.limit, self.stage, &mut self.bytes, piece)
+        fill(
+            self.limit,
+            self.stage,
+            &mut self.progress,
+            &mut self.bytes,
+            piece,
+        )
     }
 
     /// The header's eight bytes, while it waits.
@@ -85,14 +94,11 @@ impl<A: Allocator + Copy> Splitter<A> {
         match self.stage {
             Stage::Header | Stage::Refused => None,
             Stage::Faulty(fault) => Some(Err(fault)),
-            Stage::Frames => {
-                let bytes = self.bytes.as_slice();
-                match progress_of(self.limit, bytes) {
-                    Progress::Wants(_) => None,
-                    Progress::Whole => Some(Ok(frame_in(bytes))),
-                    Progress::Fails(fault) => Some(Err(fault)),
-                }
-            }
+            Stage::Frames => match self.progress {
+                Progress::Wants(_) => None,
+                Progress::Whole => Some(Ok(frame_in(self.bytes.as_slice()))),
+                Progress::Fails(fault) => Some(Err(fault)),
+            },
         }
     }
 
@@ -104,17 +110,28 @@ impl<A: Allocator + Copy> Splitter<A> {
         ensures held { IsHeld self.new.limit self.new.stage self.new.filled }
         ensures history { (us : List StreamUnit) (taken : List ℕ) (u : StreamUnit) → WentBy self.old us taken → Waits self.old u → WentBy self.new (us ++ u ∷ []) taken }
     {
-        if let Some(next) = next_stage(self.limit, self.stage, self.bytes.as_slice()) {
-            self.stage = next;
-            self.bytes.clear();
+        if let Some(next) = next_stage(
+            self.limit,
+            self.stage,
+            self.progress,
+            self.bytes.as_slice(),
+        ) {
+            self.begin(next);
         }
     }
 
-    /// How many bytes are in the buffer: SIZE while a frame waits, 4 or 8 while a fault does.
+    /// How many bytes are in the buffer: SIZE while a frame waits, 4 or 8 while a fault does. All fields are named, so
+    /// that one which comes to hold bytes does not compile until it is counted here.
     pub fn len(&self) -> usize
         ensures { result ≡ length self.now.filled }
     {
-        self.bytes.len()
+        let Splitter {
+            limit: _,
+            stage: _,
+            progress: _,
+            bytes,
+        } = self;
+        bytes.len()
     }
 
     /// Whether the buffer is empty.
@@ -135,22 +152,32 @@ impl<A: Allocator + Copy> Splitter<A> {
     {
         let len = self.len();
         self.drop_frame();
-        self.bytes.clear();
+        self.begin(self.stage);
         if len > 0 { Some(len) } else { None }
+    }
+
+    /// Empties the buffer for what is due next.
+    fn begin(&mut self, stage: Stage)
+        ensures { IsEmptied self.old self.new stage }
+    {
+        self.stage = stage;
+        self.progress = Progress::START;
+        self.bytes.clear();
     }
 }
 
 /// How many bytes more may come before the unit that is due is judged again; 0 where it waits, or
 /// where nothing is taken any more.
-fn wanted(max: usize, stage: Stage, bytes: &[u8]) -> usize
+fn wanted(max: usize, stage: Stage, progress: Progress, bytes: &[u8]) -> usize
     requires least { 8 ≤ max }
     requires held { IsHeld max stage bytes.now }
+    requires judged { IsJudged max stage bytes.now progress }
     ensures wanted { IsWanted max stage bytes.now result }
     ensures full { result ≡ 0 → IsOne max stage bytes.now ⊎ IsOver stage }
 {
     match stage {
         Stage::Header => HEADER.len() - bytes.len(),
-        Stage::Frames => match progress_of(max, bytes) {
+        Stage::Frames => match progress {
             Progress::Wants(count) => count,
             Progress::Whole | Progress::Fails(_) => 0,
         },
@@ -158,36 +185,46 @@ fn wanted(max: usize, stage: Stage, bytes: &[u8]) -> usize
     }
 }
 
-/// Takes bytes up to where the unit that is due is judged again.
-fn fill_once<A: Allocator>(max: usize, stage: Stage, bytes: &mut Vec<u8, A>, piece: &[u8]) -> usize
-    requires least { 8 ≤ max }
-    requires room { max ≤ vec_capacity bytes.old }
-    requires held { IsHeld max stage bytes.old.items }
+/// Takes bytes up to where the unit that is due is judged again, and judges it.
+fn fill_once<A: Allocator>(
+    max: usize,
+    stage: Stage,
+    progress: &mut Progress,
+    bytes: &mut Vec<u8, A>,
+    piece: &[u8],
+) -> usize
+    requires { IsSound max stage bytes.old.items (vec_capacity bytes.old) progress.old }
     ensures bound { result ≤ length piece.now }
     ensures filled { bytes.new.items ≡ bytes.old.items ++ take result piece.now }
-    ensures held { IsHeld max stage bytes.new.items }
-    ensures room { max ≤ vec_capacity bytes.new }
+    ensures sound { IsSound max stage bytes.new.items (vec_capacity bytes.new) progress.new }
     ensures full { result ≡ 0 → 0 < length piece.now → IsOne max stage bytes.new.items ⊎ IsOver stage }
 {
-    let count = wanted(max, stage, bytes.as_slice()).min(piece.len());
+    let count = wanted(max, stage, *progress, bytes.as_slice()).min(piece.len());
     bytes.extend_from_slice(&piece[..count]).unwrap();
+    if let Stage::Frames = stage {
+        *progress = progress_of(max, bytes.as_slice());
+    }
     count
 }
 
-/// Takes bytes up to the end of the unit that is due.
-fn fill<A: Allocator>(max: usize, stage: Stage, bytes: &mut Vec<u8, A>, piece: &[u8]) -> usize
-    requires least { 8 ≤ max }
-    requires room { max ≤ vec_capacity bytes.old }
-    requires held { IsHeld max stage bytes.old.items }
+/// Takes bytes up to the end of the unit that is due, step by step.
+#[inline(never)]
+fn fill_by_steps<A: Allocator>(
+    max: usize,
+    stage: Stage,
+    progress: &mut Progress,
+    bytes: &mut Vec<u8, A>,
+    piece: &[u8],
+) -> usize
+    requires { IsSound max stage bytes.old.items (vec_capacity bytes.old) progress.old }
     ensures bound { result ≤ length piece.now }
     ensures filled { bytes.new.items ≡ bytes.old.items ++ take result piece.now }
-    ensures held { IsHeld max stage bytes.new.items }
-    ensures room { max ≤ vec_capacity bytes.new }
+    ensures sound { IsSound max stage bytes.new.items (vec_capacity bytes.new) progress.new }
     ensures all { result < length piece.now → IsOne max stage bytes.new.items ⊎ IsOver stage }
 {
     let mut taken = 0;
     while taken < piece.len() {
-        let count = fill_once(max, stage, bytes, &piece[taken..]);
+        let count = fill_once(max, stage, progress, bytes, &piece[taken..]);
         if count == 0 {
             break;
         }
@@ -196,10 +233,47 @@ fn fill<A: Allocator>(max: usize, stage: Stage, bytes: &mut Vec<u8, A>, piece: &
     taken
 }
 
+/// Takes bytes up to the end of the unit that is due. A frame that lies whole in the piece is
+/// judged once and copied once.
+fn fill<A: Allocator>(
+    max: usize,
+    stage: Stage,
+    progress: &mut Progress,
+    bytes: &mut Vec<u8, A>,
+    piece: &[u8],
+) -> usize
+    requires { IsSound max stage bytes.old.items (vec_capacity bytes.old) progress.old }
+    ensures bound { result ≤ length piece.now }
+    ensures filled { bytes.new.items ≡ bytes.old.items ++ take result piece.now }
+    ensures sound { IsSound max stage bytes.new.items (vec_capacity bytes.new) progress.new }
+    ensures all { result < length piece.now → IsOne max stage bytes.new.items ⊎ IsOver stage }
+{
+    match whole_in(max, stage, bytes.as_slice(), piece) {
+        Some(size) => {
+            bytes.extend_from_slice(&piece[..size]).unwrap();
+            *progress = Progress::Whole;
+            size
+        }
+        None => fill_by_steps(max, stage, progress, bytes, piece),
+    }
+}
+
+/// SIZE of the frame that is due, where none of it is held and all of it is at the front of the
+/// piece.
+fn whole_in(max: usize, stage: Stage, held: &[u8], piece: &[u8]) -> Option<usize>
+    ensures { IsWholeIn max stage held.now piece.now result }
+{
+    match stage {
+        Stage::Frames if held.is_empty() => whole_size(max, piece),
+        Stage::Header | Stage::Frames | Stage::Refused | Stage::Faulty(_) => None,
+    }
+}
+
 /// What is due once the unit that waits is gone, if one waits.
-fn next_stage(max: usize, stage: Stage, bytes: &[u8]) -> Option<Stage>
+fn next_stage(max: usize, stage: Stage, progress: Progress, bytes: &[u8]) -> Option<Stage>
     requires least { 8 ≤ max }
     requires held { IsHeld max stage bytes.now }
+    requires judged { IsJudged max stage bytes.now progress }
     ensures { IsNext max stage bytes.now result }
 {
     match stage {
@@ -212,7 +286,7 @@ fn next_stage(max: usize, stage: Stage, bytes: &[u8]) -> Option<Stage>
                 Some(Stage::Refused)
             }
         }
-        Stage::Frames => match progress_of(max, bytes) {
+        Stage::Frames => match progress {
             Progress::Wants(_) => None,
             Progress::Whole => Some(Stage::Frames),
             Progress::Fails(fault) => Some(Stage::Faulty(fault)),

@@ -228,6 +228,7 @@ impl Write for Turns {
     }
 
     fn flush(&mut self) -> io::Result<()> {
+        self.take(0)?;
         Ok(())
     }
 }
@@ -251,6 +252,44 @@ fn first_failure_marks(rt: HostRuntime) {
     assert!(rt; !full.failed());
     assert!(rt; full.write(&room).is_err());
     assert!(rt; full.failed());
+}
+
+/// Fails at its first flush alone.
+#[derive(Drop)]
+struct FailsOnce {
+    flushed: bool,
+}
+
+impl Write for FailsOnce {
+    fn write(&mut self, buf: &[u8]) -> io::Result<usize> {
+        Ok(buf.len())
+    }
+
+    fn flush(&mut self) -> io::Result<()> {
+        let flushed = self.flushed;
+        self.flushed = true;
+        if flushed {
+            Ok(())
+        } else {
+            Err(io::Error::from(ErrorKind::Other))
+        }
+    }
+}
+
+#[test]
+fn failed_flush_marks(rt: HostRuntime) {
+    let mut writer = Device::new(Turns { left: 3, size: 1 });
+    assert!(rt; writer.flush().is_ok());
+    assert!(rt; matches!(writer.write(b"ab"), Ok(1)));
+    assert!(rt; writer.flush().is_ok());
+    assert!(rt; !writer.failed());
+    assert!(rt; writer.flush().is_err());
+    assert!(rt; writer.failed());
+    let mut failed = Device::new(FailsOnce { flushed: false });
+    for _ in 0..2 {
+        assert!(rt; failed.flush().is_err());
+        assert!(rt; failed.write(b"ab").is_err());
+    }
 }
 
 #[test]

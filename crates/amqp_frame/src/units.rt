@@ -1,7 +1,7 @@
 //! What a stream is made of, and how far a frame has come.
-ghost use Rattle.std.specs.Prelude.{◌≡◌, ◌≤◌, length};
+ghost use Rattle.std.specs.Prelude.{◌≡◌, ◌*◌, ◌≤◌, ◌↔◌, length, IsTrue};
 ghost use Rattle.amqp_frame.specs.Units.{size_of};
-ghost use Rattle.amqp_frame.specs.Splits.{IsHeld, IsProgress};
+ghost use Rattle.amqp_frame.specs.Splits.{IsHeld, IsProgress, IsWholeFront};
 
 use byteorder::{BigEndian, ByteOrder};
 
@@ -57,6 +57,11 @@ pub enum Progress {
     Fails(FrameFault),
 }
 
+impl Progress {
+    /// No byte of the frame has come.
+    pub const START: Progress = Progress::Wants(4);
+}
+
 /// SIZE, once its four bytes are there.
 #[tactic(auto, unfolding(crate::specs::Units::size_of))]
 fn size_in(bytes: &[u8]) -> usize
@@ -96,4 +101,26 @@ pub fn progress_of(max: usize, bytes: &[u8]) -> Progress
         return Progress::Wants(size - bytes.len());
     }
     Progress::Whole
+}
+
+/// SIZE of the whole frame at the front of these bytes, if one is there.
+pub fn whole_size(max: usize, bytes: &[u8]) -> Option<usize>
+    ensures { IsWholeFront max bytes.now result }
+{
+    if bytes.len() < FRAME_HEADER {
+        return None;
+    }
+    let size = size_in(bytes);
+    if size <= bytes.len() && is_lawful(max, size, bytes[4], bytes[5]) {
+        Some(size)
+    } else {
+        None
+    }
+}
+
+/// Whether SIZE is accepted, DOFF is within it, and TYPE is that of an AMQP frame.
+fn is_lawful(max: usize, size: usize, offset: u8, kind: u8) -> bool
+    ensures { IsTrue result ↔ ((size ≤ max) × (2 ≤ offset) × (4 * offset ≤ size) × (kind ≡ 0)) }
+{
+    size <= max && offset >= 2 && 4 * offset as usize <= size && kind == 0
 }

@@ -8,7 +8,9 @@ use Rattle.std.proofs.lemmas.List.Sums.{sum_by-cons, count_by-le-length}
 use Rattle.std.proofs.Math.Nat.{suc-mul, add-mul, mul-le-mul_right, mul-le-mul}
 use Rattle.std.specs.Prelude.{option_map, is_none}
 use Rattle.amqp_link.specs.declared.terms.Terms.{Terms}
-use Rattle.amqp_link.specs.Links.{Sent, goes_on, completes, Delivery, OpenSet, LinkState, set_bytes, how_many, delivery_bytes, with_delivery, delivery_after, cost, fault_of, is_formed, is_covered, Transferred, ReceiverSettled, SenderSettled, receiver_settles, told_by, receiver_settled_in, sender_settled_by, sender_settled_in, newly_settled, named_count, in_order, settle_fault}
+use Rattle.amqp_link.specs.Links.{Sent, goes_on, completes, Delivery, OpenSet, LinkState, set_bytes, how_many, delivery_bytes, with_delivery, delivery_after, cost, fault_of, is_formed, is_covered}
+use Rattle.amqp_link.specs.Links.{Transferred, ReceiverSettled, SenderSettled, receiver_settles, told_by, receiver_settled_in, sender_settled_by, sender_settled_in, newly_settled, named_count}
+use Rattle.amqp_link.specs.Links.{in_order, settle_fault}
 use Rattle.amqp_link.specs.Keeping.{link_of, IsLink, IsShort}
 use Rattle.amqp_link.proofs.Keys.{total_is}
 use Rattle.amqp_link.proofs.Steps.{fits, head_tag, within_after}
@@ -42,7 +44,8 @@ bytes_fit terms credit o link =
     let most : most_of terms ≤ 2 ^ 30 + 96 = omega (arith, link.bounded.most_bytes) in
     omega (arith, bytes_bound terms credit o link, mul-le-mul link.bounded.most_allowed most)
 
-made_short : (terms : Terms) (unfinished : Option Delivery) (t : Sent) → AllByRecursion (IsShort terms) (option_to_list unfinished) → is_formed terms unfinished t ≡ true → length (delivery_after terms unfinished t).message ≤ terms.bounds.max_message_size → IsShort terms (delivery_after terms unfinished t)
+made_short : (terms : Terms) (unfinished : Option Delivery) (t : Sent) → AllByRecursion (IsShort terms) (option_to_list unfinished) → is_formed terms unfinished t ≡ true →
+    length (delivery_after terms unfinished t).message ≤ terms.bounds.max_message_size → IsShort terms (delivery_after terms unfinished t)
 made_short terms None t all formed l = record { delivery_tag = head_tag terms t formed; message = l }
 made_short terms (Some d) t all formed l = record { delivery_tag = all.0.delivery_tag; message = l }
 
@@ -63,17 +66,20 @@ part_short P false d p = tt
 pub payload_short : (s : LinkState) (t : Sent) → fault_of s t ≡ None → t.aborted ≡ false → length t.payload ≤ s.terms.bounds.max_message_size
 payload_short s t may whole = elim ((fits s t may).short) [ inl e ↦ absurd (grind (arith, e, whole)) | inr l ↦ in_message s.terms s.unfinished t whole l ]
   where
-    in_message : (terms : Terms) (unfinished : Option Delivery) (t : Sent) → t.aborted ≡ false → length (delivery_after terms unfinished t).message ≤ terms.bounds.max_message_size → length t.payload ≤ terms.bounds.max_message_size
+    in_message : (terms : Terms) (unfinished : Option Delivery) (t : Sent) → t.aborted ≡ false → length (delivery_after terms unfinished t).message ≤ terms.bounds.max_message_size →
+        length t.payload ≤ terms.bounds.max_message_size
     in_message terms None t whole l = rw whole at l
     in_message terms (Some d) t whole l = let m = rw whole at l in omega (arith, m, length-append d.message t.payload)
 
 -- a link after an accepted transfer
-pub stays : (terms : Terms) (credit count left : ℕ) (draining : Bool) (o : OpenSet) (t : Sent) → IsLink terms credit o → fault_of (link_of terms credit count draining o) t ≡ None → left ≡ credit - cost o.unfinished → IsLink terms left (with_delivery o t (delivery_after terms o.unfinished t))
+pub stays : (terms : Terms) (credit count left : ℕ) (draining : Bool) (o : OpenSet) (t : Sent) → IsLink terms credit o → fault_of (link_of terms credit count draining o) t ≡ None →
+    left ≡ credit - cost o.unfinished → IsLink terms left (with_delivery o t (delivery_after terms o.unfinished t))
 stays terms credit count left draining o t link may less =
     let f = fits (link_of terms credit count draining o) t may in
     let d = delivery_after terms o.unfinished t in
     record {
-      within = subst (λ (n : ℕ). n + how_many (with_delivery o t (delivery_after terms o.unfinished t)) ≤ terms.bounds.allowed) (sym less) (within_after (link_of terms credit count draining o) (Transferred t) may link.within);
+      within = subst (λ (n : ℕ). n + how_many (with_delivery o t (delivery_after terms o.unfinished t)) ≤ terms.bounds.allowed) (sym less)
+          (within_after (link_of terms credit count draining o) (Transferred t) may link.within);
       bounded = link.bounded;
       awaiting = link.awaiting;
       ready = elim (f.short) [
@@ -110,19 +116,23 @@ all_left : (P : Delivery → Type 0) (goes : Delivery → Bool) (ds : List Deliv
 all_left P goes [] all = tt
 all_left P goes (d ∷ ds) all = some_left P (goes d) d (filter (λ d. not (goes d)) ds) all.0 (all_left P goes ds all.1)
 
-all_turned : (terms : Terms) (turn : Delivery → Delivery) → ((d : Delivery) → IsShort terms d → IsShort terms (turn d)) → (ds : List Delivery) → AllByRecursion (IsShort terms) ds → AllByRecursion (IsShort terms) (map turn ds)
+all_turned : (terms : Terms) (turn : Delivery → Delivery) → ((d : Delivery) → IsShort terms d → IsShort terms (turn d)) → (ds : List Delivery) → AllByRecursion (IsShort terms) ds →
+    AllByRecursion (IsShort terms) (map turn ds)
 all_turned terms turn same [] all = tt
 all_turned terms turn same (d ∷ ds) all = (same d all.0, all_turned terms turn same ds all.1)
 
-one_turned : (terms : Terms) (turn : Delivery → Delivery) → ((d : Delivery) → IsShort terms d → IsShort terms (turn d)) → (o : Option Delivery) → AllByRecursion (IsShort terms) (option_to_list o) → AllByRecursion (IsShort terms) (option_to_list (option_map turn o))
+one_turned : (terms : Terms) (turn : Delivery → Delivery) → ((d : Delivery) → IsShort terms d → IsShort terms (turn d)) → (o : Option Delivery) → AllByRecursion (IsShort terms) (option_to_list o) →
+    AllByRecursion (IsShort terms) (option_to_list (option_map turn o))
 one_turned terms turn same None all = tt
 one_turned terms turn same (Some d) all = (same d all.0, tt)
 
-pub stays_for_receiver : (terms : Terms) (credit count : ℕ) (draining : Bool) (o : OpenSet) (first last : ℕ) → IsLink terms credit o → settle_fault first last o ≡ None → IsLink terms credit (receiver_settled_in first last o)
+pub stays_for_receiver : (terms : Terms) (credit count : ℕ) (draining : Bool) (o : OpenSet) (first last : ℕ) → IsLink terms credit o → settle_fault first last o ≡ None →
+    IsLink terms credit (receiver_settled_in first last o)
 stays_for_receiver terms credit count draining o first last link may = record {
   within = within_after (link_of terms credit count draining o) (ReceiverSettled first last) may link.within;
   bounded = link.bounded;
-  awaiting = all_turned terms (told_by first last) (λ d s. record { delivery_tag = s.delivery_tag; message = s.message }) _ (all_left (IsShort terms) (receiver_settles first last) o.awaiting link.awaiting);
+  awaiting = all_turned terms (told_by first last) (λ d s. record { delivery_tag = s.delivery_tag; message = s.message }) _ (all_left (IsShort terms)
+      (receiver_settles first last) o.awaiting link.awaiting);
   ready = link.ready;
   unfinished = link.unfinished;
 }
@@ -144,4 +154,9 @@ few_named first last o = omega (arith, count_by-le-length (is_covered first last
 
 pub few_settled : (first last : ℕ) (o : OpenSet) → newly_settled first last o ≤ how_many o
 few_settled first last o =
-    omega (arith, count_by-le-length (λ d. not d.settled && is_covered first last d) (in_order o), length-append (o.awaiting ++ o.ready) (option_to_list o.unfinished), length-append o.awaiting o.ready)
+    omega (
+      arith,
+      count_by-le-length (λ d. not d.settled && is_covered first last d) (in_order o),
+      length-append (o.awaiting ++ o.ready) (option_to_list o.unfinished),
+      length-append o.awaiting o.ready,
+    )

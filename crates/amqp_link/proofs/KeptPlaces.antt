@@ -3,6 +3,7 @@ use Rattle.std.proofs.Common.{arith, ◌≡◌, ℕ, ◌+◌, ◌-◌, ◌<◌, 
 use Rattle.std.specs.Prelude.{option_map, option_to_list, filter, is_some, IsSome, true, false, drop}
 use Rattle.std.specs.List.{AllByRecursion}
 use Rattle.std.proofs.Math.Seq.{take-append_seam, drop-append_seam}
+use Rattle.std.proofs.lemmas.List.{nil_from_length}
 use Rattle.std.proofs.lemmas.List.{append-nil, length-append, length-drop, length-map, length-set, take-append-drop, take-append-le, drop-append-le, take_more, take_more_set, drop_more, drop-set-lt}
 use Rattle.std.proofs.lemmas.List.Elements.{filter-append}
 use Rattle.slab.specs.Slab.{Slab, get, ContainsKey, Updates, with_value, slab_len}
@@ -41,7 +42,9 @@ module _ {A : Type 0} where
     pub is : set_at slab order handed_up unfinished ≡ o
 
   -- other places for the same keys
-  same_keys : (slab : Slab (OpenDelivery A)) (order order' : List (Option ℕ)) (h h' : ℕ) (unfinished : Option ℕ) (bytes room room' : ℕ) → keys_of (take h' order') ≡ keys_of (take h order) → drop h' order' ≡ drop h order → h' ≤ length order' → length order' ≤ length order → room ≤ room' → IsKeptAt slab order h unfinished bytes room → ComesAt slab order' h' unfinished bytes room' (set_at slab order h unfinished)
+  same_keys : (slab : Slab (OpenDelivery A)) (order order' : List (Option ℕ)) (h h' : ℕ) (unfinished : Option ℕ) (bytes room room' : ℕ) → keys_of (take h' order') ≡ keys_of (take h order) →
+      drop h' order' ≡ drop h order → h' ≤ length order' → length order' ≤ length order → room ≤ room' → IsKeptAt slab order h unfinished bytes room →
+      ComesAt slab order' h' unfinished bytes room' (set_at slab order h unfinished)
   same_keys slab order order' h h' unfinished bytes room room' front back split short roomy at =
       let kept : IsKept slab (keys_of (take h' order')) (keys_of (drop h' order')) unfinished bytes = rw (front, back) at.kept in
       record {
@@ -55,12 +58,15 @@ module _ {A : Type 0} where
       }
 
   -- a place is left for each ready delivery
-  pub ready_places : (slab : Slab (OpenDelivery A)) (order : List (Option ℕ)) (h : ℕ) (unfinished : Option ℕ) (bytes room : ℕ) → IsKeptAt slab order h unfinished bytes room → length order - h ≡ length (set_at slab order h unfinished).ready
+  pub ready_places : (slab : Slab (OpenDelivery A)) (order : List (Option ℕ)) (h : ℕ) (unfinished : Option ℕ) (bytes room : ℕ) → IsKeptAt slab order h unfinished bytes room →
+      length order - h ≡ length (set_at slab order h unfinished).ready
   ready_places slab order h unfinished bytes room at =
       omega (arith, length-map (keys_of (drop h order)) (at_key slab), length_filled (drop h order) at.filled, length-drop h order)
 
   -- the empty places go
-  pub closed : (slab : Slab (OpenDelivery A)) (order order' : List (Option ℕ)) (h h' : ℕ) (unfinished : Option ℕ) (bytes room room' : ℕ) → IsKeptAt slab order h unfinished bytes room → order' ≡ filter (λ place. is_some place) order → length order' ≤ length order → room ≤ room' → h' ≡ length order' - (length order - h) → ComesAt slab order' h' unfinished bytes room' (set_at slab order h unfinished) × (length order - h ≤ length order')
+  pub closed : (slab : Slab (OpenDelivery A)) (order order' : List (Option ℕ)) (h h' : ℕ) (unfinished : Option ℕ) (bytes room room' : ℕ) → IsKeptAt slab order h unfinished bytes room →
+      order' ≡ filter (λ place. is_some place) order → length order' ≤ length order → room ≤ room' → h' ≡ length order' - (length order - h) →
+      ComesAt slab order' h' unfinished bytes room' (set_at slab order h unfinished) × (length order - h ≤ length order')
   closed slab order order' h h' unfinished bytes room room' at e short roomy n =
       let front = filter (λ (place : Option ℕ). is_some place) (take h order) in
       let parts : order' ≡ filter (λ (place : Option ℕ). is_some place) (take h order) ++ drop h order =
@@ -72,17 +78,36 @@ module _ {A : Type 0} where
       let b : drop h' order' ≡ drop h order = ap (λ (k : ℕ). drop k order') n' ∙ ap (drop (length front)) parts ∙ drop-append_seam front (drop h order) in
       (same_keys slab order order' h h' unfinished bytes room room' (ap keys_of f ∙ keys_filter (take h order)) b (omega (arith, n', long)) short roomy at, omega (arith, long, length-drop h order))
 
+  -- where nothing is open all places go
+  pub cleared : (slab : Slab (OpenDelivery A)) (order order' : List (Option ℕ)) (h h' : ℕ) (unfinished : Option ℕ) (bytes room room' : ℕ) → IsKeptAt slab order h unfinished bytes room →
+      how_many (set_at slab order h unfinished) ≡ 0 → order' ≡ [] → h' ≡ 0 → room ≤ room' → ComesAt slab order' h' unfinished bytes room' (set_at slab order h unfinished)
+  cleared slab order order' h h' unfinished bytes room room' at none e n roomy =
+      let fore : keys_of (take h order) ≡ [] = nil_from_length (keys_of (take h order)) (omega (arith, none, length-map (keys_of (take h order)) (at_key slab))) in
+      let aft : drop h order ≡ [] = nil_from_length (drop h order) (omega (arith, none, length-map (keys_of (drop h order)) (at_key slab), length_filled (drop h order) at.filled)) in
+      let front : keys_of (take h' order') ≡ keys_of (take h order) = ap (λ (k : ℕ). keys_of (take k order')) n ∙ ap (λ (ps : List (Option ℕ)). keys_of (take 0 ps)) e ∙ sym fore in
+      let back : drop h' order' ≡ drop h order = ap (λ (k : ℕ). drop k order') n ∙ ap (λ (ps : List (Option ℕ)). drop 0 ps) e ∙ sym aft in
+      same_keys slab order order' h h' unfinished bytes room room' front back (omega arith) (omega (arith, ap length e)) roomy at
+
   -- no more deliveries than places that there is room for
   pub few_kept : (slab : Slab (OpenDelivery A)) (order : List (Option ℕ)) (h : ℕ) (unfinished : Option ℕ) (bytes room : ℕ) → IsKeptAt slab order h unfinished bytes room → slab_len slab ≤ room
   few_kept slab order h unfinished bytes room at =
       omega (arith, at.kept.only, at.fits, keys_length order, ap length (keys_split h order), length-append (keys_of (take h order)) (keys_of (drop h order)))
 
-  pub many_kept : (slab : Slab (OpenDelivery A)) (order : List (Option ℕ)) (h : ℕ) (unfinished : Option ℕ) (bytes room : ℕ) → IsKeptAt slab order h unfinished bytes room → how_many (set_at slab order h unfinished) ≤ room
+  pub many_kept : (slab : Slab (OpenDelivery A)) (order : List (Option ℕ)) (h : ℕ) (unfinished : Option ℕ) (bytes room : ℕ) → IsKeptAt slab order h unfinished bytes room →
+      how_many (set_at slab order h unfinished) ≤ room
   many_kept slab order h unfinished bytes room at =
-      omega (arith, few_kept slab order h unfinished bytes room at, at.kept.only, length-map (keys_of (take h order)) (at_key slab), length-map (keys_of (drop h order)) (at_key slab), length_option (at_key slab) unfinished)
+      omega (
+        arith,
+        few_kept slab order h unfinished bytes room at,
+        at.kept.only,
+        length-map (keys_of (take h order)) (at_key slab),
+        length-map (keys_of (drop h order)) (at_key slab),
+        length_option (at_key slab) unfinished,
+      )
 
   -- more room
-  pub roomier : (old mid : Slab (OpenDelivery A)) (order order' : List (Option ℕ)) (h : ℕ) (unfinished : Option ℕ) (bytes n room room' : ℕ) → IsKeptAt old order h unfinished bytes room → mid ≡ record old { capacity = n } → order' ≡ order → room ≤ room' → ComesAt mid order' h unfinished bytes room' (set_at old order h unfinished)
+  pub roomier : (old mid : Slab (OpenDelivery A)) (order order' : List (Option ℕ)) (h : ℕ) (unfinished : Option ℕ) (bytes n room room' : ℕ) → IsKeptAt old order h unfinished bytes room →
+      mid ≡ record old { capacity = n } → order' ≡ order → room ≤ room' → ComesAt mid order' h unfinished bytes room' (set_at old order h unfinished)
   roomier old mid order order' h unfinished bytes n room room' at e f roomy =
       rw (e, f) (record {
         kept = record {
@@ -95,11 +120,15 @@ module _ {A : Type 0} where
       })
 
   -- a delivery begins
-  pub begins_at : (old mid new : Slab (OpenDelivery A)) (order order' : List (Option ℕ)) (h : ℕ) (unfinished : Option ℕ) (key : ℕ) (d : OpenDelivery A) (bytes more n room room' : ℕ) → option_map (at_key old) unfinished ≡ None → IsKeptAt old order h unfinished bytes room → mid ≡ record old { capacity = n } → order' ≡ order → get mid key ≡ None → Updates mid new key (Some d) → slab_len new ≡ slab_len mid + 1 → length order' + 1 ≤ room' → more ≡ bytes + delivery_bytes (delivery_of d) → ComesAt new order' h (Some key) more room' (record (set_at old order h unfinished) { unfinished = Some (delivery_of d) })
+  pub begins_at : (old mid new : Slab (OpenDelivery A)) (order order' : List (Option ℕ)) (h : ℕ) (unfinished : Option ℕ) (key : ℕ) (d : OpenDelivery A) (bytes more n room room' : ℕ) →
+      option_map (at_key old) unfinished ≡ None → IsKeptAt old order h unfinished bytes room → mid ≡ record old { capacity = n } → order' ≡ order → get mid key ≡ None →
+      Updates mid new key (Some d) → slab_len new ≡ slab_len mid + 1 → length order' + 1 ≤ room' → more ≡ bytes + delivery_bytes (delivery_of d) →
+      ComesAt new order' h (Some key) more room' (record (set_at old order h unfinished) { unfinished = Some (delivery_of d) })
   begins_at old mid new order order' h unfinished key d bytes more n room room' none at e f free u size fit m =
       let empty = none_of (at_key old) unfinished none in
       let ready = roomier old mid order order' h unfinished bytes n room room at e f (omega arith) in
-      let now : IsKept mid (keys_of (take h order')) (keys_of (drop h order')) None bytes = subst (λ (p : Option ℕ). IsKept mid (keys_of (take h order')) (keys_of (drop h order')) p bytes) empty ready.kept.kept in
+      let now : IsKept mid (keys_of (take h order')) (keys_of (drop h order')) None bytes = subst (λ (p : Option ℕ). IsKept mid (keys_of (take h order')) (keys_of (drop h order')) p bytes) empty
+      ready.kept.kept in
       let c = begins mid new (keys_of (take h order')) (keys_of (drop h order')) key d bytes more now free u size m in
       record {
         kept = record {
@@ -112,21 +141,29 @@ module _ {A : Type 0} where
       }
 
   -- the key of the unfinished delivery
-  pub here_of : (slab : Slab (OpenDelivery A)) (order : List (Option ℕ)) (h : ℕ) (unfinished : Option ℕ) (key bytes room : ℕ) → IsKeptAt slab order h unfinished bytes room → unfinished ≡ Some key → ContainsKey slab key
+  pub here_of : (slab : Slab (OpenDelivery A)) (order : List (Option ℕ)) (h : ℕ) (unfinished : Option ℕ) (key bytes room : ℕ) → IsKeptAt slab order h unfinished bytes room → unfinished ≡ Some key →
+      ContainsKey slab key
   here_of slab order h unfinished key bytes room at e =
-      (in_keys slab (keys_of (take h order) ++ keys_of (drop h order)) key [] (subst (λ (p : Option ℕ). AreKeys slab (keys_of (take h order) ++ keys_of (drop h order) ++ option_to_list p)) e at.kept.keys)).here
+      (in_keys slab (keys_of (take h order) ++ keys_of (drop h order)) key [] (subst (λ (p : Option ℕ). AreKeys slab (keys_of (take h order) ++ keys_of (drop h order) ++ option_to_list p)) e
+      at.kept.keys)).here
 
-  pub changes_at : (old : Slab (OpenDelivery A)) (order : List (Option ℕ)) (h : ℕ) (unfinished : Option ℕ) (key : ℕ) (d : OpenDelivery A) (bytes more n room : ℕ) → unfinished ≡ Some key → IsKeptAt old order h unfinished bytes room → delivery_bytes (delivery_of d) ≡ delivery_bytes (at_key old key) + n → more ≡ bytes + n → ComesAt (with_value old key d) order h unfinished more room (record (set_at old order h unfinished) { unfinished = Some (delivery_of d) })
+  pub changes_at : (old : Slab (OpenDelivery A)) (order : List (Option ℕ)) (h : ℕ) (unfinished : Option ℕ) (key : ℕ) (d : OpenDelivery A) (bytes more n room : ℕ) → unfinished ≡ Some key →
+      IsKeptAt old order h unfinished bytes room → delivery_bytes (delivery_of d) ≡ delivery_bytes (at_key old key) + n → more ≡ bytes + n →
+      ComesAt (with_value old key d) order h unfinished more room (record (set_at old order h unfinished) { unfinished = Some (delivery_of d) })
   changes_at old order h unfinished key d bytes more n room e =
-      subst (λ (p : Option ℕ). IsKeptAt old order h p bytes room → delivery_bytes (delivery_of d) ≡ delivery_bytes (at_key old key) + n → more ≡ bytes + n → ComesAt (with_value old key d) order h p more room (record (set_at old order h p) { unfinished = Some (delivery_of d) }))
+      subst (λ (p : Option ℕ). IsKeptAt old order h p bytes room → delivery_bytes (delivery_of d) ≡ delivery_bytes (at_key old key) + n → more ≡ bytes + n →
+      ComesAt (with_value old key d) order h p more room (record (set_at old order h p) { unfinished = Some (delivery_of d) }))
       (sym e) (λ at long m.
       let c = changes old (keys_of (take h order)) (keys_of (drop h order)) key d bytes more n at.kept long m in
       record { kept = record { kept = c.kept; split = at.split; filled = at.filled; fits = at.fits }; is = c.is })
 
   -- the unfinished delivery becomes ready
-  pub finishes_at : (slab : Slab (OpenDelivery A)) (order order' : List (Option ℕ)) (h : ℕ) (unfinished : Option ℕ) (key bytes room room' : ℕ) → unfinished ≡ Some key → IsKeptAt slab order h unfinished bytes room → order' ≡ order ++ Some key ∷ [] → room ≤ room' → ComesAt slab order' h None bytes room' (record (set_at slab order h unfinished) { ready = (set_at slab order h unfinished).ready ++ at_key slab key ∷ []; unfinished = None })
+  pub finishes_at : (slab : Slab (OpenDelivery A)) (order order' : List (Option ℕ)) (h : ℕ) (unfinished : Option ℕ) (key bytes room room' : ℕ) → unfinished ≡ Some key →
+      IsKeptAt slab order h unfinished bytes room → order' ≡ order ++ Some key ∷ [] → room ≤ room' → ComesAt slab order' h None bytes room'
+      (record (set_at slab order h unfinished) { ready = (set_at slab order h unfinished).ready ++ at_key slab key ∷ []; unfinished = None })
   finishes_at slab order order' h unfinished key bytes room room' e =
-      subst (λ (p : Option ℕ). IsKeptAt slab order h p bytes room → order' ≡ order ++ Some key ∷ [] → room ≤ room' → ComesAt slab order' h None bytes room' (record (set_at slab order h p) { ready = (set_at slab order h p).ready ++ at_key slab key ∷ []; unfinished = None }))
+      subst (λ (p : Option ℕ). IsKeptAt slab order h p bytes room → order' ≡ order ++ Some key ∷ [] → room ≤ room' → ComesAt slab order' h None bytes room'
+      (record (set_at slab order h p) { ready = (set_at slab order h p).ready ++ at_key slab key ∷ []; unfinished = None }))
       (sym e) (λ at f roomy.
       let c = finishes slab (keys_of (take h order)) (keys_of (drop h order)) key bytes at.kept in
       let front : take h order' ≡ take h order = ap (take h) f ∙ take-append-le h order (Some key ∷ []) at.split in
@@ -144,23 +181,32 @@ module _ {A : Type 0} where
       })
 
   -- the unfinished delivery goes
-  pub goes_at : (old new : Slab (OpenDelivery A)) (order : List (Option ℕ)) (h : ℕ) (unfinished : Option ℕ) (key bytes less room : ℕ) → unfinished ≡ Some key → IsKeptAt old order h unfinished bytes room → Updates old new key None → slab_len new + 1 ≡ slab_len old → less ≡ bytes - delivery_bytes (at_key old key) → ComesAt new order h None less room (record (set_at old order h unfinished) { unfinished = None })
+  pub goes_at : (old new : Slab (OpenDelivery A)) (order : List (Option ℕ)) (h : ℕ) (unfinished : Option ℕ) (key bytes less room : ℕ) → unfinished ≡ Some key →
+      IsKeptAt old order h unfinished bytes room → Updates old new key None → slab_len new + 1 ≡ slab_len old → less ≡ bytes - delivery_bytes (at_key old key) →
+      ComesAt new order h None less room (record (set_at old order h unfinished) { unfinished = None })
   goes_at old new order h unfinished key bytes less room e =
-      subst (λ (p : Option ℕ). IsKeptAt old order h p bytes room → Updates old new key None → slab_len new + 1 ≡ slab_len old → less ≡ bytes - delivery_bytes (at_key old key) → ComesAt new order h None less room (record (set_at old order h p) { unfinished = None }))
+      subst (λ (p : Option ℕ). IsKeptAt old order h p bytes room → Updates old new key None → slab_len new + 1 ≡ slab_len old → less ≡ bytes - delivery_bytes (at_key old key) →
+      ComesAt new order h None less room (record (set_at old order h p) { unfinished = None }))
       (sym e) (λ at u size m.
       let c = goes old new (keys_of (take h order)) (keys_of (drop h order)) key bytes less at.kept u size m in
       record { kept = record { kept = c.kept; split = at.split; filled = at.filled; fits = omega (arith, at.fits) }; is = c.is })
 
   -- the next delivery has a key
-  pub first_at : (slab : Slab (OpenDelivery A)) (order : List (Option ℕ)) (h : ℕ) (unfinished : Option ℕ) (key bytes room : ℕ) → IsKeptAt slab order h unfinished bytes room → drop h order ≡ Some key ∷ drop (h + 1) order → ContainsKey slab key
+  pub first_at : (slab : Slab (OpenDelivery A)) (order : List (Option ℕ)) (h : ℕ) (unfinished : Option ℕ) (key bytes room : ℕ) → IsKeptAt slab order h unfinished bytes room →
+      drop h order ≡ Some key ∷ drop (h + 1) order → ContainsKey slab key
   first_at slab order h unfinished key bytes room at e =
-      (first_in slab (keys_of (take h order)) key (keys_of (drop (h + 1) order)) unfinished bytes (subst (λ (ps : List (Option ℕ)). IsKept slab (keys_of (take h order)) (keys_of ps) unfinished bytes) e at.kept)).here
+      (first_in slab (keys_of (take h order)) key (keys_of (drop (h + 1) order)) unfinished bytes
+      (subst (λ (ps : List (Option ℕ)). IsKept slab (keys_of (take h order)) (keys_of ps) unfinished bytes) e at.kept)).here
 
   -- it is settled, and goes as it is handed up
-  pub leaves_at : (old new : Slab (OpenDelivery A)) (order : List (Option ℕ)) (h : ℕ) (unfinished : Option ℕ) (key : ℕ) (d : OpenDelivery A) (bytes less room : ℕ) → drop h order ≡ Some key ∷ drop (h + 1) order → IsKeptAt old order h unfinished bytes room → get old key ≡ Some d → d.settled ≡ true → Updates old new key None → slab_len new + 1 ≡ slab_len old → less ≡ bytes - delivery_bytes (delivery_of d) → ComesAt new (set order h None) (h + 1) unfinished less room (record (set_at old order h unfinished) { awaiting = (set_at old order h unfinished).awaiting ++ left_open (delivery_of d); ready = drop 1 (set_at old order h unfinished).ready })
+  pub leaves_at : (old new : Slab (OpenDelivery A)) (order : List (Option ℕ)) (h : ℕ) (unfinished : Option ℕ) (key : ℕ) (d : OpenDelivery A) (bytes less room : ℕ) →
+      drop h order ≡ Some key ∷ drop (h + 1) order → IsKeptAt old order h unfinished bytes room → get old key ≡ Some d → d.settled ≡ true → Updates old new key None →
+      slab_len new + 1 ≡ slab_len old → less ≡ bytes - delivery_bytes (delivery_of d) → ComesAt new (set order h None) (h + 1) unfinished less room
+      (record (set_at old order h unfinished) { awaiting = (set_at old order h unfinished).awaiting ++ left_open (delivery_of d); ready = drop 1 (set_at old order h unfinished).ready })
   leaves_at old new order h unfinished key d bytes less room e at has settled u size m =
       let lt = within order h key e in
-      let kept : IsKept old (keys_of (take h order)) (key ∷ keys_of (drop (h + 1) order)) unfinished bytes = subst (λ (ps : List (Option ℕ)). IsKept old (keys_of (take h order)) (keys_of ps) unfinished bytes) e at.kept in
+      let kept : IsKept old (keys_of (take h order)) (key ∷ keys_of (drop (h + 1) order)) unfinished bytes =
+      subst (λ (ps : List (Option ℕ)). IsKept old (keys_of (take h order)) (keys_of ps) unfinished bytes) e at.kept in
       let c = leaves_settled old new (keys_of (take h order)) key (keys_of (drop (h + 1) order)) unfinished d bytes less kept has settled u size m in
       let front : keys_of (take (h + 1) (set order h None)) ≡ keys_of (take h order) =
       ap keys_of (take_more_set order h None lt) ∙ keys_append (take h order) (None ∷ []) ∙ append-nil (keys_of (take h order)) in
@@ -173,14 +219,23 @@ module _ {A : Type 0} where
           filled = rw back (later order h key e at.filled);
           fits = omega (arith, at.fits, length-set order h None);
         };
-        is = rw (front, back) (c.is ∙ ap (λ (ps : List (Option ℕ)). record (set_at old order h unfinished) { awaiting = map (at_key old) (keys_of (take h order)) ++ left_open (delivery_of d); ready = drop 1 (map (at_key old) (keys_of ps)) }) (sym e));
+        is = rw (front, back)
+            (c.is ∙ ap (λ (ps : List (Option ℕ)). record (set_at old order h unfinished) {
+              awaiting = map (at_key old) (keys_of (take h order)) ++ left_open (delivery_of d);
+              ready =
+                  drop 1 (map (at_key old) (keys_of ps));
+            }) (sym e));
       }
 
   -- it is not, and stays without its message
-  pub moves_at : (old : Slab (OpenDelivery A)) (order : List (Option ℕ)) (h : ℕ) (unfinished : Option ℕ) (key : ℕ) (was d : OpenDelivery A) (bytes less n room : ℕ) → drop h order ≡ Some key ∷ drop (h + 1) order → IsKeptAt old order h unfinished bytes room → get old key ≡ Some was → was.settled ≡ false → delivery_of d ≡ record (delivery_of was) { message = [] } → n ≡ length (delivery_of was).message → less ≡ bytes - n → ComesAt (with_value old key d) order (h + 1) unfinished less room (record (set_at old order h unfinished) { awaiting = (set_at old order h unfinished).awaiting ++ left_open (delivery_of was); ready = drop 1 (set_at old order h unfinished).ready })
+  pub moves_at : (old : Slab (OpenDelivery A)) (order : List (Option ℕ)) (h : ℕ) (unfinished : Option ℕ) (key : ℕ) (was d : OpenDelivery A) (bytes less n room : ℕ) →
+      drop h order ≡ Some key ∷ drop (h + 1) order → IsKeptAt old order h unfinished bytes room → get old key ≡ Some was → was.settled ≡ false →
+      delivery_of d ≡ record (delivery_of was) { message = [] } → n ≡ length (delivery_of was).message → less ≡ bytes - n → ComesAt (with_value old key d) order (h + 1) unfinished less room
+      (record (set_at old order h unfinished) { awaiting = (set_at old order h unfinished).awaiting ++ left_open (delivery_of was); ready = drop 1 (set_at old order h unfinished).ready })
   moves_at old order h unfinished key was d bytes less n room e at has unsettled left size m =
       let lt = within order h key e in
-      let kept : IsKept old (keys_of (take h order)) (key ∷ keys_of (drop (h + 1) order)) unfinished bytes = subst (λ (ps : List (Option ℕ)). IsKept old (keys_of (take h order)) (keys_of ps) unfinished bytes) e at.kept in
+      let kept : IsKept old (keys_of (take h order)) (key ∷ keys_of (drop (h + 1) order)) unfinished bytes =
+      subst (λ (ps : List (Option ℕ)). IsKept old (keys_of (take h order)) (keys_of ps) unfinished bytes) e at.kept in
       let c = moves_unsettled old (keys_of (take h order)) key (keys_of (drop (h + 1) order)) unfinished was d bytes less n kept has unsettled left size m in
       let this : drop h order ≡ get_or order h None ∷ drop (h + 1) order = drop_more order h None lt in
       let that : get_or order h None ≡ Some key = same_head (get_or order h None) (Some key) (drop (h + 1) order) (sym this ∙ e) in
@@ -194,5 +249,9 @@ module _ {A : Type 0} where
           filled = later order h key e at.filled;
           fits = at.fits;
         };
-        is = rw front (c.is ∙ ap (λ (ps : List (Option ℕ)). record (set_at old order h unfinished) { awaiting = map (at_key old) (keys_of (take h order)) ++ left_open (delivery_of was); ready = drop 1 (map (at_key old) (keys_of ps)) }) (sym e));
+        is = rw front (c.is ∙ ap (λ (ps : List (Option ℕ)). record (set_at old order h unfinished) {
+          awaiting = map (at_key old) (keys_of (take h order)) ++ left_open (delivery_of was);
+          ready =
+              drop 1 (map (at_key old) (keys_of ps));
+        }) (sym e));
       }

@@ -25,12 +25,20 @@ pub settled_go : (ids : Ids) (ds : List Delivery) → settled_list (record { set
 settled_go ids ds = map-id (filter (λ d. not (is_covered ids.first ids.last d)) ds)
 
 -- the three parts, one after another
-pub sender_settles : (ids : Ids) (old a b new : OpenSet) → a ≡ record old { awaiting = settled_list (record { settler = SenderOfHandedUp; ids = ids }) old.awaiting } → b ≡ record a { ready = map (sender_settled_by ids.first ids.last) a.ready } → new ≡ record b { unfinished = option_map (sender_settled_by ids.first ids.last) b.unfinished } → new ≡ sender_settled_in ids.first ids.last old
+pub sender_settles : (ids : Ids) (old a b new : OpenSet) → a ≡ record old { awaiting = settled_list (record { settler = SenderOfHandedUp; ids = ids }) old.awaiting } →
+    b ≡ record a { ready = map (sender_settled_by ids.first ids.last) a.ready } → new ≡ record b { unfinished = option_map (sender_settled_by ids.first ids.last) b.unfinished } →
+    new ≡ sender_settled_in ids.first ids.last old
 sender_settles ids old a b new e f g = rw (g, f, e, settled_go ids old.awaiting) refl
 
 same_bytes : (ids : Ids) (ds : List Delivery) → sum_by delivery_bytes (map (sender_settled_by ids.first ids.last) ds) ≡ sum_by delivery_bytes ds
 same_bytes ids [] = refl
-same_bytes ids (d ∷ ds) = omega (arith, same_bytes ids ds, sum_by-cons delivery_bytes d ds, sum_by-cons delivery_bytes (sender_settled_by ids.first ids.last d) (map (sender_settled_by ids.first ids.last) ds))
+same_bytes ids (d ∷ ds) = omega (
+  arith,
+  same_bytes ids ds,
+  sum_by-cons delivery_bytes d ds,
+  sum_by-cons delivery_bytes (sender_settled_by ids.first ids.last d)
+      (map (sender_settled_by ids.first ids.last) ds),
+)
 
 part_same : (f g : ℕ → Delivery) (p : Option ℕ) → map f (option_to_list p) ≡ map g (option_to_list p) → option_map f p ≡ option_map g p
 part_same f g None e = refl
@@ -49,19 +57,24 @@ part_bytes ids (Some d) = refl
 
 module _ {A : Type 0} where
   -- the keys of the three parts
-  pub awaiting_keys : (slab : Slab (OpenDelivery A)) (order places : List (Option ℕ)) (h : ℕ) (unfinished : Option ℕ) (bytes room : ℕ) → IsKeptAt slab order h unfinished bytes room → places ≡ take h order → AreKeys slab (keys_of places)
+  pub awaiting_keys : (slab : Slab (OpenDelivery A)) (order places : List (Option ℕ)) (h : ℕ) (unfinished : Option ℕ) (bytes room : ℕ) → IsKeptAt slab order h unfinished bytes room →
+      places ≡ take h order → AreKeys slab (keys_of places)
   awaiting_keys slab order places h unfinished bytes room at e =
       rw e (keys_before slab (keys_of (take h order)) (keys_of (drop h order)) (keys_before slab (keys_of (take h order) ++ keys_of (drop h order)) (option_to_list unfinished) at.kept.keys))
 
-  pub ready_keys : (slab : Slab (OpenDelivery A)) (order places : List (Option ℕ)) (h : ℕ) (unfinished : Option ℕ) (bytes room : ℕ) → IsKeptAt slab order h unfinished bytes room → places ≡ drop h order → AreKeys slab (keys_of places)
+  pub ready_keys : (slab : Slab (OpenDelivery A)) (order places : List (Option ℕ)) (h : ℕ) (unfinished : Option ℕ) (bytes room : ℕ) → IsKeptAt slab order h unfinished bytes room →
+      places ≡ drop h order → AreKeys slab (keys_of places)
   ready_keys slab order places h unfinished bytes room at e =
       rw e (keys_behind slab (keys_of (take h order)) (keys_of (drop h order)) (keys_before slab (keys_of (take h order) ++ keys_of (drop h order)) (option_to_list unfinished) at.kept.keys))
 
-  pub unfinished_keys : (slab : Slab (OpenDelivery A)) (order : List (Option ℕ)) (h : ℕ) (unfinished : Option ℕ) (bytes room : ℕ) → IsKeptAt slab order h unfinished bytes room → AreKeys slab (option_to_list unfinished)
+  pub unfinished_keys : (slab : Slab (OpenDelivery A)) (order : List (Option ℕ)) (h : ℕ) (unfinished : Option ℕ) (bytes room : ℕ) → IsKeptAt slab order h unfinished bytes room →
+      AreKeys slab (option_to_list unfinished)
   unfinished_keys slab order h unfinished bytes room at = keys_behind slab (keys_of (take h order) ++ keys_of (drop h order)) (option_to_list unfinished) at.kept.keys
 
   -- those that were handed up are settled
-  pub awaiting_settled : (s : Settling) (old new : Slab (OpenDelivery A)) (order before after : List (Option ℕ)) (h : ℕ) (unfinished : Option ℕ) (many freed bytes room : ℕ) → IsKeptAt old order h unfinished bytes room → before ≡ take h order → Settles s old new before after many freed → ComesAt new (after ++ drop h order) h unfinished (bytes - freed) room (record (set_at old order h unfinished) { awaiting = settled_list s (set_at old order h unfinished).awaiting })
+  pub awaiting_settled : (s : Settling) (old new : Slab (OpenDelivery A)) (order before after : List (Option ℕ)) (h : ℕ) (unfinished : Option ℕ) (many freed bytes room : ℕ) →
+      IsKeptAt old order h unfinished bytes room → before ≡ take h order → Settles s old new before after many freed → ComesAt new (after ++ drop h order) h unfinished (bytes - freed) room
+      (record (set_at old order h unfinished) { awaiting = settled_list s (set_at old order h unfinished).awaiting })
   awaiting_settled s old new order before after h unfinished many freed bytes room at e settles =
       let a = keys_of (take h order) in
       let r = keys_of (drop h order) in
@@ -94,16 +107,22 @@ module _ {A : Type 0} where
       }
 
   -- those that are ready are settled
-  pub ready_settled : (ids : Ids) (old new : Slab (OpenDelivery A)) (order before after : List (Option ℕ)) (h : ℕ) (unfinished : Option ℕ) (many freed bytes room : ℕ) → IsKeptAt old order h unfinished bytes room → before ≡ drop h order → Settles (record { settler = SenderOfUntaken; ids = ids }) old new before after many freed → ComesAt new order h unfinished bytes room (record (set_at old order h unfinished) { ready = map (sender_settled_by ids.first ids.last) (set_at old order h unfinished).ready })
+  pub ready_settled : (ids : Ids) (old new : Slab (OpenDelivery A)) (order before after : List (Option ℕ)) (h : ℕ) (unfinished : Option ℕ) (many freed bytes room : ℕ) →
+      IsKeptAt old order h unfinished bytes room → before ≡ drop h order → Settles (record { settler = SenderOfUntaken; ids = ids }) old new before after many freed →
+      ComesAt new order h unfinished bytes room (record (set_at old order h unfinished) { ready = map (sender_settled_by ids.first ids.last) (set_at old order h unfinished).ready })
   ready_settled ids old new order before after h unfinished many freed bytes room at e settles =
       let a = keys_of (take h order) in
       let r = keys_of (drop h order) in
       let same : after ≡ drop h order = settles.same (λ _. refl) ∙ e in
-      let done : Settles (record { settler = SenderOfUntaken; ids = ids }) old new (drop h order) (drop h order) many freed = subst (λ (ps : List (Option ℕ)). Settles (record { settler = SenderOfUntaken; ids = ids }) old new (drop h order) ps many freed) same (subst (λ (ps : List (Option ℕ)). Settles (record { settler = SenderOfUntaken; ids = ids }) old new ps after many freed) e settles) in
+      let done : Settles (record { settler = SenderOfUntaken; ids = ids }) old new (drop h order) (drop h order) many freed = subst
+      (λ (ps : List (Option ℕ)). Settles (record { settler = SenderOfUntaken; ids = ids }) old new (drop h order) ps many freed) same
+      (subst (λ (ps : List (Option ℕ)). Settles (record { settler = SenderOfUntaken; ids = ids }) old new ps after many freed) e settles) in
       let o = done.others (keys_of (take h order)) (option_to_list unfinished) at.kept.keys in
       let part = part_same (at_key new) (at_key old) unfinished o.2 in
-      let turned : map (at_key new) (keys_of (drop h order)) ≡ map (sender_settled_by ids.first ids.last) (map (at_key old) (keys_of (drop h order))) = done.deliveries ∙ all_stay ids (map (at_key old) (keys_of (drop h order))) in
-      let is : set_at new order h unfinished ≡ record (set_at old order h unfinished) { ready = map (sender_settled_by ids.first ids.last) (map (at_key old) (keys_of (drop h order))) } = rw (o.1, turned, part) refl in
+      let turned : map (at_key new) (keys_of (drop h order)) ≡ map (sender_settled_by ids.first ids.last) (map (at_key old) (keys_of (drop h order))) = done.deliveries
+      ∙ all_stay ids (map (at_key old) (keys_of (drop h order))) in
+      let is : set_at new order h unfinished ≡ record (set_at old order h unfinished) { ready = map (sender_settled_by ids.first ids.last) (map (at_key old) (keys_of (drop h order))) } =
+      rw (o.1, turned, part) refl in
       let was = at.kept.total ∙ total_is (set_at old order h unfinished) in
       let becomes = ap set_bytes is ∙ total_is (record (set_at old order h unfinished) { ready = map (sender_settled_by ids.first ids.last) (map (at_key old) (keys_of (drop h order))) }) in
       record {
@@ -121,17 +140,21 @@ module _ {A : Type 0} where
       }
 
   -- the unfinished one is settled
-  pub unfinished_settled : (ids : Ids) (old new : Slab (OpenDelivery A)) (order : List (Option ℕ)) (h : ℕ) (unfinished after : Option ℕ) (many freed bytes room : ℕ) → IsKeptAt old order h unfinished bytes room → Settles (record { settler = SenderOfUntaken; ids = ids }) old new (unfinished ∷ []) (after ∷ []) many freed → ComesAt new order h after bytes room (record (set_at old order h unfinished) { unfinished = option_map (sender_settled_by ids.first ids.last) (set_at old order h unfinished).unfinished })
+  pub unfinished_settled : (ids : Ids) (old new : Slab (OpenDelivery A)) (order : List (Option ℕ)) (h : ℕ) (unfinished after : Option ℕ) (many freed bytes room : ℕ) →
+      IsKeptAt old order h unfinished bytes room → Settles (record { settler = SenderOfUntaken; ids = ids }) old new (unfinished ∷ []) (after ∷ []) many freed →
+      ComesAt new order h after bytes room (record (set_at old order h unfinished) { unfinished = option_map (sender_settled_by ids.first ids.last) (set_at old order h unfinished).unfinished })
   unfinished_settled ids old new order h unfinished after many freed bytes room at settles =
       let s : Settling = record { settler = SenderOfUntaken; ids = ids } in
       let front = keys_of (take h order) ++ keys_of (drop h order) in
       let same : after ≡ unfinished = same_place after unfinished (settles.same (λ _. refl)) in
       let done : Settles s old new (unfinished ∷ []) (unfinished ∷ []) many freed = subst (λ (p : Option ℕ). Settles s old new (unfinished ∷ []) (p ∷ []) many freed) same settles in
-      let flat : front ++ keys_of (unfinished ∷ []) ++ [] ≡ front ++ option_to_list unfinished = append-nil (front ++ keys_of (unfinished ∷ [])) ∙ ap (λ (ks : List ℕ). front ++ ks) (one_key unfinished) in
+      let flat : front ++ keys_of (unfinished ∷ []) ++ [] ≡ front ++ option_to_list unfinished = append-nil (front ++ keys_of (unfinished ∷ []))
+      ∙ ap (λ (ks : List ℕ). front ++ ks) (one_key unfinished) in
       let o = done.others front [] (subst (λ (ks : List ℕ). AreKeys old ks) (sym flat) at.kept.keys) in
       let two = same_append (at_key new) (at_key old) (keys_of (take h order)) (keys_of (drop h order)) o.1 in
       let part = part_turned (at_key old) (at_key new) (sender_settled_by ids.first ids.last) unfinished (done.deliveries ∙ all_stay ids (map (at_key old) (keys_of (unfinished ∷ [])))) in
-      let is : set_at new order h unfinished ≡ record (set_at old order h unfinished) { unfinished = option_map (sender_settled_by ids.first ids.last) (option_map (at_key old) unfinished) } = rw (two.0, two.1, part) refl in
+      let is : set_at new order h unfinished ≡ record (set_at old order h unfinished) { unfinished = option_map (sender_settled_by ids.first ids.last) (option_map (at_key old) unfinished) } =
+      rw (two.0, two.1, part) refl in
       let was = at.kept.total ∙ total_is (set_at old order h unfinished) in
       let becomes = ap set_bytes is ∙ total_is (record (set_at old order h unfinished) { unfinished = option_map (sender_settled_by ids.first ids.last) (option_map (at_key old) unfinished) }) in
       rw same (record {

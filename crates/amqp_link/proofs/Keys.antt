@@ -32,7 +32,8 @@ same_delivery x y e = cc
 
 -- what bytes count, by the three lists
 pub total_is : (o : OpenSet) → set_bytes o ≡ sum_by delivery_bytes o.awaiting + sum_by delivery_bytes o.ready + sum_by delivery_bytes (option_to_list o.unfinished)
-total_is o = sum_by-append delivery_bytes (o.awaiting ++ o.ready) (option_to_list o.unfinished) ∙ ap (λ (n : ℕ). n + sum_by delivery_bytes (option_to_list o.unfinished)) (sum_by-append delivery_bytes o.awaiting o.ready)
+total_is o = sum_by-append delivery_bytes (o.awaiting ++ o.ready) (option_to_list o.unfinished) ∙ ap (λ (n : ℕ). n + sum_by delivery_bytes (option_to_list o.unfinished))
+    (sum_by-append delivery_bytes o.awaiting o.ready)
 
 module _ {A : Type 0} where
   -- a key among others: it has a delivery, and the others are keys without it
@@ -74,7 +75,8 @@ module _ {A : Type 0} where
   fresh_apart slab key [] e k = tt
   fresh_apart slab key (x ∷ xs) e k = ((λ same. none_some (get slab key) e (subst (λ (n : ℕ). ContainsKey slab n) same k.0)), fresh_apart slab key xs e k.2)
 
-  pub map_other : (old new : Slab (OpenDelivery A)) (key : ℕ) (slot : Option (OpenDelivery A)) (keys : List ℕ) → Updates old new key slot → IsApart key keys → map (at_key new) keys ≡ map (at_key old) keys
+  pub map_other : (old new : Slab (OpenDelivery A)) (key : ℕ) (slot : Option (OpenDelivery A)) (keys : List ℕ) → Updates old new key slot → IsApart key keys →
+      map (at_key new) keys ≡ map (at_key old) keys
   map_other old new key slot [] u a = refl
   map_other old new key slot (x ∷ xs) u a = rw (u.others x a.0, map_other old new key slot xs u a.1) refl
 
@@ -116,6 +118,7 @@ module _ {A : Type 0} where
       same_key e = cc
 
   -- what a lent delivery shows
-  pub lent : (slab : Slab (OpenDelivery A)) (key : ℕ) (o : Option (Bor (OpenDelivery A))) → option_copied o ≡ get slab key → ContainsKey slab key → option_map (λ (held : Bor (OpenDelivery A)). delivery_of held.now) o ≡ Some (at_key slab key)
+  pub lent : (slab : Slab (OpenDelivery A)) (key : ℕ) (o : Option (Bor (OpenDelivery A))) → option_copied o ≡ get slab key → ContainsKey slab key →
+      option_map (λ (held : Bor (OpenDelivery A)). delivery_of held.now) o ≡ Some (at_key slab key)
   lent slab key None e here = absurd (grind (arith, e, here))
   lent slab key (Some held) e here = rw (← e) refl

@@ -57,7 +57,8 @@ pub from_the_start : (n : ℕ) (xs : List (Option ℕ)) → take (n - 0) xs ≡ 
 from_the_start n xs = ap (λ (k : ℕ). take k xs) (omega arith)
 
 -- the front written anew
-pub front_written : (len n : ℕ) (xs ys : List (Option ℕ)) → len ≡ length xs → length ys ≡ n → n ≤ len → take len (ys ++ drop (length ys) xs ++ drop (length (ys ++ drop (length ys) xs)) xs) ≡ ys ++ drop n xs
+pub front_written : (len n : ℕ) (xs ys : List (Option ℕ)) → len ≡ length xs → length ys ≡ n → n ≤ len →
+    take len (ys ++ drop (length ys) xs ++ drop (length (ys ++ drop (length ys) xs)) xs) ≡ ys ++ drop n xs
 front_written len n xs ys e long lt =
     let whole : length (ys ++ drop (length ys) xs) ≡ length xs = omega (arith, length-append ys (drop (length ys) xs), length-drop (length ys) xs) in
     take-append-le len (ys ++ drop (length ys) xs) (drop (length (ys ++ drop (length ys) xs)) xs) (omega arith)
@@ -65,7 +66,8 @@ front_written len n xs ys e long lt =
     ∙ ap (λ (k : ℕ). ys ++ drop k xs) long
 
 -- the back written as it was
-pub back_written : (len n : ℕ) (xs ys : List (Option ℕ)) → len ≡ length xs → ys ≡ drop n xs → take len (take n xs ++ (ys ++ drop (length ys) (drop n xs)) ++ drop (length (take n xs ++ (ys ++ drop (length ys) (drop n xs)))) xs) ≡ xs
+pub back_written : (len n : ℕ) (xs ys : List (Option ℕ)) → len ≡ length xs → ys ≡ drop n xs →
+    take len (take n xs ++ (ys ++ drop (length ys) (drop n xs)) ++ drop (length (take n xs ++ (ys ++ drop (length ys) (drop n xs)))) xs) ≡ xs
 back_written len n xs ys e same =
     let none : drop (length ys) (drop n xs) ≡ [] = drop_all (length ys) (drop n xs) (omega (arith, ap length same)) in
     let whole : take n xs ++ (ys ++ drop (length ys) (drop n xs)) ≡ xs =

@@ -79,7 +79,8 @@ rest_stays olds nows i y lt same rest =
 
 module _ {A : Type 0} where
   -- whether it ends, asked of what stands under its key
-  pub asked_of : (s : Settling) (slab : Slab (OpenDelivery A)) (key : ℕ) (was other : OpenDelivery A) (b v : Bool) → get slab key ≡ Some was → get slab key ≡ Some other → b ≡ ends s (delivery_of other) → b ≡ v → ends s (delivery_of was) ≡ v
+  pub asked_of : (s : Settling) (slab : Slab (OpenDelivery A)) (key : ℕ) (was other : OpenDelivery A) (b v : Bool) → get slab key ≡ Some was → get slab key ≡ Some other →
+      b ≡ ends s (delivery_of other) → b ≡ v → ends s (delivery_of was) ≡ v
   asked_of s slab key was other b v e f asked is = ap (λ d. ends s (delivery_of d)) (same_value slab key was other e f) ∙ sym asked ∙ is
 
   -- what a change under one key leaves beside it
@@ -90,7 +91,8 @@ module _ {A : Type 0} where
     pub apart : IsApart key (front ++ back)
     pub rest : AreKeys new (front ++ back)
 
-  beside : (old new : Slab (OpenDelivery A)) (key : ℕ) (slot : Option (OpenDelivery A)) (front back : List ℕ) → Updates old new key slot → AreKeys old (front ++ key ∷ [] ++ back) → Beside old new front back key
+  beside : (old new : Slab (OpenDelivery A)) (key : ℕ) (slot : Option (OpenDelivery A)) (front back : List ℕ) → Updates old new key slot → AreKeys old (front ++ key ∷ [] ++ back) →
+      Beside old new front back key
   beside old new key slot front back u k =
       let i = in_keys old front key back (subst (λ (ks : List ℕ). AreKeys old ks) (append_assoc front (key ∷ []) back) k) in
       let two = apart_append key front back i.apart in
@@ -103,7 +105,8 @@ module _ {A : Type 0} where
       }
 
   -- one that stays open
-  stays_open : (s : Settling) (old : Slab (OpenDelivery A)) (key many : ℕ) (was d : OpenDelivery A) → ContainsKey old key → get old key ≡ Some was → delivery_of d ≡ turned s (delivery_of was) → ends s (delivery_of was) ≡ false → many ≡ cond (counts s (delivery_of was)) 1 0 → Settles s old (with_value old key d) (Some key ∷ []) (Some key ∷ []) many 0
+  stays_open : (s : Settling) (old : Slab (OpenDelivery A)) (key many : ℕ) (was d : OpenDelivery A) → ContainsKey old key → get old key ≡ Some was → delivery_of d ≡ turned s (delivery_of was) →
+      ends s (delivery_of was) ≡ false → many ≡ cond (counts s (delivery_of was)) 1 0 → Settles s old (with_value old key d) (Some key ∷ []) (Some key ∷ []) many 0
   stays_open s old key many was d here has becomes stays counted =
       let new = with_value old key d in
       let u = Updates-with_value old key d here in
@@ -116,17 +119,24 @@ module _ {A : Type 0} where
         freed = rw (was_is, now_is) (omega (arith, turned_bytes s (delivery_of was)));
         same = λ _. refl;
         others = λ front back k.
-            let b = beside old (with_value old key d) key (Some d) front back u k in
-            (subst (λ (ks : List ℕ). AreKeys (with_value old key d) ks) (sym (append_assoc front (key ∷ []) back)) (to_keys (with_value old key d) front key back (there_now old (with_value old key d) key d u) b.apart b.rest), b.front_same, b.back_same);
+            let b = beside old (with_value old key d) key (Some d) front back u k in (
+              subst (λ (ks : List ℕ). AreKeys (with_value old key d) ks) (sym (append_assoc front (key ∷ []) back)) (to_keys (with_value old key d) front key back
+                  (there_now old (with_value old key d) key d u) b.apart b.rest),
+              b.front_same,
+              b.back_same,
+            );
         only = omega (arith, size_kept old key d here);
       }
 
-  pub stays_open_at : (s : Settling) (old : Slab (OpenDelivery A)) (place : Option ℕ) (key many : ℕ) (was d : OpenDelivery A) → place ≡ Some key → ContainsKey old key → get old key ≡ Some was → delivery_of d ≡ turned s (delivery_of was) → ends s (delivery_of was) ≡ false → many ≡ cond (counts s (delivery_of was)) 1 0 → Settles s old (with_value old key d) (place ∷ []) (place ∷ []) many 0
+  pub stays_open_at : (s : Settling) (old : Slab (OpenDelivery A)) (place : Option ℕ) (key many : ℕ) (was d : OpenDelivery A) → place ≡ Some key → ContainsKey old key → get old key ≡ Some was →
+      delivery_of d ≡ turned s (delivery_of was) → ends s (delivery_of was) ≡ false → many ≡ cond (counts s (delivery_of was)) 1 0 →
+      Settles s old (with_value old key d) (place ∷ []) (place ∷ []) many 0
   stays_open_at s old place key many was d e here has becomes stays counted =
       subst (λ (p : Option ℕ). Settles s old (with_value old key d) (p ∷ []) (p ∷ []) many 0) (sym e) (stays_open s old key many was d here has becomes stays counted)
 
   -- one that is open no longer
-  goes : (s : Settling) (old new : Slab (OpenDelivery A)) (key many bytes : ℕ) (was : OpenDelivery A) → get old key ≡ Some was → Updates old new key None → slab_len new + 1 ≡ slab_len old → ends s (delivery_of was) ≡ true → many ≡ cond (counts s (delivery_of was)) 1 0 → bytes ≡ delivery_bytes (delivery_of was) → Settles s old new (Some key ∷ []) (None ∷ []) many bytes
+  goes : (s : Settling) (old new : Slab (OpenDelivery A)) (key many bytes : ℕ) (was : OpenDelivery A) → get old key ≡ Some was → Updates old new key None → slab_len new + 1 ≡ slab_len old →
+      ends s (delivery_of was) ≡ true → many ≡ cond (counts s (delivery_of was)) 1 0 → bytes ≡ delivery_bytes (delivery_of was) → Settles s old new (Some key ∷ []) (None ∷ []) many bytes
   goes s old new key many bytes was has u less leaves counted freed =
       let was_is : at_key old key ≡ delivery_of was = ap delivery_in has in
       record {
@@ -141,7 +151,9 @@ module _ {A : Type 0} where
         only = omega (arith, less);
       }
 
-  pub goes_at : (s : Settling) (old new : Slab (OpenDelivery A)) (place : Option ℕ) (key many bytes : ℕ) (was : OpenDelivery A) → place ≡ Some key → get old key ≡ Some was → Updates old new key None → slab_len new + 1 ≡ slab_len old → ends s (delivery_of was) ≡ true → many ≡ cond (counts s (delivery_of was)) 1 0 → bytes ≡ delivery_bytes (delivery_of was) → Settles s old new (place ∷ []) (None ∷ []) many bytes
+  pub goes_at : (s : Settling) (old new : Slab (OpenDelivery A)) (place : Option ℕ) (key many bytes : ℕ) (was : OpenDelivery A) → place ≡ Some key → get old key ≡ Some was →
+      Updates old new key None → slab_len new + 1 ≡ slab_len old → ends s (delivery_of was) ≡ true → many ≡ cond (counts s (delivery_of was)) 1 0 → bytes ≡ delivery_bytes (delivery_of was) →
+      Settles s old new (place ∷ []) (None ∷ []) many bytes
   goes_at s old new place key many bytes was e has u less leaves counted freed =
       subst (λ (p : Option ℕ). Settles s old new (p ∷ []) (None ∷ []) many bytes) (sym e) (goes s old new key many bytes was has u less leaves counted freed)
 
@@ -158,9 +170,11 @@ module _ {A : Type 0} where
   }
 
   abbrev Leaves : Slab (OpenDelivery A) → Slab (OpenDelivery A) → List ℕ → List ℕ → Type 0
-  Leaves a b xs ys = (front back : List ℕ) → AreKeys a (front ++ xs ++ back) → AreKeys b (front ++ ys ++ back) × (map (at_key b) front ≡ map (at_key a) front) × (map (at_key b) back ≡ map (at_key a) back)
+  Leaves a b xs ys = (front back : List ℕ) → AreKeys a (front ++ xs ++ back) → AreKeys b (front ++ ys ++ back) × (map (at_key b) front ≡ map (at_key a) front) ×
+      (map (at_key b) back ≡ map (at_key a) back)
 
-  joined_others : (a b c : Slab (OpenDelivery A)) (front xs ys us vs back xus yvs : List ℕ) → xus ≡ xs ++ us → yvs ≡ ys ++ vs → Leaves a b xs ys → Leaves b c us vs → AreKeys a (front ++ xus ++ back) → AreKeys c (front ++ yvs ++ back) × (map (at_key c) front ≡ map (at_key a) front) × (map (at_key c) back ≡ map (at_key a) back)
+  joined_others : (a b c : Slab (OpenDelivery A)) (front xs ys us vs back xus yvs : List ℕ) → xus ≡ xs ++ us → yvs ≡ ys ++ vs → Leaves a b xs ys → Leaves b c us vs →
+      AreKeys a (front ++ xus ++ back) → AreKeys c (front ++ yvs ++ back) × (map (at_key c) front ≡ map (at_key a) front) × (map (at_key c) back ≡ map (at_key a) back)
   joined_others a b c front xs ys us vs back xus yvs ex ey first second k =
       let o = first front (us ++ back) (subst (λ (ks : List ℕ). AreKeys a ks) (ap (λ (ks : List ℕ). front ++ ks ++ back) ex ∙ regroup front xs us back) k) in
       let p = second (front ++ ys) back (subst (λ (ks : List ℕ). AreKeys b ks) (sym (append_assoc (front ++ ys) us back)) o.0) in (
@@ -173,7 +187,8 @@ module _ {A : Type 0} where
       regroup front xs us back = simp append_assoc
 
   -- some places, and those behind them
-  pub joined : (s : Settling) (a b c : Slab (OpenDelivery A)) (xs ys us vs : List (Option ℕ)) (m n f g : ℕ) → Settles s a b xs ys m f → Settles s b c us vs n g → AreKeys a (keys_of xs ++ keys_of us) → Settles s a c (xs ++ us) (ys ++ vs) (m + n) (f + g)
+  pub joined : (s : Settling) (a b c : Slab (OpenDelivery A)) (xs ys us vs : List (Option ℕ)) (m n f g : ℕ) → Settles s a b xs ys m f → Settles s b c us vs n g →
+      AreKeys a (keys_of xs ++ keys_of us) → Settles s a c (xs ++ us) (ys ++ vs) (m + n) (f + g)
   joined s a b c xs ys us vs m n f g first second keys =
       let o = first.others [] (keys_of us) keys in
       let p = second.others (keys_of ys) [] (subst (λ (ks : List ℕ). AreKeys b ks) (sym (append-nil (keys_of ys ++ keys_of us))) o.0) in
@@ -188,7 +203,15 @@ module _ {A : Type 0} where
         long = omega (arith, first.long, second.long, length-append xs us, length-append ys vs);
         deliveries = after ∙ ap (λ (ds : List Delivery). ds ++ map (at_key c) (keys_of vs)) first.deliveries ∙ ap (λ (ds : List Delivery). settled_list s (map (at_key a) (keys_of xs)) ++ ds) mid
             ∙ sym (settled_append s (map (at_key a) (keys_of xs)) (map (at_key a) (keys_of us))) ∙ ap (settled_list s) (sym before);
-        count = omega (arith, first.count, second.count, ap (count_by (counts s)) o.2, ap (count_by (counts s)) before, sum_by-append (λ x. cond (counts s x) 1 0) (map (at_key a) (keys_of xs)) (map (at_key a) (keys_of us)));
+        count = omega (
+          arith,
+          first.count,
+          second.count,
+          ap (count_by (counts s)) o.2,
+          ap (count_by (counts s)) before,
+          sum_by-append (λ x. cond (counts s x) 1 0) (map (at_key a) (keys_of xs))
+              (map (at_key a) (keys_of us)),
+        );
         freed = omega (
           arith,
           first.freed,
@@ -205,7 +228,8 @@ module _ {A : Type 0} where
       }
 
   -- it has a key of the slab, if it has one
-  pub next_keys : (s : Settling) (a b : Slab (OpenDelivery A)) (olds nows : List (Option ℕ)) (i m f : ℕ) → i < length olds → length nows ≡ length olds → Settles s a b (take i olds) (take i nows) m f → drop i nows ≡ drop i olds → AreKeys a (keys_of olds) → AreKeys b (option_to_list (get_or nows i None))
+  pub next_keys : (s : Settling) (a b : Slab (OpenDelivery A)) (olds nows : List (Option ℕ)) (i m f : ℕ) → i < length olds → length nows ≡ length olds →
+      Settles s a b (take i olds) (take i nows) m f → drop i nows ≡ drop i olds → AreKeys a (keys_of olds) → AreKeys b (option_to_list (get_or nows i None))
   next_keys s a b olds nows i m f lt same done rest keys =
       let split : keys_of olds ≡ keys_of (take i olds) ++ keys_of (drop i olds) = ap keys_of (sym (take-append-drop i olds)) ∙ keys_append (take i olds) (drop i olds) in
       let o = done.others [] (keys_of (drop i olds)) (subst (λ (ks : List ℕ). AreKeys a ks) split keys) in
@@ -215,14 +239,17 @@ module _ {A : Type 0} where
       keys_before b (option_to_list (get_or nows i None)) (keys_of (drop (i + 1) olds)) (subst (λ (ks : List ℕ). AreKeys b ks) left (keys_behind b (keys_of (take i nows)) (keys_of (drop i olds)) o.0))
 
   -- one place more
-  pub further : (s : Settling) (a b c : Slab (OpenDelivery A)) (olds nows : List (Option ℕ)) (i : ℕ) (y : Option ℕ) (m n f g : ℕ) → i < length olds → length nows ≡ length olds → Settles s a b (take i olds) (take i nows) m f → drop i nows ≡ drop i olds → AreKeys a (keys_of olds) → Settles s b c (get_or nows i None ∷ []) (y ∷ []) n g → Settles s a c (take (i + 1) olds) (take (i + 1) (set nows i y)) (m + n) (f + g)
+  pub further : (s : Settling) (a b c : Slab (OpenDelivery A)) (olds nows : List (Option ℕ)) (i : ℕ) (y : Option ℕ) (m n f g : ℕ) → i < length olds → length nows ≡ length olds →
+      Settles s a b (take i olds) (take i nows) m f → drop i nows ≡ drop i olds → AreKeys a (keys_of olds) → Settles s b c (get_or nows i None ∷ []) (y ∷ []) n g →
+      Settles s a c (take (i + 1) olds) (take (i + 1) (set nows i y)) (m + n) (f + g)
   further s a b c olds nows i y m n f g lt same done rest keys one =
       let there : i < length nows = omega arith in
       let more : take (i + 1) olds ≡ take i olds ++ get_or nows i None ∷ [] = take_more olds i None lt ∙ ap (λ (p : Option ℕ). take i olds ++ p ∷ []) (sym (next_place olds nows i lt same rest)) in
       let split : keys_of olds ≡ (keys_of (take i olds) ++ keys_of (get_or nows i None ∷ [])) ++ keys_of (drop (i + 1) olds) =
       ap keys_of (sym (take-append-drop (i + 1) olds)) ∙ keys_append (take (i + 1) olds) (drop (i + 1) olds)
       ∙ ap (λ (ps : List (Option ℕ)). keys_of ps ++ keys_of (drop (i + 1) olds)) more ∙ ap (λ (ks : List ℕ). ks ++ keys_of (drop (i + 1) olds)) (keys_append (take i olds) (get_or nows i None ∷ [])) in
-      let j = joined s a b c (take i olds) (take i nows) (get_or nows i None ∷ []) (y ∷ []) m n f g done one (keys_before a (keys_of (take i olds) ++ keys_of (get_or nows i None ∷ [])) (keys_of (drop (i + 1) olds)) (subst (λ (ks : List ℕ). AreKeys a ks) split keys)) in
+      let j = joined s a b c (take i olds) (take i nows) (get_or nows i None ∷ []) (y ∷ []) m n f g done one (keys_before a (keys_of (take i olds) ++ keys_of (get_or nows i None ∷ []))
+      (keys_of (drop (i + 1) olds)) (subst (λ (ks : List ℕ). AreKeys a ks) split keys)) in
       rw (more, take_more_set nows i y there) j
 
   -- what is counted is no more than the places, and what is freed no more than was kept
@@ -232,5 +259,6 @@ module _ {A : Type 0} where
   pub little : (s : Settling) (a b : Slab (OpenDelivery A)) (olds ys : List (Option ℕ)) (i m f : ℕ) → Settles s a b (take i olds) ys m f → f ≤ sum_by delivery_bytes (map (at_key a) (keys_of olds))
   little s a b olds ys i m f done =
       let split : map (at_key a) (keys_of olds) ≡ map (at_key a) (keys_of (take i olds)) ++ map (at_key a) (keys_of (drop i olds)) =
-      ap (λ (ps : List (Option ℕ)). map (at_key a) (keys_of ps)) (sym (take-append-drop i olds)) ∙ ap (map (at_key a)) (keys_append (take i olds) (drop i olds)) ∙ map-append (at_key a) (keys_of (take i olds)) (keys_of (drop i olds)) in
+      ap (λ (ps : List (Option ℕ)). map (at_key a) (keys_of ps)) (sym (take-append-drop i olds)) ∙ ap (map (at_key a)) (keys_append (take i olds) (drop i olds))
+      ∙ map-append (at_key a) (keys_of (take i olds)) (keys_of (drop i olds)) in
       omega (arith, done.freed, ap (sum_by delivery_bytes) split, sum_by-append delivery_bytes (map (at_key a) (keys_of (take i olds))) (map (at_key a) (keys_of (drop i olds))))

@@ -8,7 +8,8 @@ use Rattle.std.proofs.lemmas.List.{take_rest, take_all, length-drop}
 
 pub goes_on : (a b c : Option (List ℕ)) (bytes : List ℕ) (at n : ℕ) → Appends a b (take at bytes) → Appends b c (take n (take (length bytes - at) (drop at bytes))) → Appends a c (take (at + n) bytes)
 goes_on a b c bytes at n front more =
-    subst (Appends a c) (sym (take-add at n bytes)) (Appends-trans a b c (take at bytes) (take n (drop at bytes)) front (subst (λ (rest : List ℕ). Appends b c (take n rest)) (take_rest bytes at) more))
+    subst (Appends a c) (sym (take-add at n bytes)) (Appends-trans a b c (take at bytes) (take n (drop at bytes)) front (subst (λ (rest : List ℕ). Appends b c (take n rest))
+    (take_rest bytes at) more))
 
 pub still_within : (bytes : List ℕ) (at n : ℕ) → at ≤ length bytes → n ≤ length (take (length bytes - at) (drop at bytes)) → at + n ≤ length bytes
 still_within bytes at n within more =

@@ -1,8 +1,11 @@
--- The history of one link: a list of its events, newest first, and what stands in it, by sums and selections over the whole list, in numbers without a limit (AMQP 1.0, part 2, sections 2.6.7 to 2.6.14).
-use Rattle.std.specs.Prelude.{◌≡◌, ℕ, suc, ◌+◌, ◌-◌, ◌%◌, ◌^◌, ◌≤◌, Bool, true, false, not, ◌&&◌, ◌||◌, if◌then◌else◌, nat_eq, List, [], ◌∷◌, ◌++◌, length, take, drop, map, filter, find, flat_map, sum_by, Option, Some, None, option_map, unwrap_or}
+-- The history of one link: a list of its events, newest first, and what stands in it, by sums and selections over the whole list, in numbers without a limit
+-- (AMQP 1.0, part 2, sections 2.6.7 to 2.6.14).
+use Rattle.std.specs.Prelude.{◌≡◌, ℕ, suc, ◌+◌, ◌-◌, ◌%◌, ◌^◌, ◌≤◌, Bool, true, false, not, ◌&&◌, ◌||◌, if◌then◌else◌, nat_eq, List, [], ◌∷◌, ◌++◌, length, take, drop, map, filter, find, flat_map}
+use Rattle.std.specs.Prelude.{sum_by, Option, Some, None, option_map, unwrap_or}
 use Rattle.std.specs.List.{list_any, AllByRecursion}
 use Rattle.amqp_link.specs.declared.terms.Terms.{Terms}
-use Rattle.amqp_link.specs.Links.{Sent, goes_on, completes, adds, Delivery, mode_at, is_first, covers, LinkState, open_count, LinkEvent, Granted, DrainAsked, Transferred, FlowStated, HandedUp, ReceiverSettled, SenderSettled, advance_by, link_begins, link_after, LinkMay}
+use Rattle.amqp_link.specs.Links.{Sent, goes_on, completes, adds, Delivery, mode_at, is_first, covers, LinkState, open_count, LinkEvent, Granted, DrainAsked, Transferred, FlowStated, HandedUp}
+use Rattle.amqp_link.specs.Links.{ReceiverSettled, SenderSettled, advance_by, link_begins, link_after, LinkMay}
 
 -- the credit that an event grants
 abbrev pub granted_by : LinkEvent → ℕ
@@ -184,7 +187,8 @@ id_of g = unwrap_or g.head.delivery_id 0
 abbrev pub passes : (Group → Bool) → ℕ → List LinkEvent → Bool
 passes test number h = list_any (λ g. nat_eq g.number number && test g) (groups h)
 
--- An event other than a transfer settles the delivery with this number, where `settled` says whether one before it did: while it is open a disposition of the sender covers its id, or the receiver, to which it was handed up, settles it in mode first.
+-- An event other than a transfer settles the delivery with this number, where `settled` says whether one before it did: while it is open a disposition of the
+-- sender covers its id, or the receiver, to which it was handed up, settles it in mode first.
 abbrev pub settles_at : Terms → List LinkEvent → Bool → ℕ → LinkEvent → Bool
 settles_at terms h settled number (ReceiverSettled first last) = passes (λ g. is_handed_up h g && is_open_if h settled g && is_first (mode_at terms g.head) && covers first last (id_of g)) number h
 settles_at terms h settled number (SenderSettled first last) = passes (λ g. is_open_if h settled g && covers first last (id_of g)) number h

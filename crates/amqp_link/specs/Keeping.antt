@@ -1,5 +1,6 @@
 -- How a link keeps its open deliveries, which no public clause names: each under a key, and the keys at places in link order.
-use Rattle.std.specs.Prelude.{◌≡◌, ◌≢◌, ℕ, ◌+◌, ◌≤◌, List, [], ◌∷◌, ◌++◌, length, map, filter, take, drop, Bool, false, not, ◌&&◌, Option, Some, None, IsSome, option_map, option_to_list, sum_by, count_by}
+use Rattle.std.specs.Prelude.{◌≡◌, ◌≢◌, ℕ, ◌+◌, ◌≤◌, List, [], ◌∷◌, ◌++◌, length, map, filter, take, drop, Bool, false, not, ◌&&◌, Option, Some, None, IsSome, option_map, option_to_list, sum_by}
+use Rattle.std.specs.Prelude.{count_by}
 use Rattle.std.specs.List.{AllByRecursion}
 use Rattle.slab.specs.Slab.{Slab, get, ContainsKey, slab_len}
 use Rattle.amqp_perform.specs.declared.modes.ReceiverSettleMode.TheVariants.{First}
@@ -63,7 +64,15 @@ keys_of (Some key ∷ places) = key ∷ keys_of places
 module _ {A : Type 0} where
   -- what is held of a delivery
   abbrev pub delivery_of : OpenDelivery A → Delivery
-  delivery_of d = record { delivery_id = d.delivery_id; delivery_tag = d.delivery_tag; message_format = d.message_format; rcv_settle_mode = d.rcv_settle_mode; settled = d.settled; told = d.told; message = d.message.items }
+  delivery_of d = record {
+    delivery_id = d.delivery_id;
+    delivery_tag = d.delivery_tag;
+    message_format = d.message_format;
+    rcv_settle_mode = d.rcv_settle_mode;
+    settled = d.settled;
+    told = d.told;
+    message = d.message.items;
+  }
 
   -- the delivery under a key; where there is none any would do
   abbrev pub delivery_in : Option (OpenDelivery A) → Delivery
@@ -94,7 +103,8 @@ module _ {A : Type 0} where
     -- one that stays open keeps its place
     pub same : ((d : Delivery) → ends s d ≡ false) → after ≡ before
     -- keys beside them stay keys, with the same deliveries
-    pub others : (front back : List ℕ) → AreKeys old (front ++ keys_of before ++ back) → AreKeys new (front ++ keys_of after ++ back) × (map (at_key new) front ≡ map (at_key old) front) × (map (at_key new) back ≡ map (at_key old) back)
+    pub others : (front back : List ℕ) → AreKeys old (front ++ keys_of before ++ back) → AreKeys new (front ++ keys_of after ++ back) × (map (at_key new) front ≡ map (at_key old) front) ×
+        (map (at_key new) back ≡ map (at_key old) back)
     pub only : slab_len new + length (keys_of before) ≡ slab_len old + length (keys_of after)
 
   -- what holds of the keys of a link

@@ -1,5 +1,6 @@
 -- One link of a sender as its calls show it, in plain numbers and lists, and what each call does to it (AMQP 1.0, part 2, sections 2.6.7 to 2.6.14).
-use Rattle.std.specs.Prelude.{◌≡◌, ℕ, ◌+◌, ◌-◌, ◌%◌, ◌^◌, ◌≤◌, Bool, true, false, not, ◌&&◌, ◌||◌, if◌then◌else◌, nat_eq, nat_lt, nat_le, List, [], ◌∷◌, ◌++◌, length, drop, map, filter, find, sum_by, slice_get, Option, Some, None, is_none, is_some, option_map, option_to_list, unwrap_or, bytes_eq}
+use Rattle.std.specs.Prelude.{◌≡◌, ℕ, ◌+◌, ◌-◌, ◌%◌, ◌^◌, ◌≤◌, Bool, true, false, not, ◌&&◌, ◌||◌, if◌then◌else◌, nat_eq, nat_lt, nat_le, List, [], ◌∷◌, ◌++◌, length, drop, map, filter, find, sum_by}
+use Rattle.std.specs.Prelude.{slice_get, Option, Some, None, is_none, is_some, option_map, option_to_list, unwrap_or, bytes_eq}
 use Rattle.std.specs.List.{list_any, count_by}
 use Rattle.amqp_serial.specs.Numbers.{distance_of}
 use Rattle.amqp_perform.specs.declared.modes.ReceiverSettleMode.{ReceiverSettleMode}
@@ -63,7 +64,8 @@ pub record Delivery : Type 0 where
   pub told : Bool  -- the sender was told what became of it
   pub message : List ℕ  -- what is kept of it: nothing once it is handed up
 
--- A live link. Its open deliveries are, in the order in which they began, those that were handed up and await settlement, those that are ready to be handed up, and the one whose last transfer hasn't come.
+-- A live link. Its open deliveries are, in the order in which they began, those that were handed up and await settlement, those that are ready to be handed up,
+-- and the one whose last transfer hasn't come.
 pub record LinkState : Type 0 where
   pub terms : Terms
   pub credit : ℕ
@@ -127,7 +129,7 @@ link_bytes s = set_bytes (open_set s)
 abbrev pub link_begins : Terms → LinkState
 link_begins terms = record { terms = terms; credit = 0; delivery_count = terms.initial_delivery_count; draining = false; awaiting = []; ready = []; unfinished = None }
 
--- The settle mode of a delivery that begins so: what it states counts, unless it comes settled, else what the attach stated. [2.7.5]
+-- The settle mode of a delivery that begins so: its rcv-settle-mode counts, unless it comes settled, else that of the attach. [2.7.5]
 abbrev pub mode_at : Terms → Sent → ReceiverSettleMode
 mode_at terms t = if t.settled then terms.rcv_settle_mode else unwrap_or t.rcv_settle_mode terms.rcv_settle_mode
 
@@ -192,7 +194,7 @@ is_formed terms (Some d) t = is_formed_continuation d t
 abbrev pub lacks_credit : LinkState → Bool
 lacks_credit s = is_none s.unfinished && nat_eq s.credit 0
 
--- the message would be longer than the link allows [2.7.3]; an aborted transfer adds nothing
+-- the message would be longer than the link's max-message-size allows [2.7.3]; an aborted transfer adds nothing
 abbrev pub is_too_long : LinkState → Sent → Bool
 is_too_long s t = not t.aborted && nat_lt s.terms.bounds.max_message_size (length (delivery_after s.terms s.unfinished t).message)
 
@@ -283,7 +285,7 @@ is_covered first last d = covers first last d.delivery_id
 abbrev pub receiver_settles : ℕ → ℕ → Delivery → Bool
 receiver_settles first last d = is_first d.rcv_settle_mode && is_covered first last d
 
--- In mode second it tells the sender what became of the delivery, and leaves it to the sender to settle. [2.7.5, 2.8.3]
+-- In mode second (rcv-settle-mode) it tells the sender what became of the delivery, and leaves it to the sender to settle. [2.7.5, 2.8.3]
 abbrev pub tells : ℕ → ℕ → Delivery → Bool
 tells first last d = not (is_first d.rcv_settle_mode) && is_covered first last d
 
@@ -307,7 +309,8 @@ names_untaken first last o = list_any (is_covered first last) (untaken o)
 abbrev pub names_told : ℕ → ℕ → OpenSet → Bool
 names_told first last o = list_any (λ d. tells first last d && d.told) o.awaiting
 
--- Why the receiver can't settle these ids, if it can't: it settles what was handed up and is open, and tells the sender of one in mode second once. Ids that no open delivery has are no fault of the link.
+-- Why the receiver can't settle these ids, if it can't: it settles what was handed up and is open, and tells the sender of one in mode second once. Ids that no
+-- open delivery has are no fault of the link.
 abbrev pub settle_fault : ℕ → ℕ → OpenSet → Option SettleFault
 settle_fault first last o = if names_untaken first last o then Some NotTaken else (if names_told first last o then Some AlreadyTold else None)
 
@@ -336,7 +339,7 @@ sender_settled_in first last o = record {
 abbrev pub newly_settled : ℕ → ℕ → OpenSet → ℕ
 newly_settled first last o = count_by (λ d. not d.settled && is_covered first last d) (in_order o)
 
--- the link after a flow that moves its count so far
+-- the link after a flow of the sender that moves its delivery-count so far: the credit falls by as much [2.6.7]
 abbrev pub advanced : LinkState → ℕ → LinkState
 advanced s d = record s { credit = s.credit - d; delivery_count = (s.delivery_count + d) % 2 ^ 32; draining = if nat_eq (s.credit - d) 0 then false else s.draining }
 

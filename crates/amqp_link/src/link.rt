@@ -257,8 +257,18 @@ impl<A: Allocator + Copy> Link<A> {
     {
         match self.settle_fault(first, last) {
             Some(fault) => Err(fault),
-            None => Ok(self.deliveries.settle_by_receiver(Ids { first, last }) as u32),
+            None => Ok(self.settle_faultless(first, last)),
         }
+    }
+
+    /// The same of ids that are known to have no such fault.
+    pub fn settle_faultless(&mut self, first: u32, last: u32) -> u32
+        requires { settle_fault first last (open_set self.old) ≡ None }
+        ensures may { LinkMay self.old (ReceiverSettled first last) }
+        ensures new { self.new ≡ link_after self.old (ReceiverSettled first last) }
+        ensures count { result ≡ named_count first last (open_set self.old) }
+    {
+        self.deliveries.settle_by_receiver(Ids { first, last }) as u32
     }
 
     /// The sender settles the ids from `first` to `last` [2.6.12, 2.7.6], also those of deliveries that were

@@ -53,7 +53,7 @@ impl<A: Allocator + Copy> Message<A> {
         }
     }
 
-    /// Its bytes in a new vector.
+    /// Its bytes in a new vector; an error where memory for it is refused.
     pub fn to_vec<B: Allocator>(&self, alloc: B) -> Result<Vec<u8, B>, AllocError>
         ensures { IfOk result (λ v. v.items ≡ self.now) }
     {

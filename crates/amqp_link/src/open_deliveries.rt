@@ -14,8 +14,8 @@ use std::marker::Model;
 /// The open deliveries, each under a key of its own, and their places in link order.
 ///
 /// The place that a delivery needs once it is whole is made when it begins. A delivery that is settled leaves
-/// its place empty, so that no other moves; empty places are closed up when a delivery begins, once there is no
-/// room behind them and three in four are empty.
+/// its place empty, so that no other moves; empty places are closed up when a delivery begins, once no other is
+/// open, or there is no room behind them and three in four are empty.
 #[derive(Drop)]
 pub struct OpenDeliveries<A: Allocator + Copy = Global> {
     alloc: A,
@@ -76,8 +76,29 @@ impl<A: Allocator + Copy> OpenDeliveries<A> {
         Ok(())
     }
 
-    /// Closes up the empty places, where there is no room behind them and three in four are empty.
+    /// Closes up the empty places: all of them where no delivery is open, else where there is no room behind them
+    /// and three in four are empty.
     fn close_up(&mut self)
+        ensures { self.new ≡ self.old }
+    {
+        if self.len() == 0 {
+            self.clear_places();
+        } else {
+            self.close_gaps();
+        }
+    }
+
+    /// Closes up all places where no delivery is open.
+    fn clear_places(&mut self)
+        requires { how_many self.old ≡ 0 }
+        ensures { self.new ≡ self.old }
+    {
+        self.order.clear();
+        self.handed_up = 0;
+    }
+
+    /// Closes up the empty places, where there is no room behind them and three in four are empty.
+    fn close_gaps(&mut self)
         ensures { self.new ≡ self.old }
     {
         let places = self.order.len();

@@ -53,7 +53,8 @@ pub number_one : (w : Window) (k : Kind) (bytes : List ℕ) → is_partial k ≡
 unfolding number_at form_at
 number_one w k bytes e = whole (number_fault k (place w bytes)) (big_at w 1 bytes) (λ n. no_fault k (place w bytes) n e) ∙ byte_is w bytes
 
-pub number_full : (w : Window) (k : Kind) (bytes : List ℕ) → is_partial k ≡ false → result_ok (number_at w k form.Full bytes) ≡ where_so (leb (width k) (length bytes)) (big_number (width k) bytes, drop (width k) bytes)
+pub number_full : (w : Window) (k : Kind) (bytes : List ℕ) → is_partial k ≡ false → result_ok (number_at w k form.Full bytes) ≡ where_so (leb (width k) (length bytes))
+    (big_number (width k) bytes, drop (width k) bytes)
 unfolding number_at form_at
 number_full w k bytes e = whole (number_fault k (place w bytes)) (big_at w (width k) bytes) (λ n. no_fault k (place w bytes) n e) ∙ big_is w (width k) bytes
 
@@ -106,7 +107,8 @@ pub sized_is : (w : Window) (k : Kind) (s : SizeWidth) (bytes : List ℕ) → re
 unfolding sized_at
 sized_is w k s bytes = from_size (big_at w (size_len s) bytes) ∙ widths s
   where
-    from_size : (read : Read ℕ) → result_ok (read >>= λ n. octets_at w n.0 n.1 >>= λ octets. unless (octets_fault k (place w n.1) octets.0) octets) ≡ checked (λ x. are_of k x.0) (behind_size (result_ok read))
+    from_size : (read : Read ℕ) → result_ok (read >>= λ n. octets_at w n.0 n.1 >>= λ octets. unless (octets_fault k (place w n.1) octets.0) octets) ≡ checked (λ x. are_of k x.0)
+        (behind_size (result_ok read))
     from_size (Ok n) = all_checked k (place w n.1) (octets_at w n.0 n.1) ∙ ap (checked (λ (x : List ℕ × List ℕ). are_of k x.0)) (octets_is w n.0 n.1)
     from_size (Err e) = refl
 

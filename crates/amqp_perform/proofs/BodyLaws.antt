@@ -27,7 +27,8 @@ use Rattle.amqp_perform.proofs.ListLaws.{BeginsWithList, list_found, described}
 abbrev Says : Type 0
 Says = Descriptor × List Cell × List ℕ
 
-all_items : (d : Descriptor) (left : ℕ) (bytes : List ℕ) (cells : List Cell) → IsBytes bytes → performative_at d left bytes ≡ Some cells → (fs : List Field) × (fields_of d ≡ Some fs) × AreItems fs left bytes cells []
+all_items : (d : Descriptor) (left : ℕ) (bytes : List ℕ) (cells : List Cell) → IsBytes bytes → performative_at d left bytes ≡ Some cells →
+    (fs : List Field) × (fields_of d ≡ Some fs) × AreItems fs left bytes cells []
 unfolding performative_at
 all_items d left bytes cells fits e =
     let a = bind_some (fields_of d) (λ table. fields_at table left bytes >>= λ read. where_so (eqb read.1 0 && eqb (length read.2) 0) read.0) cells e in
@@ -61,7 +62,8 @@ described_found bytes x fits e =
     let first = descriptor_found bytes a.0 fits a.1 in
     subst (λ (y : Descriptor × ListAt). IsListed bytes y.0 y.1) (same_Some (a.0.0, b.0) x b.2) (listed bytes a.0.0 a.0.1 b.0 first (list_found a.0.1 b.0 first.rest_fits b.1))
 
-says : (bytes : List ℕ) (d : Descriptor) (list : ListAt) (fs : List Field) (cells : List Cell) → IsListed bytes d list → fields_of d ≡ Some fs → AreItems fs list.count list.items cells [] → BodyOf bytes d cells list.behind
+says : (bytes : List ℕ) (d : Descriptor) (list : ListAt) (fs : List Field) (cells : List Cell) → IsListed bytes d list → fields_of d ≡ Some fs → AreItems fs list.count list.items cells [] →
+    BodyOf bytes d cells list.behind
 says bytes d list fs cells is table are =
     let text : text_of are.items ≡ list.items = sym (are.parts ∙ append-nil (text_of are.items)) in
     (fs, are.items, is.text, table, is.parts, is.spelled are.items are.count text are.spelled, omega (arith, are.deep), are.cells_are)

@@ -75,7 +75,8 @@ one_absent f fs c cs e others = rw (e, others) refl
 one_given : (f : Field) (fs : List Field) (x : Item) (xs : List Item) (c : Cell) (cs : List Cell) → field_cell f x ≡ Some c → cells_of fs xs ≡ Some cs → cells_of (f ∷ fs) (x ∷ xs) ≡ Some (c ∷ cs)
 one_given f fs x xs c cs e others = rw (e, others) refl
 
-pub fields_found : (fs : List Field) (left : ℕ) (bytes : List ℕ) (cells : List Cell) (rest : List ℕ) → IsBytes bytes → fields_at fs left bytes ≡ Some (cells, 0, rest) → AreItems fs left bytes cells rest
+pub fields_found : (fs : List Field) (left : ℕ) (bytes : List ℕ) (cells : List Cell) (rest : List ℕ) → IsBytes bytes → fields_at fs left bytes ≡ Some (cells, 0, rest) →
+    AreItems fs left bytes cells rest
 fields_found [] left bytes cells rest fits e =
     let same = triple_is {A = List Cell} [] cells left 0 bytes rest e in
     record { items = []; count = sym same.1; spelled = tt; deep = omega arith; parts = same.2; cells_are = ap (λ (cs : List Cell). Some cs) same.0 }

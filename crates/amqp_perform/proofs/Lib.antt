@@ -21,3 +21,4 @@ pub mod WrittenLaws
 pub mod StateLaws
 pub mod Writable
 pub mod Lengths
+pub mod OtherStates

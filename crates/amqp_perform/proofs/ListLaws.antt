@@ -41,7 +41,8 @@ record IsBlockAt (s : SizeWidth) (bytes : List ℕ) (list : ListAt) : Type 0 whe
 
 block_found : (s : SizeWidth) (bytes : List ℕ) (list : ListAt) → IsBytes bytes → block_in s bytes ≡ Some list → IsBlockAt s bytes list
 block_found s bytes list fits e =
-    let a = bind_some (result_ok (block_at (outermost bytes) s (size_len s) bytes)) (λ block. result_ok (count_at block.within s false block.body) >>= λ count. Some (record { count = count.0; items = count.1; behind = block.behind })) list e in
+    let a = bind_some (result_ok (block_at (outermost bytes) s (size_len s) bytes)) (λ block. result_ok (count_at block.within s false block.body) >>= λ count. Some
+    (record { count = count.0; items = count.1; behind = block.behind })) list e in
     let b = bind_some (result_ok (count_at a.0.within s false a.0.body)) (λ count. Some (record { count = count.0; items = count.1; behind = a.0.behind })) list a.2 in
     let block = block_sound (outermost bytes) s (size_len s) bytes a.0 fits (ok_only (block_at (outermost bytes) s (size_len s) bytes) a.0 a.1) in
     let count = count_sound a.0.within s false a.0.body b.0 block.fits (ok_only (count_at a.0.within s false a.0.body) b.0 b.1) in

@@ -9,7 +9,8 @@ use Rattle.amqp_types.specs.Kinds.{is_container}
 use Rattle.amqp_types.specs.Codes.{find_code, kind_of}
 use Rattle.amqp_types.specs.Spelling.{size_len}
 use Rattle.amqp_types.specs.Trees.{Tree, Number, Octets, ListOf, MapOf, ArrayOf, Described, none, IsOfKind}
-use Rattle.amqp_types.specs.Reading.{Part, Budget, Level, ◌>>=◌, allowed, charge, place, ended, number_at, sized_at, block_at, count_at, trees_at, pairs_at, head_at, list_at, map_at, array_at, item_by, described_at, value_by}
+use Rattle.amqp_types.specs.Reading.{Part, Budget, Level, ◌>>=◌, allowed, charge, place, ended, number_at, sized_at, block_at, count_at, trees_at, pairs_at, head_at, list_at, map_at, array_at}
+use Rattle.amqp_types.specs.Reading.{item_by, described_at, value_by}
 
 -- what is read, if anything, is such a value
 abbrev pub Yields : (Tree → Type 0) → Part Tree → Type 0
@@ -45,7 +46,8 @@ module _ (P : Tree → Type 0) where
       then_yields (block_at w s (size_len s + 1) bytes) _ (λ block. then_yields (count_at block.within s false block.body) _ (λ count.
       then_yields (head_at (length count.1) level block.within None count.1) _ (λ head.
       then_yields (trees_at (level.item head.0.constructor) count.0 block.within None head.2) _ (λ items.
-      ended_yields block.within items.2 (ArrayOf head.0.descriptors (kind_of head.0.constructor) items.0, items.1, block.behind) (h (ArrayOf head.0.descriptors (kind_of head.0.constructor) items.0) refl)))))
+      ended_yields block.within items.2 (ArrayOf head.0.descriptors (kind_of head.0.constructor) items.0, items.1, block.behind) (h
+      (ArrayOf head.0.descriptors (kind_of head.0.constructor) items.0) refl)))))
 
   described_yields : (inner : Option Level) (at : ℕ) (w : Window) (due : ℕ) (bytes : List ℕ) → ((d t : Tree) → P (Described d t)) → Yields P (described_at inner at w due None bytes)
   unfolding described_at
@@ -65,6 +67,8 @@ module _ (P : Tree → Type 0) where
   unfolding value_by
   value_yields inner w due code rest described h = tested (eqb code 0)
     where
-      tested : (b : Bool) → Yields P (cond b (described_at inner (place w (code ∷ rest)) w due None rest) (allowed (place w (code ∷ rest)) (is_some inner) (find_code code) >>= λ c. charge None due (place w (code ∷ rest)) >>= λ left. item_by inner c w left rest))
+      tested : (b : Bool) →
+          Yields P (cond b (described_at inner (place w (code ∷ rest)) w due None rest) (allowed (place w (code ∷ rest)) (is_some inner) (find_code code) >>= λ c. charge None due
+          (place w (code ∷ rest)) >>= λ left. item_by inner c w left rest))
       tested true = described_yields inner (place w (code ∷ rest)) w due rest described
       tested false = allowed_yields (place w (code ∷ rest)) (is_some inner) (find_code code) _ (λ c found. item_yields inner c w rest (h c found))

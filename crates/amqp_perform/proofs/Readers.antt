@@ -92,9 +92,11 @@ uint_read = (
   (
     λ rest. number_row uint 0x43 kind.Uint form.Zero (λ n. where_so (leb 0 n) (Whole n)) (Some (0, rest)) rest refl (λ n text. refl) refl,
     (
-      λ rest. number_row uint 0x52 kind.Uint form.OneByte (λ n. Some (Whole n)) (byte_at rest) rest refl (λ n text. rw (le-leb 0 n (omega arith)) refl) (number_one (outermost (0x52 ∷ rest)) kind.Uint rest refl),
+      λ rest. number_row uint 0x52 kind.Uint form.OneByte (λ n. Some (Whole n)) (byte_at rest) rest refl (λ n text. rw (le-leb 0 n (omega arith)) refl)
+          (number_one (outermost (0x52 ∷ rest)) kind.Uint rest refl),
       (
-        λ rest. number_row uint 0x70 kind.Uint form.Full (λ n. Some (Whole n)) (word_at rest) rest refl (λ n text. rw (le-leb 0 n (omega arith)) refl) (number_full (outermost (0x70 ∷ rest)) kind.Uint rest refl),
+        λ rest. number_row uint 0x70 kind.Uint form.Full (λ n. Some (Whole n)) (word_at rest) rest refl (λ n text. rw (le-leb 0 n (omega arith)) refl)
+            (number_full (outermost (0x70 ∷ rest)) kind.Uint rest refl),
         tt,
       ),
     ),

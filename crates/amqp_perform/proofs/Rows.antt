@@ -109,7 +109,8 @@ not_accepted accepted ks (x ∷ xs) code c all others found =
     row : (not (accepted (kind_of x.1)) || is_in ks x.0 ≡ true) × (covered accepted ks xs ≡ true)
     row = and_parts (not (accepted (kind_of x.1)) || is_in ks x.0) (covered accepted ks xs) all
 
-    tested : (lookup (λ k. eqb code k) xs ≡ Some c → accepted (kind_of c) ≡ false) → (b : Bool) → eqb code x.0 ≡ b → cond b (Some x.1) (lookup (λ k. eqb code k) xs) ≡ Some c → accepted (kind_of c) ≡ false
+    tested : (lookup (λ k. eqb code k) xs ≡ Some c → accepted (kind_of c) ≡ false) → (b : Bool) → eqb code x.0 ≡ b → cond b (Some x.1) (lookup (λ k. eqb code k) xs) ≡ Some c →
+        accepted (kind_of c) ≡ false
     tested next true e here =
         let same = eqb-true code x.0 e in
         subst (λ (d : Constructor). accepted (kind_of d) ≡ false) (same_Some x.1 c here)
@@ -186,7 +187,8 @@ compound_none symbol (Number k n) text leaf any = absurd cc
 compound_none symbol (Octets k octets) text leaf any = absurd cc
 compound_none symbol t text leaf any = refl
 
-tree_none : (type : FieldType) (t : Tree) (k : Kind) (text : List ℕ) → IsOfKind k t → accepts type k ≡ false → accepts type kind.List ≡ false → typed_cell type (record { tree = t; text = text }) ≡ None
+tree_none : (type : FieldType) (t : Tree) (k : Kind) (text : List ℕ) → IsOfKind k t → accepts type k ≡ false → accepts type kind.List ≡ false →
+    typed_cell type (record { tree = t; text = text }) ≡ None
 tree_none type (Number j n) k text is e any = number_none type j n text (subst (λ (x : Kind). accepts type x ≡ false) (sym is) e)
 tree_none type (Octets j octets) k text is e any = octets_none type j octets text (subst (λ (x : Kind). accepts type x ≡ false) (sym is) e)
 tree_none type (ListOf ts) k text is e any = compound_none type (ListOf ts) text refl any
@@ -200,7 +202,8 @@ part_none type bytes (Ok x) h = ap (λ (o : Option Cell). o >>= with_rest x.2) (
 part_none type bytes (Err e) h = refl
 
 -- a code that has no row is of no kind that the field reads
-others_none : (type : FieldType) (rows : List Row) (code : ℕ) (rest : List ℕ) → covered (accepts type) (codes_of rows) constructors ≡ true → accepts type kind.List ≡ false → IsOther (codes_of rows) code
+others_none : (type : FieldType) (rows : List Row) (code : ℕ) (rest : List ℕ) → covered (accepts type) (codes_of rows) constructors ≡ true → accepts type kind.List ≡ false →
+    IsOther (codes_of rows) code
     → data_cell type code rest ≡ None
 others_none type rows code rest all any others =
     part_none type (code ∷ rest) (value_of 30 None (code ∷ rest))

@@ -1,5 +1,6 @@
 -- What a field of any type is: absent where its bytes are a null's, and else those bytes.
-use Rattle.std.proofs.Common.{◌≡◌, ℕ, zero, suc, ◌-◌, ◌≤◌, Bool, true, false, eqb, List, [], ◌∷◌, length, take, drop, Option, Some, None, Result, Ok, Err, refl, sym, ap, subst, ◌∙◌, arith, inl, inr, ◌⊎◌}
+use Rattle.std.proofs.Common.{◌≡◌, ℕ, zero, suc, ◌-◌, ◌≤◌, Bool, true, false, eqb, List, [], ◌∷◌, length, take, drop, Option, Some, None, Result, Ok, Err, refl, sym, ap, subst, ◌∙◌, arith, inl, inr}
+use Rattle.std.proofs.Common.{◌⊎◌}
 use Rattle.std.proofs.Math.Dec.{leb}
 use Rattle.std.specs.Prelude.{IfOk}
 use Rattle.std.proofs.lemmas.Bool.{le-ltb, eqb-true, eqb-false}
@@ -118,7 +119,8 @@ octets_parts n bytes o rest e =
     (sym (ap (λ (p : List ℕ × List ℕ). p.0) same), sym (ap (λ (p : List ℕ × List ℕ). p.1) same))
 
 -- what skip found, and what the cursor took of it
-pub lent : (left len : ℕ) (bytes o rest : List ℕ) (r : Result ℕ ReadFault) → (left ≡ 0 → ⊥) → r ≡ Ok len → IfOk r (λ n. n ≤ length bytes) → IfOk r (λ n. (t : Tree) × Spells t (take n bytes) × (depth_of t ≤ 30))
+pub lent : (left len : ℕ) (bytes o rest : List ℕ) (r : Result ℕ ReadFault) → (left ≡ 0 → ⊥) → r ≡ Ok len → IfOk r (λ n. n ≤ length bytes) →
+    IfOk r (λ n. (t : Tree) × Spells t (take n bytes) × (depth_of t ≤ 30))
     → Is (λ n. drop n bytes) r (after (value_of 30 None bytes)) → octets_at len bytes ≡ Some (o, rest)
     → (IsNullText o → typed_at anything left bytes ≡ Some (Absent, left - 1, rest)) × ((IsNullText o → ⊥) → typed_at anything left bytes ≡ Some (span o, left - 1, rest))
 lent zero len bytes o rest r more is within found exact taken = absurd (more refl)

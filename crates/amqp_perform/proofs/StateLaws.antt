@@ -28,10 +28,12 @@ given type x xs spelled deep = rw (item_again x.tree x.text (text_of xs) spelled
 
 -- ---- conditions
 
-named : (x : Item) (n : ℕ) (rest : List ℕ) → unwrap_or ((typed_cell symbol x >>= λ c. Some (c, n, rest)) >>= λ (read : Cell × ℕ × List ℕ). Some (cell_condition read.0)) condition.Other ≡ tree_condition x.tree
+named : (x : Item) (n : ℕ) (rest : List ℕ) → unwrap_or ((typed_cell symbol x >>= λ c. Some (c, n, rest)) >>= λ (read : Cell × ℕ × List ℕ). Some (cell_condition read.0)) condition.Other ≡
+    tree_condition x.tree
 named x n rest = by x.tree
   where
-    by : (t : Tree) → unwrap_or ((typed_cell symbol (record { tree = t; text = x.text }) >>= λ c. Some (c, n, rest)) >>= λ (read : Cell × ℕ × List ℕ). Some (cell_condition read.0)) condition.Other ≡ tree_condition t
+    by : (t : Tree) → unwrap_or ((typed_cell symbol (record { tree = t; text = x.text }) >>= λ c. Some (c, n, rest)) >>= λ (read : Cell × ℕ × List ℕ). Some (cell_condition read.0)) condition.Other ≡
+        tree_condition t
     by (Number kind.Null n) = refl
     by (Octets kind.Symbol name) = refl
     by _ = refl
@@ -80,7 +82,8 @@ second_is (x ∷ xs) spelled deep =
     ∙ passed x (length xs) (text_of xs)
     ∙ first_is xs spelled.1 (omega (arith, deep))
 
-by_descriptor : (d : Descriptor) (items : List Item) (second rest : List ℕ) → list_at second ≡ Some (list_of_items items rest) → AreSpelled items → depth_of_all (trees_of items) ≤ 30 → outcome_by d second ≡ outcome_in d items
+by_descriptor : (d : Descriptor) (items : List Item) (second rest : List ℕ) → list_at second ≡ Some (list_of_items items rest) → AreSpelled items → depth_of_all (trees_of items) ≤ 30 →
+    outcome_by d second ≡ outcome_in d items
 unfolding modified_by
 by_descriptor of_type.Modified items second rest list spelled deep = rw (list, first_is items spelled deep, second_is items spelled deep) refl
 by_descriptor _ items second rest list spelled deep = refl

@@ -9,7 +9,7 @@ use Rattle.amqp_perform.specs.declared.field_text.FieldText.{FieldText}
 use Rattle.amqp_perform.specs.Frames.{null_text, before_nulls, trimmed, field_spelling, field_spellings}
 
 -- a null at the end is left out
-null_trimmed : (xs : List (List ℕ)) (x : List ℕ) → bytes_eq x null_text ≡ true → trimmed (xs ++ x ∷ []) ≡ trimmed xs
+pub null_trimmed : (xs : List (List ℕ)) (x : List ℕ) → bytes_eq x null_text ≡ true → trimmed (xs ++ x ∷ []) ≡ trimmed xs
 null_trimmed [] x is = rw is refl
 null_trimmed (y ∷ ys) x is = ap (before_nulls y) (null_trimmed ys x is)
 
@@ -18,7 +18,7 @@ kept_before [] x y = refl
 kept_before (z ∷ zs) x y = refl
 
 -- where the last is no null, none is left out
-other_trimmed : (xs : List (List ℕ)) (x : List ℕ) → bytes_eq x null_text ≡ false → trimmed (xs ++ x ∷ []) ≡ xs ++ x ∷ []
+pub other_trimmed : (xs : List (List ℕ)) (x : List ℕ) → bytes_eq x null_text ≡ false → trimmed (xs ++ x ∷ []) ≡ xs ++ x ∷ []
 other_trimmed [] x is = rw is refl
 other_trimmed (y ∷ ys) x is = ap (before_nulls y) (other_trimmed ys x is) ∙ kept_before ys x y
 
@@ -83,3 +83,7 @@ trimmed_width values used le same =
     let kept : length (trimmed (field_spellings values)) ≡ used = ap length same ∙ length-map (take used values) field_spelling ∙ length-take-le used values le in
     let joined : length (concat (trimmed (field_spellings values))) ≡ length (concat (field_spellings (take used values))) = ap (λ (x : List (List ℕ)). length (concat x)) same in
     omega (arith, all, kept, joined, length-map values field_spelling)
+
+-- of six texts the last alone is null
+pub sixth_trimmed : (a b c d e f : List ℕ) → bytes_eq e null_text ≡ false → bytes_eq f null_text ≡ true → trimmed (a ∷ b ∷ c ∷ d ∷ e ∷ f ∷ []) ≡ a ∷ b ∷ c ∷ d ∷ e ∷ []
+sixth_trimmed a b c d e f stated null = null_trimmed (a ∷ b ∷ c ∷ d ∷ e ∷ []) f null ∙ other_trimmed (a ∷ b ∷ c ∷ d ∷ []) e stated

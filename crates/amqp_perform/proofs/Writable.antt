@@ -25,7 +25,8 @@ use Rattle.amqp_perform.specs.Cells.{Cell, Absent, Whole, Bytes, Span, ◌>>=◌
 use Rattle.amqp_perform.specs.Frames.{kind_of, last_written, disposition_written, written_cells}
 use Rattle.amqp_perform.specs.Items.{Item, trees_of, text_of, AreSpelled, SpellsDescribed}
 use Rattle.amqp_perform.specs.Performatives.{optional_whole, disposition_cells, type_of, performative_cells}
-use Rattle.amqp_perform.specs.Tables.{FieldType, boolean, ubyte_to, ushort, uint_from, binary, string, symbol, anything, Absence, mandatory, optional, default, Field, field, uint, open_fields, begin_fields, attach_fields, flow_fields, transfer_fields, disposition_fields, detach_fields, end_fields, close_fields, fields_of}
+use Rattle.amqp_perform.specs.Tables.{FieldType, boolean, ubyte_to, ushort, uint_from, binary, string, symbol, anything, Absence, mandatory, optional, default, Field, field, uint, open_fields}
+use Rattle.amqp_perform.specs.Tables.{begin_fields, attach_fields, flow_fields, transfer_fields, disposition_fields, detach_fields, end_fields, close_fields, fields_of}
 use Rattle.amqp_perform.proofs.Steps.{bind_some}
 use Rattle.amqp_perform.proofs.ItemLaws.{descriptor_found}
 use Rattle.amqp_perform.proofs.ListLaws.{list_of_items, list_found, described}
@@ -154,10 +155,12 @@ abbrev all_suit : List Field → Bool
 all_suit [] = true
 all_suit (f ∷ fs) = suits f.type f.absence && all_suit fs
 
-some_of_fields : (f : Field) (fs : List Field) (c : Cell) (cs cells : List Cell) → IsOfField f c → AreOfFields fs cs → ◌≡◌ {A = Option (List Cell)} (Some (c ∷ cs)) (Some cells) → AreOfFields (f ∷ fs) cells
+some_of_fields : (f : Field) (fs : List Field) (c : Cell) (cs cells : List Cell) → IsOfField f c → AreOfFields fs cs → ◌≡◌ {A = Option (List Cell)} (Some (c ∷ cs)) (Some cells) →
+    AreOfFields (f ∷ fs) cells
 some_of_fields f fs c cs cells one others e = subst (AreOfFields (f ∷ fs)) (same_Some (c ∷ cs) cells e) (one, others)
 
-all_of_fields : (fs : List Field) (xs : List Item) (cells : List Cell) → all_suit fs ≡ true → AreSpelled xs → IsBytes (text_of xs) → depth_of_all (trees_of xs) ≤ 30 → cells_of fs xs ≡ Some cells → AreOfFields fs cells
+all_of_fields : (fs : List Field) (xs : List Item) (cells : List Cell) → all_suit fs ≡ true → AreSpelled xs → IsBytes (text_of xs) → depth_of_all (trees_of xs) ≤ 30 → cells_of fs xs ≡ Some cells →
+    AreOfFields fs cells
 all_of_fields [] [] cells h spelled fits deep e = subst (AreOfFields []) (same_Some [] cells e) tt
 all_of_fields [] (x ∷ xs) cells h spelled fits deep e = absurd cc
 all_of_fields (f ∷ fs) [] cells h spelled fits deep e =
@@ -187,7 +190,8 @@ defaults of_type.End fs e = ap all_suit (sym (same_Some end_fields fs e))
 defaults of_type.Close fs e = ap all_suit (sym (same_Some close_fields fs e))
 defaults _ fs e = absurd cc
 
-pub read_of_fields : (bytes : List ℕ) (d : Descriptor) (fields : List Field) (cells : List Cell) (payload : List ℕ) → IsBytes bytes → BodyOf bytes d cells payload → fields_of d ≡ Some fields → AreOfFields fields cells
+pub read_of_fields : (bytes : List ℕ) (d : Descriptor) (fields : List Field) (cells : List Cell) (payload : List ℕ) → IsBytes bytes → BodyOf bytes d cells payload → fields_of d ≡ Some fields →
+    AreOfFields fields cells
 read_of_fields bytes d fields cells payload fits (fs, items, text, table, parts, described, deep, are) same =
     let all = items_are_bytes d items text payload (subst (λ (b : List ℕ). IsBytes b) parts fits) described in
     subst (λ (table : List Field). AreOfFields table cells) (same_Some fs fields (sym table ∙ same))
@@ -212,6 +216,7 @@ written_of_fields (performative.Disposition p) fields e h =
     (cells.0, (cells.1.0, (last_of_field (field (codes "last") uint optional) p.first p.last refl cells.1.1.0, cells.1.1.1)))
 written_of_fields _ fields e h = h
 
-pub read_may_be_written : (bytes : List ℕ) (p : Performative) (fields : List Field) (payload : List ℕ) → IsBytes bytes → Body bytes p payload → fields_of (type_of p) ≡ Some fields → AreOfFields fields (written_cells p)
+pub read_may_be_written : (bytes : List ℕ) (p : Performative) (fields : List Field) (payload : List ℕ) → IsBytes bytes → Body bytes p payload → fields_of (type_of p) ≡ Some fields →
+    AreOfFields fields (written_cells p)
 read_may_be_written bytes p fields payload fits body table =
     written_of_fields p fields table (read_of_fields bytes (type_of p) fields (performative_cells p) payload fits body table)

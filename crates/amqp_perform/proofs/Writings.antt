@@ -1,5 +1,5 @@
 -- Texts put into a buffer, one behind the other.
-use Rattle.std.proofs.Common.{◌≡◌, ℕ, ◌+◌, ◌<◌, ◌≤◌, List, ◌++◌, length, get_or, take, drop, sym, ap, subst, ◌∙◌, append_assoc, arith}
+use Rattle.std.proofs.Common.{◌≡◌, ℕ, ◌+◌, ◌<◌, ◌≤◌, List, ◌++◌, length, get_or, take, drop, [], refl, sym, ap, subst, ◌∙◌, append_assoc, arith}
 use Rattle.std.proofs.Math.Seq.{take-append-add, drop-append-add, take-append_seam}
 use Rattle.std.specs.List.{concat}
 use Rattle.std.proofs.lemmas.List.{drop-drop, length-append, length-take-le, length-drop, take-append-drop, at_drop_more, at_drop_all}
@@ -70,3 +70,35 @@ values_more values i d at end next old out mid lt place same room behind w rest 
 pub values_end : (values : List FieldText) (i at : ℕ) (out : List ℕ) → length values ≤ i → Writes at (joined (drop i values)) out out
 values_end values i at out le =
     subst (λ (t : List ℕ). Writes at t out out) (sym (at_drop_all joined values i le)) (sym (take-append-drop at out) ∙ ap (λ (n : ℕ). take at out ++ drop n out) (omega arith))
+
+-- four of five values are written
+pub four_written : (values : List FieldText) (d : FieldText) (at n1 n2 n3 n4 : ℕ) (old o1 o2 o3 o4 : List ℕ) → length values ≡ 5 → at + length (joined values) ≤ length old
+    → n1 ≡ at + length (field_spelling (get_or values 0 d)) → Writes at (field_spelling (get_or values 0 d)) old o1
+    → n2 ≡ n1 + length (field_spelling (get_or values 1 d)) → Writes n1 (field_spelling (get_or values 1 d)) o1 o2
+    → n3 ≡ n2 + length (field_spelling (get_or values 2 d)) → Writes n2 (field_spelling (get_or values 2 d)) o2 o3
+    → n4 ≡ n3 + length (field_spelling (get_or values 3 d)) → Writes n3 (field_spelling (get_or values 3 d)) o3 o4
+    → (n4 + length (joined (drop 4 values)) ≡ at + length (joined values)) × (length o4 ≡ length old)
+    × ((new : List ℕ) → Writes n4 (joined (drop 4 values)) o4 new → Writes at (joined values) old new)
+four_written values d at n1 n2 n3 n4 old o1 o2 o3 o4 five room e1 w1 e2 w2 e3 w3 e4 w4 =
+    let a = values_more values 0 d at at n1 old old o1 (omega arith) refl refl room e1 w1 (λ new w. w) in
+    let b = values_more values 1 d at n1 n2 old o1 o2 (omega arith) a.0 a.1 room e2 w2 a.2 in
+    let c = values_more values 2 d at n2 n3 old o2 o3 (omega arith) b.0 b.1 room e3 w3 b.2 in
+    values_more values 3 d at n3 n4 old o3 o4 (omega arith) c.0 c.1 room e4 w4 c.2
+
+-- there is room for the fifth
+pub fifth_fits : (values : List FieldText) (d : FieldText) (at n4 : ℕ) (old o4 : List ℕ) → length values ≡ 5 → at + length (joined values) ≤ length old
+    → n4 + length (joined (drop 4 values)) ≡ at + length (joined values) → length o4 ≡ length old → n4 + length (field_spelling (get_or values 4 d)) ≤ length o4
+fifth_fits values d at n4 old o4 five room place same =
+    let parts : joined (drop 4 values) ≡ field_spelling (get_or values 4 d) ++ joined (drop 5 values) = at_drop_more joined values 4 d (omega arith) in
+    omega (arith, ap length parts, length-append (field_spelling (get_or values 4 d)) (joined (drop 5 values)))
+
+-- and all are written with it
+pub five_written : (values : List FieldText) (d : FieldText) (at n4 n5 : ℕ) (old o4 o5 : List ℕ) → length values ≡ 5 → at + length (joined values) ≤ length old
+    → n4 + length (joined (drop 4 values)) ≡ at + length (joined values) → length o4 ≡ length old
+    → ((new : List ℕ) → Writes n4 (joined (drop 4 values)) o4 new → Writes at (joined values) old new)
+    → n5 ≡ n4 + length (field_spelling (get_or values 4 d)) → Writes n4 (field_spelling (get_or values 4 d)) o4 o5
+    → (n5 ≡ at + length (joined values)) × Writes at (joined values) old o5
+five_written values d at n4 n5 old o4 o5 five room place same rest e5 w5 =
+    let a = values_more values 4 d at n4 n5 old o4 o5 (omega arith) place same room e5 w5 rest in
+    let none : joined (drop 5 values) ≡ [] = at_drop_all joined values 5 (omega arith) in
+    (omega (arith, a.0, ap length none), a.2 o5 (values_end values 5 n5 o5 (omega arith)))

@@ -29,7 +29,8 @@ use Rattle.amqp_perform.specs.Frames.{null_text, kind_of, cell_text, written_tex
 use Rattle.amqp_perform.specs.Items.{Item, text_of, AreSpelled, SpellsList}
 use Rattle.amqp_perform.specs.Performatives.{type_of}
 use Rattle.amqp_perform.specs.Said.{Said, said, said_texts, said_text, MayBeSaid}
-use Rattle.amqp_perform.specs.Tables.{FieldType, boolean, ubyte_to, ushort, uint_from, binary, string, symbol, anything, Absence, mandatory, optional, default, Field, open_fields, begin_fields, attach_fields, flow_fields, transfer_fields, disposition_fields, detach_fields, end_fields, close_fields, fields_of}
+use Rattle.amqp_perform.specs.Tables.{FieldType, boolean, ubyte_to, ushort, uint_from, binary, string, symbol, anything, Absence, mandatory, optional, default, Field, open_fields, begin_fields}
+use Rattle.amqp_perform.specs.Tables.{attach_fields, flow_fields, transfer_fields, disposition_fields, detach_fields, end_fields, close_fields, fields_of}
 use Rattle.amqp_perform.proofs.Steps.{bind_some}
 use Rattle.amqp_perform.proofs.TrimLaws.{texts_of, AreCells, null_spelled, trim, AreBelow, below}
 
@@ -45,7 +46,8 @@ record IsWritten (f : Field) (c : Cell) (text : List ℕ) : Type 0 where
 null_written : (f : Field) (c : Cell) → absent_cell f.absence ≡ Some c → IsWritten f c null_text
 null_written f c e = record { tree = Number kind.Null 0; spelled = null_spelled; deep = omega arith; cell = e }
 
-whole_cell : (type : FieldType) (n : ℕ) (text : List ℕ) → value_cell type (Number (kind_of type) n) [] ≡ Some (Whole n) → typed_cell type (record { tree = Number (kind_of type) n; text = text }) ≡ Some (Whole n)
+whole_cell : (type : FieldType) (n : ℕ) (text : List ℕ) → value_cell type (Number (kind_of type) n) [] ≡ Some (Whole n) → typed_cell type
+    (record { tree = Number (kind_of type) n; text = text }) ≡ Some (Whole n)
 whole_cell boolean n text e = e
 whole_cell (ubyte_to most) n text e = e
 whole_cell ushort n text e = e
@@ -55,7 +57,8 @@ whole_cell string n text e = absurd cc
 whole_cell symbol n text e = absurd cc
 whole_cell anything n text e = absurd cc
 
-bytes_cell : (type : FieldType) (octets text : List ℕ) → value_cell type (Octets (kind_of type) octets) [] ≡ Some (Bytes octets) → typed_cell type (record { tree = Octets (kind_of type) octets; text = text }) ≡ Some (Bytes octets)
+bytes_cell : (type : FieldType) (octets text : List ℕ) → value_cell type (Octets (kind_of type) octets) [] ≡ Some (Bytes octets) →
+    typed_cell type (record { tree = Octets (kind_of type) octets; text = text }) ≡ Some (Bytes octets)
 bytes_cell boolean octets text e = absurd cc
 bytes_cell (ubyte_to most) octets text e = absurd cc
 bytes_cell ushort octets text e = absurd cc
@@ -75,7 +78,8 @@ octets_long k octets =
     let l = length-append (big_bytes (size_len s) (length octets)) octets in
     omega (arith, l)
 
-octets_written : (f : Field) (octets : List ℕ) → IsOfField f (Bytes octets) → length (canonical (Octets (kind_of f.type) octets)) < 2 ^ 32 → IsWritten f (Bytes octets) (canonical (Octets (kind_of f.type) octets))
+octets_written : (f : Field) (octets : List ℕ) → IsOfField f (Bytes octets) → length (canonical (Octets (kind_of f.type) octets)) < 2 ^ 32 →
+    IsWritten f (Bytes octets) (canonical (Octets (kind_of f.type) octets))
 octets_written f octets h lt =
     let k = kind_of f.type in
     let room : ltb (length octets) (2 ^ 32) ≡ true = lt-ltb (length octets) (2 ^ 32) (omega (arith, octets_long k octets)) in
@@ -125,7 +129,8 @@ field_written f (Span text) h lt =
 
 -- ---- all of them
 
-fields_written : (fs : List Field) (cells : List Cell) → AreOfFields fs cells → AreBelow (2 ^ 32) (field_texts fs cells) → (xs : List Item) × (texts_of xs ≡ field_texts fs cells) × AreCells fs xs cells
+fields_written : (fs : List Field) (cells : List Cell) → AreOfFields fs cells → AreBelow (2 ^ 32) (field_texts fs cells) → (xs : List Item) ×
+    (texts_of xs ≡ field_texts fs cells) × AreCells fs xs cells
 fields_written [] [] h lt = ([], refl, record { spelled = tt; deep = omega arith; cells_are = refl })
 fields_written [] (c ∷ cells) h lt = absurd h
 fields_written (f ∷ fs) [] h lt = absurd h
@@ -174,7 +179,8 @@ list_spelled (x ∷ xs) all few lt =
     content : List ℕ
     content = text_of (x ∷ xs)
 
-    by : (b : Bool) → is_small (shell.List n) content ≡ b → length (full_code (narrowest b) kind.List ∷ block (narrowest b) n content) < 2 ^ 32 → SpellsList (x ∷ xs) (full_code (narrowest b) kind.List ∷ block (narrowest b) n content)
+    by : (b : Bool) → is_small (shell.List n) content ≡ b → length (full_code (narrowest b) kind.List ∷ block (narrowest b) n content) < 2 ^ 32 →
+        SpellsList (x ∷ xs) (full_code (narrowest b) kind.List ∷ block (narrowest b) n content)
     by true e lt =
         let short = ltb-true (length content) 255 (and_parts (ltb n 256) (ltb (length content) 255) e).1 in
         inr (full_code size.One kind.List, size.One, block size.One n content, refl, refl, (few, omega arith, refl), all)

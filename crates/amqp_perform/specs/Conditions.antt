@@ -1,5 +1,5 @@
 -- Errors and their conditions. (part 2, sections 2.8.14 to 2.8.18)
-use Rattle.std.specs.Prelude.{ℕ, List, [], ◌∷◌, Option, Some, None, find, codes}
+use Rattle.std.specs.Prelude.{ℕ, Bool, true, false, List, [], ◌∷◌, Option, Some, None, find, codes}
 use Rattle.std.specs.Option.{unwrap_or}
 use Rattle.std.specs.Str.{bytes_eq}
 use Rattle.amqp_types.specs.declared.kind.Kind.TheVariants as kind
@@ -10,7 +10,7 @@ use Rattle.amqp_perform.specs.declared.condition.Condition.TheVariants as condit
 use Rattle.amqp_perform.specs.declared.descriptor.Descriptor.{Descriptor}
 use Rattle.amqp_perform.specs.declared.descriptor.Descriptor.TheVariants as of_type
 use Rattle.amqp_perform.specs.Cells.{Cell, Bytes, ◌>>=◌}
-use Rattle.amqp_perform.specs.Descriptors.{code_of}
+use Rattle.amqp_perform.specs.Descriptors.{code_of, described_by}
 use Rattle.amqp_perform.specs.Items.{Item}
 use Rattle.amqp_perform.specs.Reading.{ListAt, described_at, typed_at}
 use Rattle.amqp_perform.specs.Tables.{symbol}
@@ -75,3 +75,12 @@ tree_condition _ = condition.Other
 abbrev pub condition_in : List Item → Condition
 condition_in [] = condition.Other
 condition_in (x ∷ xs) = tree_condition x.tree
+
+-- a list that is described as an error [2.8.14]
+abbrev pub is_error_type : Option Descriptor → Bool
+is_error_type (Some of_type.Error) = true
+is_error_type _ = false
+
+abbrev pub is_error : Tree → Bool
+is_error (Described d (ListOf ts)) = is_error_type (described_by d)
+is_error _ = false

@@ -9,7 +9,7 @@ use Rattle.amqp_perform.specs.declared.descriptor.Descriptor.TheVariants as of_t
 use Rattle.amqp_perform.specs.declared.outcome.Outcome.{Outcome}
 use Rattle.amqp_perform.specs.declared.outcome.Outcome.TheVariants as outcome
 use Rattle.amqp_perform.specs.Cells.{Cell, Whole, ◌>>=◌}
-use Rattle.amqp_perform.specs.Descriptors.{code_of}
+use Rattle.amqp_perform.specs.Descriptors.{code_of, described_by}
 use Rattle.amqp_perform.specs.Items.{Item}
 use Rattle.amqp_perform.specs.Reading.{ListAt, descriptor_at, typed_at, list_at}
 use Rattle.amqp_perform.specs.Tables.{boolean, anything}
@@ -83,3 +83,15 @@ outcome_in of_type.Rejected xs = Some outcome.Rejected
 outcome_in of_type.Released xs = Some outcome.Released
 outcome_in of_type.Modified xs = Some (outcome.Modified (first_is_true xs) (first_is_true (drop 1 xs)))
 outcome_in _ xs = None
+
+-- a value that is described as one of the four, whatever it is [3.4]
+abbrev pub is_state_type : Option Descriptor → Bool
+is_state_type (Some of_type.Accepted) = true
+is_state_type (Some of_type.Rejected) = true
+is_state_type (Some of_type.Released) = true
+is_state_type (Some of_type.Modified) = true
+is_state_type _ = false
+
+abbrev pub is_state : Tree → Bool
+is_state (Described d t) = is_state_type (described_by d)
+is_state _ = false

@@ -1,5 +1,5 @@
 -- Reading a performative from left to right. Where nothing is read, the grammar says why (part 1, section 1.2).
-use Rattle.std.specs.Prelude.{◌≡◌, ℕ, zero, suc, ◌-◌, ◌==◌, ◌&&◌, nat_le, false, if◌then◌else◌, List, [], ◌∷◌, length, take, drop, Option, Some, None, Result, Ok, Err}
+use Rattle.std.specs.Prelude.{◌≡◌, ◌≢◌, ℕ, zero, suc, ◌-◌, ◌==◌, ◌&&◌, nat_le, false, if◌then◌else◌, List, [], ◌∷◌, length, take, drop, Option, Some, None, Result, Ok, Err}
 use Rattle.std.specs.Result.{result_ok}
 use Rattle.amqp_types.specs.declared.code.Constructor.{Constructor}
 use Rattle.amqp_types.specs.declared.code.Constructor.TheVariants.{EmptyList, ListIn}
@@ -130,6 +130,11 @@ body_at bytes =
     described_at bytes >>= λ list.
     performative_at list.0 list.1.count list.1.items >>= λ cells.
     Some (list.0, cells, list.1.behind)
+
+-- it is of another type, or none
+abbrev pub IsOfOther : Descriptor → Option (Descriptor × List Cell × List ℕ) → Type 0
+IsOfOther d None = Unit {0}
+IsOfOther d (Some x) = x.0 ≢ d
 
 -- why there is none: the value is misspelled or too deep, and else a field is invalid
 abbrev pub fault_by : Result (List ℕ) ReadFault → BodyFault

@@ -44,7 +44,7 @@ sender_settle_mode = ubyte_to 2
 abbrev pub receiver_settle_mode : FieldType
 receiver_settle_mode = ubyte_to 1
 
--- Fields of which this profile makes no use are of any type: hostname, idle-time-out, locales, capabilities,
+-- Fields of which this side makes no use are of any type: hostname, idle-time-out, locales, capabilities,
 -- properties, unsettled, incomplete-unsettled, max-message-size, batchable. So are source, target, state and
 -- error, which are kept as bytes.
 

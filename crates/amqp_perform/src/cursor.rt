@@ -14,6 +14,7 @@ impl<'a> Cursor<'a> {
     ghost use Rattle.amqp_perform.specs.Reading.{Takes, byte_at, octets_at, word_at, short_at, long_at, descriptor_at, list_at};
 
     /// The next byte.
+    #[inline(always)]
     pub fn byte(&mut self) -> Option<u8>
         ensures { Takes (λ b. b) result self.new.bytes.now (byte_at self.old.bytes.now) }
     {
@@ -23,6 +24,7 @@ impl<'a> Cursor<'a> {
     }
 
     /// The next `n` bytes.
+    #[inline(always)]
     pub fn octets(&mut self, n: usize) -> Option<&'a [u8]>
         ensures { Takes (λ s. s.now) result self.new.bytes.now (octets_at n self.old.bytes.now) }
     {
@@ -32,6 +34,7 @@ impl<'a> Cursor<'a> {
     }
 
     /// The number in the next four bytes.
+    #[inline(always)]
     pub fn word(&mut self) -> Option<u32>
         ensures { Takes (λ n. n) result self.new.bytes.now (word_at self.old.bytes.now) }
     {
@@ -39,6 +42,7 @@ impl<'a> Cursor<'a> {
     }
 
     /// As many bytes as the size in front of them says, which takes one byte. [1.2.2]
+    #[inline(always)]
     pub fn short(&mut self) -> Option<&'a [u8]>
         ensures { Takes (λ s. s.now) result self.new.bytes.now (short_at self.old.bytes.now) }
     {
@@ -56,6 +60,7 @@ impl<'a> Cursor<'a> {
 
     /// `00` and a descriptor: a ulong in any form or a symbol. [1.2; 1.3]
     #[tactic(auto, using(crate::proofs::Describing::descriptor_is))]
+    #[inline(always)]
     pub fn descriptor(&mut self) -> Option<Descriptor>
         ensures { Takes (λ d. d) result self.new.bytes.now (descriptor_at self.old.bytes.now) }
     {
@@ -73,6 +78,7 @@ impl<'a> Cursor<'a> {
 
     /// A list: how many items it has, and the bytes that spell them. [1.6.22]
     #[tactic(auto, using(crate::proofs::Lists::list_is))]
+    #[inline(always)]
     pub fn list(&mut self) -> Option<(usize, &'a [u8])>
         ensures { MatchOption result (list_at self.old.bytes.now ≡ None) (λ x. list_at self.old.bytes.now ≡ Some (record { count = x.0; items = x.1.now; behind = self.new.bytes.now })) }
     {

@@ -41,7 +41,7 @@ impl Descriptor {
     ghost use Rattle.std.specs.Prelude.{◌≡◌};
     ghost use Rattle.amqp_perform.specs.Descriptors.{code_of, symbol_of, by_code, by_symbol};
 
-    /// The type that this number describes.
+    /// The type that this number describes; `None` for any other [2.7, 2.8.14, 3.4].
     #[tactic(auto, unfolding(crate::specs::Descriptors::by_code))]
     pub fn of_code(code: u64) -> Option<Descriptor>
         ensures { result ≡ by_code code }
@@ -66,7 +66,7 @@ impl Descriptor {
         Some(descriptor)
     }
 
-    /// The type that this symbol describes.
+    /// The type that this symbol describes; `None` for any other [2.7, 2.8.14, 3.4].
     #[tactic(auto, unfolding(crate::specs::Descriptors::by_symbol))]
     pub fn of_symbol(symbol: &[u8]) -> Option<Descriptor>
         ensures { result ≡ by_symbol symbol.now }

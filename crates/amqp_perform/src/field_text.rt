@@ -135,6 +135,7 @@ impl<'a> FieldText<'a> {
     }
 
     /// How many bytes spell it.
+    #[inline(always)]
     pub fn width(&self) -> usize
         ensures { result ≡ length (field_spelling self.now) }
     {
@@ -150,6 +151,7 @@ impl<'a> FieldText<'a> {
     }
 
     /// Writes it at `at`, and answers the place behind it.
+    #[inline(always)]
     pub fn write(&self, out: &mut [u8], at: usize) -> usize
         requires { at + length (field_spelling self.now) ≤ length out.old }
         ensures behind { result ≡ at + length (field_spelling self.now) }
@@ -172,6 +174,7 @@ impl<'a> FieldText<'a> {
 }
 
 /// How many bytes spell a uint. [1.6.7]
+#[inline(always)]
 fn uint_width(number: u32) -> usize
     ensures { result ≡ length (canonical (Number Kind.Uint number)) }
 {
@@ -183,6 +186,7 @@ fn uint_width(number: u32) -> usize
 }
 
 /// Writes a uint at `at`, and answers the place behind it. [1.6.7]
+#[inline(always)]
 fn put_uint(out: &mut [u8], at: usize, number: u32) -> usize
     requires { at + length (canonical (Number Kind.Uint number)) ≤ length out.old }
     ensures behind { result ≡ at + length (canonical (Number Kind.Uint number)) }

@@ -54,6 +54,7 @@ impl<'a> Fields<'a> {
     }
 
     /// The code of the next item; that of null where none is left.
+    #[inline(always)]
     fn code(&mut self) -> Option<u8>
         ensures { TakesFrom (λ code. code) code_at self.old self.new result }
     {
@@ -66,6 +67,7 @@ impl<'a> Fields<'a> {
 
     /// A boolean. [1.6.2]
     #[tactic(auto, using(crate::proofs::Readers::boolean_is))]
+    #[inline(always)]
     pub fn boolean(&mut self) -> Option<Option<bool>>
         ensures { TakesFrom optional_flag (typed_at boolean) self.old self.new result }
     {
@@ -83,6 +85,7 @@ impl<'a> Fields<'a> {
     }
 
     /// A boolean that is false by default.
+    #[inline(always)]
     pub fn flag(&mut self) -> Option<bool>
         ensures { TakesFrom flag (value_at boolean (default 0)) self.old self.new result }
     {
@@ -91,6 +94,7 @@ impl<'a> Fields<'a> {
 
     /// A ubyte of at most `most`. [1.6.3]
     #[tactic(auto, using(crate::proofs::Readers::ubyte_is))]
+    #[inline(always)]
     fn ubyte(&mut self, most: u8) -> Option<Option<u8>>
         ensures bound { IfSome result (λ number. IfSome number (λ n. n ≤ most)) }
         ensures taken { TakesFrom optional_whole (typed_at (ubyte_to most)) self.old self.new result }
@@ -127,6 +131,7 @@ impl<'a> Fields<'a> {
     }
 
     /// A receiver's settle mode. [2.8.3]
+    #[inline(always)]
     pub fn receiver_mode(&mut self) -> Option<Option<ReceiverSettleMode>>
         ensures { TakesFrom (λ m. optional_whole (option_map receiver_mode m)) (typed_at receiver_settle_mode) self.old self.new result }
     {
@@ -150,6 +155,7 @@ impl<'a> Fields<'a> {
 
     /// A uint. [1.6.5]
     #[tactic(auto, using(crate::proofs::Readers::uint_is))]
+    #[inline(always)]
     pub fn uint(&mut self) -> Option<Option<u32>>
         ensures { TakesFrom optional_whole (typed_at uint) self.old self.new result }
     {
@@ -164,6 +170,7 @@ impl<'a> Fields<'a> {
 
     /// A binary. [1.6.19]
     #[tactic(auto, using(crate::proofs::Readers::binary_is))]
+    #[inline(always)]
     pub fn binary(&mut self) -> Option<Option<&'a [u8]>>
         ensures { TakesFrom (λ s. optional_bytes (option_copied s)) (typed_at binary) self.old self.new result }
     {
@@ -212,6 +219,7 @@ impl<'a> Fields<'a> {
 
     /// A value of any type, as the bytes that spell it; none where the field is absent.
     #[tactic(auto, unfolding(crate::specs::Reading::typed_at))]
+    #[inline(always)]
     pub fn opaque(&mut self) -> Option<&'a [u8]>
         ensures { TakesFrom (λ s. span s.now) (typed_at anything) self.old self.new result }
     {
@@ -251,6 +259,7 @@ pub struct DescribedList<'a> {
 
 /// The described list that the bytes begin with, where what describes it is known.
 #[tactic(auto, unfolding(crate::specs::Reading::described_at))]
+#[inline(always)]
 pub fn described_list(bytes: &[u8]) -> Option<DescribedList<'_>>
     ensures { MatchOption result (described_at bytes.now ≡ None)
         (λ x. described_at bytes.now ≡ Some (x.descriptor, record { count = x.fields.left; items = x.fields.items.bytes.now; behind = x.rest.now })) }

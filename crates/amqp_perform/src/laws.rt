@@ -1,9 +1,10 @@
 //! Laws of bodies and of written frames: calls without effect, whose contracts are the laws.
 
-ghost use Rattle.std.specs.Prelude.{◌≡◌, ℕ, ◌+◌, ◌^◌, ◌<◌, ◌≤◌, List, [], ◌∷◌, ◌++◌, length, slice_index, Some, None};
+ghost use Rattle.std.specs.Prelude.{◌≡◌, ℕ, ◌+◌, ◌^◌, ◌<◌, ◌≤◌, List, [], ◌∷◌, ◌++◌, length, slice_index, false, Some, None};
 ghost use Rattle.std.specs.List.{concat};
 ghost use Rattle.amqp_frame.specs.Units.{IsFrame, channel_of, body_of};
-ghost use Rattle.amqp_types.specs.Trees.{ListOf, depth_of};
+ghost use Rattle.amqp_types.specs.Spelling.{Spells};
+ghost use Rattle.amqp_types.specs.Trees.{Tree, ListOf, depth_of};
 ghost use Rattle.amqp_perform.specs.declared.condition.Condition.{Condition};
 ghost use Rattle.amqp_perform.specs.declared.outcome.Outcome.{Outcome};
 ghost use Rattle.amqp_perform.specs.declared.performative.Performative.{Performative};
@@ -12,10 +13,10 @@ ghost use Rattle.amqp_perform.specs.declared.descriptor.Descriptor.{Descriptor};
 ghost use Rattle.amqp_perform.specs.declared.descriptor.Descriptor.TheVariants.{Error};
 ghost use Rattle.amqp_perform.specs.Bodies.{BodyOf, Body, IsFaultOf};
 ghost use Rattle.amqp_perform.specs.Cells.{Cell, Whole, Bytes};
-ghost use Rattle.amqp_perform.specs.Conditions.{condition_span, condition_of, condition_in};
+ghost use Rattle.amqp_perform.specs.Conditions.{condition_span, condition_of, condition_in, is_error};
 ghost use Rattle.amqp_perform.specs.Frames.{null_text, cell_text, trimmed, list_text, list_frame, performative_text, written_cells, frame_of};
 ghost use Rattle.amqp_perform.specs.Items.{Item, trees_of, SpellsDescribed};
-ghost use Rattle.amqp_perform.specs.Outcomes.{outcome_span, outcome_of, outcome_in};
+ghost use Rattle.amqp_perform.specs.Outcomes.{outcome_span, outcome_of, outcome_in, is_state};
 ghost use Rattle.amqp_perform.specs.Performatives.{type_of};
 ghost use Rattle.amqp_perform.specs.Reading.{body_at, fault_of};
 ghost use Rattle.amqp_perform.specs.Said.{Said, said, said_texts, said_text, said_frame, MayBeSaid};
@@ -95,18 +96,20 @@ pub fn what_is_read_may_be_written()
         → Body bytes p payload → fields_of (type_of p) ≡ Some fields → AreOfFields fields (written_cells p) }
 {}
 
-/// The condition of an error is the one that its first item names, whatever follows the error; and what is
-/// written for a condition is read as that condition. [2.8.14]
+/// The condition of an error is the one that its first item names, whatever follows the error; any other value
+/// has none; and what is written for a condition is read as that condition. [2.8.14]
 pub fn conditions_are_found()
     ensures first { (items : List Item) (text rest : List ℕ) → SpellsDescribed Error items text → depth_of (ListOf (trees_of items)) ≤ 31
         → condition_of (text ++ rest) ≡ condition_in items }
+    ensures other { (t : Tree) (text rest : List ℕ) → Spells t text → depth_of t ≤ 32 → is_error t ≡ false → condition_of (text ++ rest) ≡ Condition.Other }
     ensures spelled { (condition : Condition) → condition_of (condition_span condition) ≡ condition }
 {}
 
 /// The outcome of a state is the one that it is described as, with its first two items as the flags, whatever
-/// follows the state; and what is written for an outcome is read as that outcome. [3.4]
+/// follows the state; any other value is none; and what is written for an outcome is read as that outcome. [3.4]
 pub fn outcomes_are_found()
     ensures first { (d : Descriptor) (items : List Item) (text rest : List ℕ) → SpellsDescribed d items text → depth_of (ListOf (trees_of items)) ≤ 31
         → outcome_of (text ++ rest) ≡ outcome_in d items }
+    ensures other { (t : Tree) (text rest : List ℕ) → Spells t text → depth_of t ≤ 32 → is_state t ≡ false → outcome_of (text ++ rest) ≡ None }
     ensures spelled { (outcome : Outcome) → outcome_of (outcome_span outcome) ≡ Some outcome }
 {}

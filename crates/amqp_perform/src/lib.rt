@@ -4,6 +4,7 @@
 //! [`read_body`] lends the fields from the body; [`write_frame`] writes into bytes of the caller. Nothing here
 //! takes memory. `specs/Tables.antt` has the fields of each performative, `specs/Bodies.antt` what a body says,
 //! and `specs/Frames.antt` which frame is written.
+//! The tests stand in `codec_bench`.
 #![tactic(auto)]
 
 mod bytes;
@@ -28,5 +29,5 @@ pub use outcome::Outcome;
 pub use performative::{
     Attach, Begin, Close, Detach, Disposition, End, Flow, Open, Performative, Transfer,
 };
-pub use reader::read_body;
-pub use writer::write_frame;
+pub use reader::{read_body, read_transfer_body};
+pub use writer::{write_disposition, write_frame};

@@ -3,12 +3,13 @@
 //! Each function takes the fields of one performative in their order. A `?` refuses what is not of the field's
 //! type; a second one refuses an absent field, where it is mandatory.
 
-ghost use Rattle.std.specs.Prelude.{◌≡◌, ℕ, ◌≤◌, List, [], ◌∷◌, length, drop, None, Some, MatchOption, IfOk, IfErr, IsOkAnd};
+ghost use Rattle.std.specs.Prelude.{◌≡◌, ℕ, ◌≤◌, List, [], ◌∷◌, length, drop, None, Some, Ok, MatchOption, IfOk, IfErr, IfSome, IfNone, IsOkAnd};
 ghost use Rattle.amqp_perform.specs.declared.descriptor.Descriptor.{Descriptor};
+ghost use Rattle.amqp_perform.specs.declared.performative.Performative.TheVariants as performative;
 ghost use Rattle.amqp_perform.specs.Bodies.{Body, BodyOf, IsFaultOf};
 ghost use Rattle.amqp_perform.specs.Cells.{Cell, Whole};
 ghost use Rattle.amqp_perform.specs.Performatives.{span, flag, open_cells, begin_cells, attach_cells, flow_cells, transfer_cells, disposition_cells, detach_cells, end_cells, close_cells, type_of, performative_cells};
-ghost use Rattle.amqp_perform.specs.Reading.{TakesFrom, value_at, fields_at, IsPerformativeAt, body_at, fault_of, IsRead};
+ghost use Rattle.amqp_perform.specs.Reading.{TakesFrom, value_at, fields_at, IsPerformativeAt, body_at, fault_of, IsRead, IsOfOther};
 ghost use Rattle.amqp_perform.specs.Tables.{uint_from, default, open_fields, begin_fields, attach_fields, flow_fields, transfer_fields, disposition_fields, detach_fields, end_fields, close_fields};
 
 use crate::descriptor::Descriptor;
@@ -142,6 +143,7 @@ fn read_flow<'a>(fields: &mut Fields<'a>) -> Option<Flow<'a>>
     })
 }
 
+#[inline(always)]
 fn read_transfer<'a>(fields: &mut Fields<'a>) -> Option<Transfer<'a>>
     ensures { TakesFrom transfer_cells (fields_at transfer_fields) fields.old fields.new result }
 {
@@ -169,6 +171,7 @@ fn read_transfer<'a>(fields: &mut Fields<'a>) -> Option<Transfer<'a>>
 }
 
 /// The last fields of a transfer: its state, and whether it resumes, is aborted and may be batched.
+#[inline(always)]
 fn read_transfer_state<'a>(fields: &mut Fields<'a>) -> Option<(&'a [u8], bool, bool, &'a [u8])>
     ensures { TakesFrom (λ x. span x.0.now ∷ flag x.1 ∷ flag x.2 ∷ span x.3.now ∷ []) (fields_at (drop 7 transfer_fields)) fields.old fields.new result }
 {
@@ -242,6 +245,36 @@ fn read_performative<'a>(
     } else {
         None
     }
+}
+
+/// The transfer that a body begins with, and what follows it.
+#[tactic(auto, unfolding(crate::specs::Reading::body_at, crate::specs::Reading::performative_at))]
+#[inline(always)]
+fn transfer_at(bytes: &[u8]) -> Option<(Transfer<'_>, &[u8])>
+    ensures { MatchOption result (IsOfOther Descriptor.Transfer (body_at bytes.now)) (λ x. body_at bytes.now ≡ Some (Descriptor.Transfer, transfer_cells x.0, x.1.now)) }
+{
+    let mut list = described_list(bytes)?;
+    match list.descriptor {
+        Descriptor::Transfer => {}
+        _ => return None,
+    }
+    let transfer = read_transfer(&mut list.fields)?;
+    if list.fields.ended() {
+        Some((transfer, list.rest))
+    } else {
+        None
+    }
+}
+
+/// The transfer that a frame's body begins with, and how many bytes it takes, as [`read_body`] reads it; `None` where
+/// the body begins with none. [2.7.5]
+pub fn read_transfer_body(bytes: &[u8]) -> Option<(Transfer<'_>, usize)>
+    ensures within { IfSome result (λ r. r.1 ≤ length bytes.now) }
+    ensures exact { IfSome result (λ r. IsRead bytes.now (Ok (performative.Transfer r.0, r.1))) }
+    ensures none { IfNone result (IsOfOther Descriptor.Transfer (body_at bytes.now)) }
+{
+    let (transfer, rest) = transfer_at(bytes)?;
+    Some((transfer, bytes.len() - rest.len()))
 }
 
 /// The performative that a body begins with, and what follows it.

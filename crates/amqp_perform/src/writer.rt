@@ -9,6 +9,7 @@ ghost use Rattle.std.specs.Option.{SomeIff, option_map};
 ghost use Rattle.amqp_types.specs.declared.shell.Shell.{Shell};
 ghost use Rattle.amqp_types.specs.Canonical.{shortest};
 ghost use Rattle.amqp_perform.specs.declared.descriptor.Descriptor.{Descriptor};
+ghost use Rattle.amqp_perform.specs.declared.performative.Performative.TheVariants as performative;
 ghost use Rattle.amqp_perform.specs.Frames.{cell_text, field_texts, field_spelling, field_spellings, trimmed, list_text, last_written, disposition_written, head_text, list_head, list_frame, frame_of, Writes, FitsFrame, IsWritten};
 ghost use Rattle.amqp_perform.specs.Performatives.{receiver_mode, optional_whole, open_cells, begin_cells, attach_cells, flow_cells, transfer_cells, detach_cells, end_cells, close_cells};
 ghost use Rattle.amqp_perform.specs.Tables.{uint, receiver_settle_mode, open_fields, begin_fields, attach_fields, flow_fields, transfer_fields, disposition_fields, detach_fields, end_fields, close_fields};
@@ -136,6 +137,19 @@ fn disposition_texts<'a>(p: &Disposition<'a>) -> [FieldText<'a>; 6]
     ]
 }
 
+/// The same without the last field.
+fn stated_texts<'a>(p: &Disposition<'a>) -> [FieldText<'a>; 5]
+    ensures { field_spellings result ≡ take 5 (field_texts disposition_fields (disposition_written p.now)) }
+{
+    [
+        FieldText::Boolean(p.role.is_receiver()),
+        FieldText::Uint(p.first),
+        last_text(p.first, p.last),
+        FieldText::flag(p.settled),
+        FieldText::opaque(p.state),
+    ]
+}
+
 /// The last delivery of a disposition, which is the first by default. [2.7.6]
 fn last_text<'a>(first: u32, last: Option<u32>) -> FieldText<'a>
     ensures { field_spelling result ≡ cell_text uint (last_written first last) }
@@ -260,18 +274,31 @@ fn write_transfer(channel: u16, p: &Transfer<'_>, payload: &[u8], out: &mut [u8]
     write_list(head, &transfer_texts(p), payload, out)
 }
 
-fn write_disposition(
+/// Writes the frame of a disposition, as [`write_frame`] does.
+pub fn write_disposition(
     channel: u16,
     p: &Disposition<'_>,
     payload: &[u8],
     out: &mut [u8],
 ) -> Option<usize>
-    ensures { IsWritten (list_frame channel Descriptor.Disposition (field_texts disposition_fields (disposition_written p.now)) payload.now) result out.old out.new }
+    ensures { IsWritten (frame_of channel (performative.Disposition p.now) payload.now) result out.old out.new }
 {
     let head = Head {
         channel,
         descriptor: Descriptor::Disposition,
     };
+    if p.batchable.is_empty() && !FieldText::opaque(p.state).is_null() {
+        write_full_list(head, &stated_texts(p), payload, out)
+    } else {
+        write_six(head, p, payload, out)
+    }
+}
+
+/// The same of any disposition.
+#[inline(never)]
+fn write_six(head: Head, p: &Disposition<'_>, payload: &[u8], out: &mut [u8]) -> Option<usize>
+    ensures { IsWritten (list_frame head.channel head.descriptor (field_texts disposition_fields (disposition_written p.now)) payload.now) result out.old out.new }
+{
     write_list(head, &disposition_texts(p), payload, out)
 }
 
@@ -314,14 +341,67 @@ fn write_list(head: Head, values: &[FieldText<'_>], payload: &[u8], out: &mut [u
     let used = used_count(values);
     let room = out.len().min(MAX_FRAME);
     let content = content_width(values, used, room)?;
-    let len = HEAD_LEN + list_width(used, content) + payload.len();
+    write_many(head, &values[..used], content, payload, out)
+}
+
+/// Writes the frame of any values of so many bytes, where it fits. Apart, so that the compiler takes its caller into
+/// each writer, where it knows how many values there are.
+#[inline(never)]
+fn write_many(
+    head: Head,
+    values: &[FieldText<'_>],
+    content: usize,
+    payload: &[u8],
+    out: &mut [u8],
+) -> Option<usize>
+    requires few { length values.now < 256 }
+    requires content { content ≡ length (concat (field_spellings values.now)) }
+    requires stated { content < 2 ^ 32 }
+    ensures { (texts : List (List ℕ)) → trimmed texts ≡ field_spellings values.now → IsWritten (list_frame head.channel head.descriptor texts payload.now) result out.old out.new }
+{
+    write_sized(head, values, content, payload, out)
+}
+
+/// Writes the frame of a list of values, none of them to be left out, where it fits.
+#[inline(always)]
+fn write_full_list(
+    head: Head,
+    values: &[FieldText<'_>],
+    payload: &[u8],
+    out: &mut [u8],
+) -> Option<usize>
+    requires { length values.now < 256 }
+    ensures { (texts : List (List ℕ)) → trimmed texts ≡ field_spellings values.now → IsWritten (list_frame head.channel head.descriptor texts payload.now) result out.old out.new }
+{
+    let room = out.len().min(MAX_FRAME);
+    let content = total_width(values, room)?;
+    write_sized(head, values, content, payload, out)
+}
+
+/// Writes the frame of a list of values of so many bytes, where it fits.
+#[inline(always)]
+fn write_sized(
+    head: Head,
+    values: &[FieldText<'_>],
+    content: usize,
+    payload: &[u8],
+    out: &mut [u8],
+) -> Option<usize>
+    requires few { length values.now < 256 }
+    requires content { content ≡ length (concat (field_spellings values.now)) }
+    requires stated { content < 2 ^ 32 }
+    ensures { (texts : List (List ℕ)) → trimmed texts ≡ field_spellings values.now → IsWritten (list_frame head.channel head.descriptor texts payload.now) result out.old out.new }
+{
+    let len = HEAD_LEN + list_width(values.len(), content) + payload.len();
+    let room = out.len().min(MAX_FRAME);
     if len > room {
         return None;
     }
-    Some(write_parts(head, len, &values[..used], content, payload, out))
+    Some(write_parts(head, len, values, content, payload, out))
 }
 
 /// Writes the frame at the front, where its length and that of its values are known.
+#[inline(always)]
 fn write_parts(
     head: Head,
     len: usize,
@@ -384,6 +464,7 @@ fn total_width(values: &[FieldText<'_>], room: usize) -> Option<usize>
 }
 
 /// How many bytes spell a list of so many items, which take so many bytes. [1.6.22]
+#[inline(always)]
 fn list_width(count: usize, content: usize) -> usize
     requires count { count < 256 }
     requires content { content < 2 ^ 32 }
@@ -401,6 +482,7 @@ fn list_width(count: usize, content: usize) -> usize
 
 /// Writes the frame header and the descriptor at the front. [2.3.1]
 #[tactic(auto, unfolding(crate::specs::Frames::head_text))]
+#[inline(always)]
 fn write_head(head: Head, len: u32, out: &mut [u8]) -> usize
     requires { 11 ≤ length out.old }
     ensures behind { result ≡ 11 }
@@ -414,6 +496,7 @@ fn write_head(head: Head, len: u32, out: &mut [u8]) -> usize
 
 /// Writes what stands in front of the items of a list. [1.6.22]
 #[tactic(auto, unfolding(crate::specs::Frames::list_head))]
+#[inline(always)]
 fn write_list_head(count: usize, content: usize, out: &mut [u8], at: usize) -> usize
     requires count { count < 256 }
     requires content { content + 4 < 2 ^ 32 }
@@ -435,7 +518,36 @@ fn write_list_head(count: usize, content: usize, out: &mut [u8], at: usize) -> u
     put(out, at, &head)
 }
 
+/// Writes the values at `at`, and answers the place behind them. Five, as a disposition has, are written without a
+/// loop: where the compiler knows what each is, it writes that alone.
+#[inline(always)]
 fn write_values(values: &[FieldText<'_>], out: &mut [u8], at: usize) -> usize
+    requires { at + length (concat (field_spellings values.now)) ≤ length out.old }
+    ensures behind { result ≡ at + length (concat (field_spellings values.now)) }
+    ensures written { Writes at (concat (field_spellings values.now)) out.old out.new }
+{
+    if values.len() == 5 {
+        write_five(values, out, at)
+    } else {
+        write_each(values, out, at)
+    }
+}
+
+#[inline(always)]
+fn write_five(values: &[FieldText<'_>], out: &mut [u8], at: usize) -> usize
+    requires five { length values.now ≡ 5 }
+    requires room { at + length (concat (field_spellings values.now)) ≤ length out.old }
+    ensures behind { result ≡ at + length (concat (field_spellings values.now)) }
+    ensures written { Writes at (concat (field_spellings values.now)) out.old out.new }
+{
+    let first = values[0].write(out, at);
+    let second = values[1].write(out, first);
+    let third = values[2].write(out, second);
+    let fourth = values[3].write(out, third);
+    values[4].write(out, fourth)
+}
+
+fn write_each(values: &[FieldText<'_>], out: &mut [u8], at: usize) -> usize
     requires { at + length (concat (field_spellings values.now)) ≤ length out.old }
     ensures behind { result ≡ at + length (concat (field_spellings values.now)) }
     ensures written { Writes at (concat (field_spellings values.now)) out.old out.new }

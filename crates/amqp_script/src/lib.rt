@@ -2,6 +2,7 @@
 //!
 //! [`replay_script`] reads a script whole and checks each of its lines before it runs the first. `docs/PROTOCOL.md` has
 //! the lines' format.
+//! The tests stand in `endpoint_tests`.
 #![tactic(auto)]
 
 mod answers;

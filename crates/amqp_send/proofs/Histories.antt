@@ -1,5 +1,6 @@
 -- A sender is what its history gives.
-use Rattle.std.proofs.Common.{◌≡◌, ℕ, zero, suc, ◌+◌, ◌-◌, ◌%◌, ◌^◌, ◌<◌, ◌≤◌, ◌&&◌, ◌||◌, nat_lt, nat_le, Bool, true, false, not, cond, List, [], ◌∷◌, ◌++◌, length, take, drop, Option, Some, None, is_none, refl, sym, ap, subst, ◌∙◌, arith, ◌⊎◌, inl, inr, append_assoc, append-nil, length-append}
+use Rattle.std.proofs.Common.{◌≡◌, ℕ, zero, suc, ◌+◌, ◌-◌, ◌%◌, ◌^◌, ◌<◌, ◌≤◌, ◌&&◌, ◌||◌, nat_lt, nat_le, Bool, true, false, not, cond, List, [], ◌∷◌, ◌++◌, length, take, drop, Option, Some, None}
+use Rattle.std.proofs.Common.{is_none, refl, sym, ap, subst, ◌∙◌, arith, ◌⊎◌, inl, inr, append_assoc, append-nil, length-append}
 use Rattle.std.specs.List.{flat_map}
 use Rattle.std.proofs.Math.Seq.{take-length}
 use Rattle.std.proofs.lemmas.Bool.{and_parts, ltb-true, leb-true, le-leb}
@@ -15,8 +16,11 @@ use Rattle.amqp_send.specs.declared.telling.Limits.{Limits}
 use Rattle.amqp_send.specs.declared.telling.Told.{Told}
 use Rattle.amqp_send.specs.declared.telling.Told.TheVariants as told
 use Rattle.amqp_send.specs.Flows.{ahead, credit, window, most, opened, begun, limited, drained, transferred}
-use Rattle.amqp_send.specs.Histories.{Piece, Deed, Heard, Wrote, pieces, offers, goes_on, part, wholes, heads, drains, advances, credit_end, flow_of, answer_by, transfer_text, written, moved, waiting, IsBegun, IsHistory, MayGo, AllMayGo, heard_deeds, event_deeds, next_piece, wrote_deeds, frame_deeds, deeds, after_all, history, IsLawfulEvent, Accepted}
-use Rattle.amqp_send.specs.Sendings.{SendTerms, Message, Sending, sending_begins, frame, opening, flow_said, close_said, transfer_said, is_last, share, next_frame, heads_of, left_of, fault_at, fits, is_talking, may_go, may_send, can_write, wrote_of, wrote, writes, frames_left, all_written, ended, answered, flowed, heard, heard_in, SendEvent, Acted, Offered, Left_off, Moved, changed, send_after, SendMay}
+use Rattle.amqp_send.specs.Histories.{Piece, Deed, Heard, Wrote, pieces, offers, goes_on, part, wholes, heads, drains, advances, credit_end, flow_of, answer_by, transfer_text, written, moved, waiting}
+use Rattle.amqp_send.specs.Histories.{IsBegun, IsHistory, MayGo, AllMayGo, heard_deeds, event_deeds, next_piece, wrote_deeds, frame_deeds, deeds, after_all, history, IsLawfulEvent, Accepted}
+use Rattle.amqp_send.specs.Sendings.{SendTerms, Message, Sending, sending_begins, frame, opening, flow_said, close_said, transfer_said, is_last, share, next_frame, heads_of, left_of, fault_at, fits}
+use Rattle.amqp_send.specs.Sendings.{is_talking, may_go, may_send, can_write, wrote_of, wrote, writes, frames_left, all_written, ended, answered, flowed, heard, heard_in, SendEvent, Acted, Offered}
+use Rattle.amqp_send.specs.Sendings.{CloseWritten, Moved, changed, send_after, SendMay}
 use Rattle.amqp_send.specs.Tellings.{told_of, IsLawful}
 use Rattle.amqp_send.proofs.Lengths.{frame_within, frame_full}
 use Rattle.amqp_send.proofs.Writing.{smaller, stays}
@@ -77,7 +81,8 @@ messages_more os ps f m true e is =
     (rw (e, take-length m.rest) (is ∙ sym (append-nil (wholes ps ++ (part ps ++ m.rest) ∷ []))), rw e refl)
 messages_more os ps f m false e is =
     let n : ℕ = most f - length (frame (transfer_said f.delivery_id m.begun true)) in
-    let joined : (part ps ++ take n m.rest) ++ drop n m.rest ≡ part ps ++ m.rest = append_assoc (part ps) (take n m.rest) (drop n m.rest) ∙ ap (λ (x : List ℕ). part ps ++ x) (take-append-drop n m.rest) in
+    let joined : (part ps ++ take n m.rest) ++ drop n m.rest ≡ part ps ++ m.rest = append_assoc (part ps) (take n m.rest) (drop n m.rest)
+    ∙ ap (λ (x : List ℕ). part ps ++ x) (take-append-drop n m.rest) in
     (rw e (is ∙ ap (λ (x : List ℕ). wholes ps ++ x ∷ []) (sym joined)), rw e refl)
 
 may_credit : (b : Bool) (n : ℕ) → (b || nat_lt 0 n) ≡ true → b ≡ false → 0 < n
@@ -138,7 +143,8 @@ module _ (laws : Lengths) (null : NullIsLeast) where
   frames_step terms h s zero k = k
   frames_step terms h s (suc n) k =
       let t = writes n s in
-      subst (λ (x : List Deed). Keeps terms x (wrote t)) (sym (append_assoc (wrote_deeds t t.message) (frame_deeds n s) h)) (wrote_step terms (frame_deeds n s ++ h) t t.message refl (frames_step terms h s n k))
+      subst (λ (x : List Deed). Keeps terms x (wrote t)) (sym (append_assoc (wrote_deeds t t.message) (frame_deeds n s) h)) (wrote_step terms (frame_deeds n s ++ h) t t.message refl
+      (frames_step terms h s n k))
 
 -- ---- what is told
 
@@ -146,7 +152,8 @@ pub ended_is : (terms : SendTerms) (h : List Deed) (s : Sending) (c : Condition)
 ended_is terms h s c k = record { is = record { terms_are = k.is.terms_are; flow_is = k.is.flow_is; messages = k.is.messages; begun = k.is.begun; bytes = k.is.bytes }; all = k.all; least = k.least }
 
 -- what changes nothing that counts
-quiet : (terms : SendTerms) (h : List Deed) (s : Sending) (t : Told) → flow_of (Heard t ∷ h) ≡ flow_of h → written terms (Heard t ∷ h) ≡ written terms h ++ [] → Keeps terms h s → Keeps terms (Heard t ∷ h) s
+quiet : (terms : SendTerms) (h : List Deed) (s : Sending) (t : Told) → flow_of (Heard t ∷ h) ≡ flow_of h → written terms (Heard t ∷ h) ≡ written terms h ++ [] → Keeps terms h s →
+    Keeps terms (Heard t ∷ h) s
 quiet terms h s t flow text k = record {
   is = record {
     terms_are = k.is.terms_are;
@@ -310,7 +317,7 @@ event_step terms h s (Offered m) lawful may k =
       all = k.all;
       least = k.least;
     }
-event_step terms h s Left_off lawful may k = record {
+event_step terms h s CloseWritten lawful may k = record {
   is = record {
     terms_are = k.is.terms_are;
     flow_is = k.is.flow_is;
@@ -361,7 +368,8 @@ module _ (laws : Lengths) (null : NullIsLeast) where
         | inr less ↦ by (can_write t) refl now less
       ]
     where
-      by : (b : Bool) → can_write (writes n s) ≡ b → Keeps terms (frame_deeds n s ++ h) (writes n s) → n + frames_left (writes n s).message ≤ frames_left s.message → (can_write (writes (suc n) s) ≡ false) ⊎ (suc n + frames_left (writes (suc n) s).message ≤ frames_left s.message)
+      by : (b : Bool) → can_write (writes n s) ≡ b → Keeps terms (frame_deeds n s ++ h) (writes n s) → n + frames_left (writes n s).message ≤ frames_left s.message →
+          (can_write (writes (suc n) s) ≡ false) ⊎ (suc n + frames_left (writes (suc n) s).message ≤ frames_left s.message)
       by false e now less = inl (ap can_write (stays (writes n s) e) ∙ e)
       by true e now less = inr (omega (arith, less, smaller laws null (writes n s) now.least e))
 

@@ -42,10 +42,40 @@ module _ (laws : Lengths) where
   flow_short f drain = by f.peer_next_outgoing_id drain
     where
       by : (i : Option ℕ) (d : Bool) → length (frame (flow_said (record f { peer_next_outgoing_id = i }) d)) ≤ 64
-      by None true = omega (arith, laws.most 0 (flow_said (record f { peer_next_outgoing_id = None }) true) [], laws.numbers f.next_outgoing_id, laws.numbers f.delivery_count, laws.numbers (credit f), length-append {A = ℕ})
-      by None false = omega (arith, laws.most 0 (flow_said (record f { peer_next_outgoing_id = None }) false) [], laws.numbers f.next_outgoing_id, laws.numbers f.delivery_count, laws.numbers (credit f), length-append {A = ℕ})
-      by (Some i) true = omega (arith, laws.most 0 (flow_said (record f { peer_next_outgoing_id = Some i }) true) [], laws.numbers i, laws.numbers f.next_outgoing_id, laws.numbers f.delivery_count, laws.numbers (credit f), length-append {A = ℕ})
-      by (Some i) false = omega (arith, laws.most 0 (flow_said (record f { peer_next_outgoing_id = Some i }) false) [], laws.numbers i, laws.numbers f.next_outgoing_id, laws.numbers f.delivery_count, laws.numbers (credit f), length-append {A = ℕ})
+      by None true = omega (
+        arith,
+        laws.most 0 (flow_said (record f { peer_next_outgoing_id = None }) true) [],
+        laws.numbers f.next_outgoing_id,
+        laws.numbers f.delivery_count,
+        laws.numbers (credit f),
+        length-append {A = ℕ},
+      )
+      by None false = omega (
+        arith,
+        laws.most 0 (flow_said (record f { peer_next_outgoing_id = None }) false) [],
+        laws.numbers f.next_outgoing_id,
+        laws.numbers f.delivery_count,
+        laws.numbers (credit f),
+        length-append {A = ℕ},
+      )
+      by (Some i) true = omega (
+        arith,
+        laws.most 0 (flow_said (record f { peer_next_outgoing_id = Some i }) true) [],
+        laws.numbers i,
+        laws.numbers f.next_outgoing_id,
+        laws.numbers f.delivery_count,
+        laws.numbers (credit f),
+        length-append {A = ℕ},
+      )
+      by (Some i) false = omega (
+        arith,
+        laws.most 0 (flow_said (record f { peer_next_outgoing_id = Some i }) false) [],
+        laws.numbers i,
+        laws.numbers f.next_outgoing_id,
+        laws.numbers f.delivery_count,
+        laws.numbers (credit f),
+        length-append {A = ℕ},
+      )
 
   pub transfer_short : (id : ℕ) (begun more : Bool) → length (frame (transfer_said id begun more)) ≤ 64
   transfer_short id true true = omega (arith, laws.most 0 (later_said true) [])

@@ -3,6 +3,7 @@ pub mod Opens
 pub mod Lengths
 pub mod Writing
 pub mod Histories
+pub mod Runs
 pub mod Moves
 pub mod Saying
 pub mod Examples

@@ -25,7 +25,8 @@ disposed_lawful true s first last (Some o) = tt
 disposed_lawful true true first last None = tt
 disposed_lawful true false first last None = tt
 
-module _ (again : (bytes : List ℕ) (p : Performative) (fields : List Field) (payload : List ℕ) → ((i : ℕ) → slice_index bytes i < 256) → Body bytes p payload → fields_of (type_of p) ≡ Some fields → AreOfFields fields (written_cells p)) where
+module _ (again : (bytes : List ℕ) (p : Performative) (fields : List Field) (payload : List ℕ) → ((i : ℕ) → slice_index bytes i < 256) → Body bytes p payload → fields_of (type_of p) ≡ Some fields →
+    AreOfFields fields (written_cells p)) where
   pub lawful : (bytes : List ℕ) (p : Performative) (payload : List ℕ) → ((i : ℕ) → slice_index bytes i < 256) → Body bytes p payload → IsLawful (told_by (type_of p) (performative_cells p))
   lawful bytes (performative.Open p) payload octets body =
       let field = (again bytes (performative.Open p) open_fields payload octets body refl).1.1.0 in

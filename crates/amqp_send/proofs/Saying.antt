@@ -4,16 +4,21 @@ use Rattle.std.specs.Prelude.{slice_index, nat_lt}
 use Rattle.std.specs.List.{AllByRecursion}
 use Rattle.std.proofs.lemmas.Bool.{le-leb}
 use Rattle.byteorder.specs.Endian.{big_bytes}
+use Rattle.amqp_types.specs.declared.kind.Kind.TheVariants as kind
+use Rattle.amqp_types.specs.Canonical.{canonical, Fits, IsRanged}
+use Rattle.amqp_types.specs.Spelling.{Spells}
+use Rattle.amqp_types.specs.Trees.{Tree, Number, ListOf, Described, none, IsLawful}
 use Rattle.amqp_perform.specs.Again.{IsOfField}
-use Rattle.amqp_perform.specs.Cells.{Whole, where_so}
+use Rattle.amqp_perform.specs.Cells.{Whole, Bytes, Span, where_so}
 use Rattle.amqp_perform.specs.Performatives.{flag, optional_whole}
 use Rattle.amqp_perform.specs.Said.{MayBeSaid}
-use Rattle.amqp_perform.specs.Tables.{Field, uint, boolean, optional, default, begin_fields, flow_fields, transfer_fields, close_fields}
+use Rattle.amqp_perform.specs.Tables.{Field, string, uint, uint_from, ushort, boolean, sender_settle_mode, receiver_settle_mode, anything, mandatory, optional, default, open_fields, begin_fields}
+use Rattle.amqp_perform.specs.Tables.{attach_fields, flow_fields, transfer_fields, close_fields}
 use Rattle.amqp_serial.specs.Numbers.{distance_of}
 use Rattle.amqp_send.specs.declared.flow_state.FlowState.{FlowState}
 use Rattle.amqp_send.specs.Flows.{credit}
-use Rattle.amqp_send.specs.Frames.{IsSmall}
-use Rattle.amqp_send.specs.Sendings.{begin_said, flow_said, close_said, transfer_said}
+use Rattle.amqp_send.specs.Frames.{IsSmall, IsText}
+use Rattle.amqp_send.specs.Sendings.{source_text, target_text, open_said, begin_said, attach_said, flow_said, close_said, transfer_said}
 
 abbrev uint_field : Field
 uint_field = record { name = []; type = uint; absence = optional }
@@ -36,11 +41,57 @@ credit_small f = by (nat_lt (distance_of f.delivery_count f.credit_end) (2 ^ 31)
     by true = omega arith
     by false = omega arith
 
+text_cell : (text : List ℕ) → IsText text → IsOfField (record { name = []; type = string; absence = mandatory }) (Bytes text)
+text_cell text is = (is, refl)
+
+pub open_may : (container_id : List ℕ) → IsText container_id → MayBeSaid (open_said container_id)
+open_may container_id is = record {
+  fields = open_fields;
+  table = refl;
+  each = (
+    text_cell container_id is,
+    (refl, (((λ e. absurd (cc e), omega arith, tt), refl), (((λ e. absurd (cc e), omega arith, tt), refl), (refl, (refl, (refl, (refl, (refl, (refl, tt))))))))),
+  );
+}
+
 pub begin_may : MayBeSaid begin_said
 begin_may = record {
   fields = begin_fields;
   table = refl;
   each = (refl, (uint_cell 0 (omega arith), (uint_cell 0 (omega arith), (uint_cell 2048 (omega arith), (uint_cell 0 (omega arith), (refl, (refl, (refl, tt))))))));
+}
+
+-- a terminus without fields, by the code that describes it [3.5.3, 3.5.4]
+abbrev terminus : ℕ → Tree
+terminus code = Described (Number kind.Ulong code) (ListOf none)
+
+terminus_cell : ((t : Tree) → IsLawful t → IsRanged t → Fits t → Spells t (canonical t)) → (code : ℕ) → code < 256 ^ 8 → IsOfField (record { name = []; type = anything; absence = optional })
+    (Span (canonical (terminus code)))
+terminus_cell spells code few = (refl, terminus code, spells (terminus code) (tt, tt) ((λ e. absurd (cc e), few, tt), tt) (tt, (refl, tt)), omega arith, refl)
+
+pub attach_may : ((t : Tree) → IsLawful t → IsRanged t → Fits t → Spells t (canonical t)) → (name : List ℕ) → IsText name → MayBeSaid (attach_said name)
+attach_may spells name is = record {
+  fields = attach_fields;
+  table = refl;
+  each = (
+    text_cell name is,
+    (
+      uint_cell 0 (omega arith),
+      (
+        bool_cell false,
+        (
+          ((λ e. absurd (cc e), omega arith, tt), refl),
+          (
+            ((λ e. absurd (cc e), omega arith, tt), refl),
+            (
+              terminus_cell spells 0x28 (omega arith),
+              (terminus_cell spells 0x29 (omega arith), (refl, (refl, (uint_cell 0 (omega arith), (refl, (refl, (refl, (refl, tt)))))))),
+            ),
+          ),
+        ),
+      ),
+    ),
+  );
 }
 
 pub flow_may : (f : FlowState) (drain : Bool) → IsSmall f.peer_next_outgoing_id → f.next_outgoing_id < 2 ^ 32 → f.delivery_count < 2 ^ 32 → MayBeSaid (flow_said f drain)

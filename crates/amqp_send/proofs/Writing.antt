@@ -52,7 +52,8 @@ stuck n (suc m) s le none = by (ltb n (suc m)) refl (λ less. stuck n m s less n
     by false e before = let same : suc m ≡ n = omega (arith, ltb-false n (suc m) e) in ap (λ (x : ℕ). writes x s) same
 
 -- after so many frames none may be written
-pub written : (start s t : Sending) (n : ℕ) → s ≡ writes n start → n + frames_left s.message ≤ frames_left start.message → t ≡ wrote s → can_write s ≡ false → (t ≡ all_written start) × (can_write t ≡ false)
+pub written : (start s t : Sending) (n : ℕ) → s ≡ writes n start → n + frames_left s.message ≤ frames_left start.message → t ≡ wrote s → can_write s ≡ false →
+    (t ≡ all_written start) × (can_write t ≡ false)
 written start s t n is le new none =
     let same : t ≡ s = new ∙ stays s none in
     let no : can_write (writes n start) ≡ false = subst (λ (x : Sending). can_write x ≡ false) is none in

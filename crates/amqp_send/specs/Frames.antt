@@ -1,10 +1,17 @@
 -- What stands in the frames of a sender may stand there, so that they are read as they were written (AMQP 1.0, part 2, section 2.7).
-use Rattle.std.specs.Prelude.{ℕ, ◌^◌, ◌<◌, ◌≤◌, length, Option, Some, None}
+use Rattle.std.specs.Prelude.{ℕ, ◌^◌, ◌<◌, ◌≤◌, List, length, Option, Some, None}
+use Rattle.amqp_types.specs.declared.kind.Kind.TheVariants as kind
+use Rattle.amqp_types.specs.Canonical.{IsRanged}
+use Rattle.amqp_types.specs.Trees.{Octets}
 use Rattle.amqp_send.specs.Sendings.{SendTerms, frame, open_said, begin_said, attach_said}
 
 abbrev pub IsSmall : Option ℕ → Type 0
 IsSmall None = Unit {0}
 IsSmall (Some n) = n < 2 ^ 32
+
+-- the bytes of a text [1.6.20]
+abbrev pub IsText : List ℕ → Type 0
+IsText bytes = IsRanged (Octets kind.String bytes)
 
 -- the frames of the opening fit each receiver, whatever it accepts [2.7.1]
 pub record IsOpening (terms : SendTerms) : Type 0 where

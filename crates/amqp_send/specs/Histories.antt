@@ -12,7 +12,8 @@ use Rattle.amqp_send.specs.declared.telling.Limits.{Limits}
 use Rattle.amqp_send.specs.declared.telling.Told.{Told}
 use Rattle.amqp_send.specs.declared.telling.Told.TheVariants.{Nothing, Opened, Begun, Flowed}
 use Rattle.amqp_send.specs.Flows.{ahead, credit, window, most}
-use Rattle.amqp_send.specs.Sendings.{SendTerms, Message, Sending, sending_begins, frame, opening, flow_said, close_said, transfer_said, is_last, share, is_talking, may_go, writes, frames_left, SendEvent, Acted, Offered, Left_off, Moved, changed, send_after, SendMay}
+use Rattle.amqp_send.specs.Sendings.{SendTerms, Message, Sending, sending_begins, frame, opening, flow_said, close_said, transfer_said, is_last, share, is_talking, may_go, writes, frames_left}
+use Rattle.amqp_send.specs.Sendings.{SendEvent, Acted, Offered, CloseWritten, Moved, changed, send_after, SendMay}
 use Rattle.amqp_send.specs.Tellings.{told_of, IsLawful}
 
 -- a frame of a message: what it has of it, and whether more follow
@@ -227,7 +228,7 @@ heard_deeds (talk.Ended c) t = []
 abbrev pub event_deeds : Sending → SendEvent → List Deed
 event_deeds s (Acted u) = heard_deeds s.talk (told_of u)
 event_deeds s (Offered m) = Took m ∷ []
-event_deeds s Left_off = Ceased ∷ []
+event_deeds s CloseWritten = Ceased ∷ []
 event_deeds s (Moved n) = Gave (take n s.unsent) ∷ []
 
 abbrev pub next_piece : FlowState → Message → Piece
@@ -259,7 +260,7 @@ history terms (e ∷ es) = deeds (after_all terms es) e ++ history terms es
 abbrev pub IsLawfulEvent : SendEvent → Type 0
 IsLawfulEvent (Acted u) = IsLawful (told_of u)
 IsLawfulEvent (Offered m) = Unit {0}
-IsLawfulEvent Left_off = Unit {0}
+IsLawfulEvent CloseWritten = Unit {0}
 IsLawfulEvent (Moved n) = Unit {0}
 
 -- each event came where it may

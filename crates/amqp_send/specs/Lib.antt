@@ -4,5 +4,6 @@ pub mod Sendings
 pub mod Keeping
 pub mod Calls
 pub mod Histories
+pub mod Runs
 pub mod Frames
 pub mod Lengths

@@ -1,5 +1,6 @@
 -- A sender: its state, the frames that it writes, and its steps (AMQP 1.0, part 2, sections 2.4.1, 2.5.6, 2.6.7 and 2.6.12).
-use Rattle.std.specs.Prelude.{◌≡◌, ℕ, zero, suc, ◌+◌, ◌-◌, ◌≤◌, nat_lt, nat_le, ◌&&◌, ◌||◌, Bool, true, false, not, if◌then◌else◌, List, [], ◌∷◌, ◌++◌, length, take, drop, Option, Some, None, is_none, ◌*◌}
+use Rattle.std.specs.Prelude.{◌≡◌, ℕ, zero, suc, ◌+◌, ◌-◌, ◌≤◌, nat_lt, nat_le, ◌&&◌, ◌||◌, Bool, true, false, not, if◌then◌else◌, List, [], ◌∷◌, ◌++◌, length, take, drop, Option, Some, None, is_none}
+use Rattle.std.specs.Prelude.{◌*◌}
 use Rattle.std.specs.List.{flat_map}
 use Rattle.byteorder.specs.Endian.{big_bytes}
 use Rattle.amqp_frame.specs.Units.{StreamUnit}
@@ -270,7 +271,7 @@ pub data SendEvent : Type 0 where
   -- a message was taken over
   Offered : List ℕ → SendEvent
   -- its own close was written
-  Left_off : SendEvent
+  CloseWritten : SendEvent
   -- so many bytes of the pipe were moved out
   Moved : ℕ → SendEvent
 
@@ -278,7 +279,7 @@ pub data SendEvent : Type 0 where
 abbrev pub changed : Sending → SendEvent → Sending
 changed s (Acted u) = heard_in s.talk (told_of u) s
 changed s (Offered m) = record s { message = Some (record { rest = m; begun = false }) }
-changed s Left_off = record s { talk = talk.Closing; unsent = s.unsent ++ frame close_said }
+changed s CloseWritten = record s { talk = talk.Closing; unsent = s.unsent ++ frame close_said }
 changed s (Moved n) = record s { unsent = drop n s.unsent }
 
 abbrev pub send_after : Sending → SendEvent → Sending
@@ -316,5 +317,5 @@ offer_fault s = fault_at s.talk s.message
 abbrev pub SendMay : Sending → SendEvent → Type 0
 SendMay s (Acted u) = has_room s ≡ true
 SendMay s (Offered m) = offer_fault s ≡ None
-SendMay s Left_off = may_close s ≡ true
+SendMay s CloseWritten = may_close s ≡ true
 SendMay s (Moved n) = n ≤ length s.unsent

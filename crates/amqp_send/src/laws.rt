@@ -3,12 +3,15 @@ ghost use Rattle.std.specs.Prelude.{◌≡◌, ℕ, ◌^◌, ◌<◌, ◌≤◌,
 ghost use Rattle.amqp_perform.specs.Said.{MayBeSaid};
 ghost use Rattle.amqp_send.specs.declared.flow_state.FlowState.{FlowState};
 ghost use Rattle.amqp_send.specs.Flows.{most};
-ghost use Rattle.amqp_send.specs.Frames.{IsSmall, IsOpening};
+ghost use Rattle.amqp_send.specs.Frames.{IsSmall, IsText, IsOpening};
 ghost use Rattle.amqp_send.specs.Histories.{Deed, IsHistory, AllMayGo, IsLawfulEvent, Accepted, after_all, history, deeds};
+ghost use Rattle.amqp_send.specs.Calls.{SenderState};
 ghost use Rattle.amqp_send.specs.Lengths.{Lengths, NullIsLeast};
-ghost use Rattle.amqp_send.specs.Sendings.{SendTerms, Message, Sending, SendEvent, SendMay, send_after, can_write, frame, begin_said, flow_said, close_said, transfer_said, is_last, next_frame};
+ghost use Rattle.amqp_send.specs.Runs.{Call, Answer, Run, IsStart, HasHistory, HasMoment};
+ghost use Rattle.amqp_send.specs.Sendings.{SendTerms, Message, Sending, SendEvent, SendMay, send_after, can_write, frame, open_said, begin_said, attach_said, flow_said, close_said, transfer_said, is_last, next_frame};
 
 use amqp_perform::laws::{a_null_adds_no_more, fields_are_as_long, frames_are_as_long};
+use amqp_types::laws::canonical_spells;
 
 /// One event more: the sender is what its longer history gives. What was moved out and what waits is the header,
 /// the opening, the answers to flows, and the transfers of the messages, which are those that were taken over, in
@@ -31,6 +34,22 @@ pub fn steps_give_the_history()
     lengths_of_frames();
 }
 
+/// Every list of calls of a new sender has a history: the bytes that the feeds took are the units that were acted
+/// upon and a rest, the messages that were taken over, the bytes that were moved out and the news are those of
+/// the history, each told where its event came, and no frame is left unwritten that may be written [2.2 to 2.7].
+pub fn runs_have_a_history()
+    ensures { (terms : SendTerms) (calls : List Call) (answers : List Answer) (start last : SenderState) → IsStart terms start → Run start calls answers last → HasHistory terms calls answers last }
+{
+    steps_give_the_history();
+}
+
+/// So has it after each of them.
+pub fn each_call_has_its_history()
+    ensures { (terms : SendTerms) (calls : List Call) (answers : List Answer) (start last : SenderState) (n : ℕ) → IsStart terms start → Run start calls answers last → HasMoment terms start calls answers last n }
+{
+    steps_give_the_history();
+}
+
 /// How long the frames are that a sender writes.
 pub fn lengths_of_frames()
     ensures lengths { Lengths }
@@ -43,11 +62,15 @@ pub fn lengths_of_frames()
 
 /// The frames that a sender writes say what may be said, so that they are read as they were written. [2.7]
 pub fn frames_may_be_said()
+    ensures open { (container_id : List ℕ) → IsText container_id → MayBeSaid (open_said container_id) }
     ensures begin { MayBeSaid begin_said }
     ensures flow { (f : FlowState) (drain : Bool) → IsSmall f.peer_next_outgoing_id → f.next_outgoing_id < 2 ^ 32 → f.delivery_count < 2 ^ 32 → MayBeSaid (flow_said f drain) }
     ensures transfer { (id : ℕ) (begun more : Bool) → id < 2 ^ 32 → MayBeSaid (transfer_said id begun more) }
     ensures close { MayBeSaid close_said }
-{}
+    ensures attach { (name : List ℕ) → IsText name → MayBeSaid (attach_said name) }
+{
+    canonical_spells();
+}
 
 /// Each frame of the opening has at most 512 bytes, which each receiver accepts, a flow at most 64, and a close
 /// 12; no transfer is longer than the receiver accepts, and each that more follow is exactly as long as a frame

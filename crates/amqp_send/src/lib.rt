@@ -4,7 +4,9 @@
 //! [`Sender::new`] writes the protocol header; then as they come [`Sender::offer`] takes a message over,
 //! [`Sender::feed`] takes the receiver's bytes and tells what they bring, and [`Sender::output`] moves out what
 //! is to be sent. `specs/Sendings.antt` has its state, the frames that it writes and what each event does to
-//! it; `specs/Tellings.antt` what the receiver's units tell it.
+//! it; `specs/Tellings.antt` what the receiver's units tell it; `specs/Runs.antt` what holds of every list of
+//! its calls.
+//! The tests stand in `send_tests`.
 #![tactic(auto)]
 
 mod config;

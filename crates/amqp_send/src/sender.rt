@@ -3,11 +3,11 @@ ghost use Rattle.std.specs.Prelude.{◌≡◌, ◌≤◌, ◌<◌, ◌++◌, ℕ
 ghost use Rattle.std.specs.String.{string_bytes};
 ghost use Rattle.amqp_frame.specs.Splits.{IsHeld, IsUnchanged, IsEmptied, TakesNothing, Waits};
 ghost use Rattle.amqp_frame.specs.Units.{StreamUnit, IsRest, due_after};
-ghost use Rattle.amqp_frame.specs.declared.units.Stage.{Stage};
 ghost use Rattle.amqp_send.specs.Calls.{SenderState, taken};
 ghost use Rattle.amqp_send.specs.Keeping.{terms_of};
+ghost use Rattle.amqp_send.specs.Runs.{Offer, Feed, Output, Close, TakenOver, Refused, Fed, MovedOut, Closed, Does, IsStart};
 ghost use Rattle.amqp_send.specs.Tellings.{told_of, IsLawful};
-ghost use Rattle.amqp_send.specs.Sendings.{sending_begins, SendEvent, send_after, sent_news, offer_fault, has_room, may_close, can_write, left_to_send};
+ghost use Rattle.amqp_send.specs.Sendings.{SendEvent, send_after, sent_news, offer_fault, has_room, may_close, can_write, left_to_send};
 
 use crate::config::SendConfig;
 use crate::flow_state::MAX_FRAME_SIZE;
@@ -45,11 +45,12 @@ impl<A: Allocator + Copy> Model for Sender<A> {
 
 impl<A: Allocator + Copy> Sender<A> {
     /// A sender that has written the protocol header [2.2]. The opening follows once the receiver's header has
-    /// come. Takes all the memory that the sender ever needs; an error where that is refused.
+    /// come. The container-id and the link's name have at most 255 bytes each. Takes all the memory that the
+    /// sender ever needs; an error where that is refused.
     pub fn new(alloc: A, config: SendConfig<A>) -> Result<Self, AllocError>
         requires container_id { length (string_bytes config.container_id) ≤ 255 }
         requires name { length (string_bytes config.name) ≤ 255 }
-        ensures { IfOk result (λ s. s ≡ record { input = record { limit = 4096; stage = Stage.Header; filled = []; room = 4096 }; sending = sending_begins (terms_of config) }) }
+        ensures { IfOk result (λ s. IsStart (terms_of config) s) }
     {
         Ok(Sender {
             input: Splitter::new(alloc, MAX_FRAME_SIZE as usize)?,
@@ -63,6 +64,8 @@ impl<A: Allocator + Copy> Sender<A> {
     pub fn offer(&mut self, message: Vec<u8, A>) -> Result<(), (OfferFault, Vec<u8, A>)>
         ensures ok { OnOk result ((offer_fault self.old.sending ≡ None) × (self.new ≡ record self.old { sending = send_after self.old.sending (SendEvent.Offered message.items) })) }
         ensures err { IfErr result (λ e. (offer_fault self.old.sending ≡ Some e.0) × (e.1.items ≡ message.items) × (self.new ≡ self.old)) }
+        ensures taken_over { OnOk result (Does self.old self.new (Offer message.items) TakenOver) }
+        ensures refused { IfErr result (λ e. Does self.old self.new (Offer message.items) (Refused e.0)) }
         ensures written { can_write self.new.sending ≡ false }
     {
         if let Some(fault) = self.sending.offer_fault() {
@@ -93,6 +96,7 @@ impl<A: Allocator + Copy> Sender<A> {
         ensures none { ((u : StreamUnit) → Waits (taken self.old.input (take result.0 piece.now)) u → ⊥)
             → IsUnchanged (taken self.old.input (take result.0 piece.now)) self.new.input × (self.new.sending ≡ self.old.sending) × (result.1 ≡ None) }
         ensures lawful { (u : StreamUnit) → Waits (taken self.old.input (take result.0 piece.now)) u → has_room self.old.sending ≡ true → IsLawful (told_of u) }
+        ensures does { Does self.old self.new (Feed piece.now) (Fed result.0 result.1) }
         ensures written { can_write self.new.sending ≡ false }
     {
         let used = self.input.push(piece);
@@ -124,6 +128,7 @@ impl<A: Allocator + Copy> Sender<A> {
         ensures count { result ≡ min (length out.old) (length self.old.sending.unsent) }
         ensures read { out.new ≡ take result self.old.sending.unsent ++ drop result out.old }
         ensures new { self.new ≡ record self.old { sending = send_after self.old.sending (SendEvent.Moved result) } }
+        ensures does { Does self.old self.new (Output (length out.old)) (MovedOut (take result out.new)) }
         ensures written { can_write self.new.sending ≡ false }
 
         // So a loop that moves all out ends.
@@ -140,8 +145,9 @@ impl<A: Allocator + Copy> Sender<A> {
     /// has ended, and where the pipe has fewer than 12 bytes of room.
     pub fn close(&mut self) -> bool
         ensures may { result ≡ may_close self.old.sending }
-        ensures closed { IsTrue result → self.new ≡ record self.old { sending = send_after self.old.sending SendEvent.Left_off } }
+        ensures closed { IsTrue result → self.new ≡ record self.old { sending = send_after self.old.sending SendEvent.CloseWritten } }
         ensures unchanged { IsFalse result → self.new ≡ self.old }
+        ensures does { Does self.old self.new Close (Closed result) }
         ensures written { can_write self.new.sending ≡ false }
     {
         let closed = self.sending.close();

@@ -225,7 +225,7 @@ impl<A: Allocator + Copy> Sending<A> {
     /// Writes the close, where it talks and there is room, and answers whether that is so.
     pub fn close(&mut self) -> bool
         ensures may { result ≡ may_close self.old }
-        ensures new { self.new ≡ (if result then changed self.old SendEvent.Left_off else self.old) }
+        ensures new { self.new ≡ (if result then changed self.old SendEvent.CloseWritten else self.old) }
     {
         match self.talk {
             Talk::Talking if self.output.room() >= CLOSE_ROOM => {

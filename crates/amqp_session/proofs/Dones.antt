@@ -21,13 +21,15 @@ pub apart_after : IdsGrow → (s new : SessionState) (e : SessionEvent) → IsAp
 apart_after grow s new e apart may same = subst (λ (t : SessionState). IsApart t) (sym same) (stays_apart grow s e apart may)
 
 -- the answer to an attach
-pub attach_answered : (terms : SessionTerms) (a : Attaching) (x : Answer) (o : Option Condition) → IsAttachAnswer (attach_news a.handle o) x → attach_answer terms a o ≡ answer_said terms (Attaches a) x
+pub attach_answered : (terms : SessionTerms) (a : Attaching) (x : Answer) (o : Option Condition) → IsAttachAnswer (attach_news a.handle o) x →
+    attach_answer terms a o ≡ answer_said terms (Attaches a) x
 attach_answered terms a x None is = ap (λ (y : Answer). answer_said terms (Attaches a) y) (sym is)
 attach_answered terms a x (Some condition) is =
     ap (λ (y : Said). refusal_said a ∷ y ∷ []) (sym is.2) ∙ ap (λ (y : Answer). answer_said terms (Attaches a) y) (sym is.1)
 
 -- the answer to a flow whose link did not fail
-pub flow_answered : (after : SessionState) (f : Flowing) (x : News) → ((handle : ℕ) (condition : Condition) (dropped : ℕ) → x ≡ news.Failed handle condition dropped → ⊥) → flow_answer after f x ≡ (if f.echo then echo_answer after f.handle else [])
+pub flow_answered : (after : SessionState) (f : Flowing) (x : News) → ((handle : ℕ) (condition : Condition) (dropped : ℕ) → x ≡ news.Failed handle condition dropped → ⊥) →
+    flow_answer after f x ≡ (if f.echo then echo_answer after f.handle else [])
 flow_answered after f news.Nothing other = refl
 flow_answered after f (news.Attached handle) other = refl
 flow_answered after f (news.Unfinished handle) other = refl

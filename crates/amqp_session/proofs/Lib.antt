@@ -14,3 +14,4 @@ pub mod Bounds
 pub mod Lives
 pub mod Names
 pub mod Outcomes
+pub mod FrameEvents

@@ -84,7 +84,8 @@ pub none_after : (slots : List (Slot LiveLink)) → From 0 Nothing slots ≡ slo
 none_after slots = none_from 0 Nothing slots (λ j l s. refl)
 
 -- something happens at one place, and nothing elsewhere
-one_from : (k n place : ℕ) (x : Happens Attached LinkEvent) (slots : Table) (i : ℕ) (s new : Slot LiveLink) → place ≡ k + i → ((j : ℕ) → (place ≡ j → ⊥) → (t : Slot LiveLink) → After j x t ≡ t) → After place x s ≡ new → slice_get slots i ≡ Some s → length slots ≤ n → From k x (padded n slots) ≡ padded n (slice_set slots i new)
+one_from : (k n place : ℕ) (x : Happens Attached LinkEvent) (slots : Table) (i : ℕ) (s new : Slot LiveLink) → place ≡ k + i → ((j : ℕ) → (place ≡ j → ⊥) → (t : Slot LiveLink) → After j x t ≡ t) →
+    After place x s ≡ new → slice_get slots i ≡ Some s → length slots ≤ n → From k x (padded n slots) ≡ padded n (slice_set slots i new)
 one_from k n place x [] i s new at only here e most = absurd (grind (arith, e))
 one_from k zero place x (t ∷ slots) i s new at only here e most = absurd (omega (arith, most))
 one_from k (suc n) place x (t ∷ slots) zero s new at only here e most =
@@ -109,15 +110,20 @@ elsewhere place j ne = ne_eqb place j ne
 here_at : (place : ℕ) → nat_eq place place ≡ true
 here_at place = eq-eqb place place refl
 
-pub begins_at : (n : ℕ) (slots : List (Slot LiveLink)) (i : ℕ) (a : Attached) (s : Slot LiveLink) → slice_get slots i ≡ Some s → length slots ≤ n → From 0 (Begins i a) (padded n slots) ≡ padded n (slice_set slots i (Live (live_begins a)))
+pub begins_at : (n : ℕ) (slots : List (Slot LiveLink)) (i : ℕ) (a : Attached) (s : Slot LiveLink) → slice_get slots i ≡ Some s → length slots ≤ n →
+    From 0 (Begins i a) (padded n slots) ≡ padded n (slice_set slots i (Live (live_begins a)))
 begins_at n slots i a s e most =
-    one_from 0 n i (Begins i a) slots i s (Live (live_begins a)) (omega arith) (λ j ne t. either_false (nat_eq i j) (Live (live_begins a)) t (elsewhere i j ne)) (either_true (nat_eq i i) (Live (live_begins a)) s (here_at i)) e most
+    one_from 0 n i (Begins i a) slots i s (Live (live_begins a)) (omega arith) (λ j ne t. either_false (nat_eq i j) (Live (live_begins a)) t (elsewhere i j ne))
+    (either_true (nat_eq i i) (Live (live_begins a)) s (here_at i)) e most
 
-pub goes_on_at : (n : ℕ) (slots : List (Slot LiveLink)) (i : ℕ) (e : LinkEvent) (s : Slot LiveLink) → slice_get slots i ≡ Some s → length slots ≤ n → From 0 (GoesOn i e) (padded n slots) ≡ padded n (slice_set slots i (slot_map (λ l. live_after l e) s))
+pub goes_on_at : (n : ℕ) (slots : List (Slot LiveLink)) (i : ℕ) (e : LinkEvent) (s : Slot LiveLink) → slice_get slots i ≡ Some s → length slots ≤ n →
+    From 0 (GoesOn i e) (padded n slots) ≡ padded n (slice_set slots i (slot_map (λ l. live_after l e) s))
 goes_on_at n slots i e s at most =
-    one_from 0 n i (GoesOn i e) slots i s (slot_map (λ l. live_after l e) s) (omega arith) (λ j ne t. either_false (nat_eq i j) (slot_map (λ l. live_after l e) t) t (elsewhere i j ne)) (either_true (nat_eq i i) (slot_map (λ l. live_after l e) s) s (here_at i)) at most
+    one_from 0 n i (GoesOn i e) slots i s (slot_map (λ l. live_after l e) s) (omega arith) (λ j ne t. either_false (nat_eq i j) (slot_map (λ l. live_after l e) t) t (elsewhere i j ne))
+    (either_true (nat_eq i i) (slot_map (λ l. live_after l e) s) s (here_at i)) at most
 
-pub leaves_at : (n : ℕ) (slots : List (Slot LiveLink)) (i : ℕ) (s : Slot LiveLink) → slice_get slots i ≡ Some s → length slots ≤ n → From 0 (Leaves i) (padded n slots) ≡ padded n (slice_set slots i Waits)
+pub leaves_at : (n : ℕ) (slots : List (Slot LiveLink)) (i : ℕ) (s : Slot LiveLink) → slice_get slots i ≡ Some s → length slots ≤ n →
+    From 0 (Leaves i) (padded n slots) ≡ padded n (slice_set slots i Waits)
 leaves_at n slots i s e most =
     one_from 0 n i (Leaves i) slots i s Waits (omega arith) (λ j ne t. either_false (nat_eq i j) Waits t (elsewhere i j ne)) (either_true (nat_eq i i) Waits s (here_at i)) e most
 

@@ -24,15 +24,19 @@ use Rattle.amqp_session.specs.declared.terms.SessionTerms.{SessionTerms}
 use Rattle.amqp_session.specs.Places.{Begins, Leaves}
 use Rattle.amqp_perform.specs.Said.{Said}
 use Rattle.amqp_session.specs.Frames.{link_flow_said, Attaching, Flowing, Attaches, Flows, Transfers}
-use Rattle.amqp_session.specs.Sessions.{Attached, LiveLink, live_begins, live_after, SessionState, SessionEvent, handles, happens, is_transfer, one_if, widened_by, stated_by, session_after, slot_at, slot_has, slot_count, table_count, is_open_id, is_reused, IsApart, session_begins}
+use Rattle.amqp_session.specs.Sessions.{Attached, LiveLink, live_begins, live_after, SessionState, SessionEvent, handles, happens, is_transfer, one_if, widened_by, stated_by, session_after, slot_at}
+use Rattle.amqp_session.specs.Sessions.{slot_has, slot_count, table_count, is_open_id, is_reused, IsApart, session_begins}
 use Rattle.amqp_session.specs.Sessions as event
-use Rattle.amqp_session.specs.Faults.{is_free, handle_fault, session_fault, transfer_fault, attached, attach_event, transfer_event, flow_event, named_event, event_of, came_news, transfer_news, news_of, named_news, flow_news, IsRefusal, slot_may_grow, refusal, attach_fault, or_else, where_so, slot_flow, link_flow, named_fault, attach_news}
+use Rattle.amqp_session.specs.Faults.{is_free, handle_fault, session_fault, transfer_fault, attached, attach_event, transfer_event, flow_event, named_event, event_of, came_news, transfer_news}
+use Rattle.amqp_session.specs.Faults.{news_of, named_news, flow_news, IsRefusal, slot_may_grow, refusal, attach_fault, or_else, where_so, slot_flow, link_flow, named_fault, attach_news}
 use Rattle.amqp_session.specs.Calls.{Take, call_event, take_event, at_link, slot_standing, standing_in, standing_fault}
-use Rattle.amqp_session.specs.Slots.{padded, session_of, IsReached, is_live, came_fault, slot_reused, at_place, slot_came, slot_came_news, slot_grows, IsSlotRefusal, slot_flowed, slot_called, IsTaken, HandsUp, IsStated, IsFlowTold, IsSettling, stated_of}
+use Rattle.amqp_session.specs.Slots.{padded, session_of, IsReached, is_live, came_fault, slot_reused, at_place, slot_came, slot_came_news, slot_grows, IsSlotRefusal, slot_flowed, slot_called, IsTaken}
+use Rattle.amqp_session.specs.Slots.{HandsUp, IsStated, IsFlowTold, IsSettling, stated_of}
 use Rattle.amqp_session.specs.declared.slots.LinkStated.{LinkStated}
 use Rattle.amqp_session.proofs.Standings.{settles_everywhere, some_stands}
 use Rattle.amqp_session.proofs.Founds.{stands_there, settled_at}
-use Rattle.amqp_session.proofs.Padded.{From, padded_get, padded_any, padded_standing, padded_sum, padded_long, padded_live, padded_none, none_after, begins_at, goes_on_at, leaves_at, gone_at, all_after, put_again}
+use Rattle.amqp_session.proofs.Padded.{From, padded_get, padded_any, padded_standing, padded_sum, padded_long, padded_live, padded_none, none_after, begins_at, goes_on_at, leaves_at, gone_at}
+use Rattle.amqp_session.proofs.Padded.{all_after, put_again}
 
 pub there : (slots : List (Slot LiveLink)) (h : ℕ) (x : Slot LiveLink) → x ≡ get_or slots h x → h < length slots → slice_get slots h ≡ Some x
 there slots h x e l = slice_get-get_or slots h x l ∙ ap (λ (y : Slot LiveLink). Some y) (sym e)
@@ -57,7 +61,9 @@ module _ (terms : SessionTerms) (w n : ℕ) (slots : List (Slot LiveLink)) (s : 
   abbrev parts : ℕ → ℕ → List (Slot LiveLink) → SessionState
   parts a b ls = record { terms = terms; window = a; next_incoming_id = b; links = ls }
 
-  pub after_is : (e : SessionEvent) (w2 n2 : ℕ) (slots2 : List (Slot LiveLink)) → w + widened_by e - one_if (is_transfer e) ≡ w2 → (unwrap_or (stated_by e) n + one_if (is_transfer e)) % 2 ^ 32 ≡ n2 → From 0 (happens e) (padded (handles terms) slots) ≡ padded (handles terms) slots2 → session_of terms w2 n2 slots2 ≡ session_after s e
+  pub after_is : (e : SessionEvent) (w2 n2 : ℕ) (slots2 : List (Slot LiveLink)) → w + widened_by e - one_if (is_transfer e) ≡ w2 →
+      (unwrap_or (stated_by e) n + one_if (is_transfer e)) % 2 ^ 32 ≡ n2 → From 0 (happens e) (padded (handles terms) slots) ≡ padded (handles terms) slots2 →
+      session_of terms w2 n2 slots2 ≡ session_after s e
   after_is e w2 n2 slots2 a b c =
       subst (λ (t : SessionState). session_of terms w2 n2 slots2 ≡ session_after t e) view (
       ap (λ (m : ℕ). parts m n2 (padded (handles terms) slots2)) (sym a)
@@ -69,7 +75,8 @@ module _ (terms : SessionTerms) (w n : ℕ) (slots : List (Slot LiveLink)) (s : 
   ignored l = sym view ∙ after_is event.Ignored w n slots (unmoved w) (stays n l) (none_after (padded (handles terms) slots))
 
   -- a call for the link at a handle
-  pub called : (h : ℕ) (e : LinkEvent) (x new : Slot LiveLink) → n < 2 ^ 32 → x ≡ get_or slots h x → h < length slots → new ≡ slot_called e x → session_of terms w n (slice_set slots h new) ≡ session_after s (event.Called h e)
+  pub called : (h : ℕ) (e : LinkEvent) (x new : Slot LiveLink) → n < 2 ^ 32 → x ≡ get_or slots h x → h < length slots → new ≡ slot_called e x →
+      session_of terms w n (slice_set slots h new) ≡ session_after s (event.Called h e)
   called h e x new l at within is =
       ap (λ (y : Slot LiveLink). session_of terms w n (slice_set slots h y)) is
       ∙ after_is (event.Called h e) w n (slice_set slots h (slot_called e x)) (unmoved w) (stays n l) (goes_on_at (handles terms) slots h e x (there slots h x at within) reached.reached)
@@ -89,11 +96,13 @@ module _ (terms : SessionTerms) (w n : ℕ) (slots : List (Slot LiveLink)) (s : 
   widened k l = after_is (event.Widened k) (w + k) n slots (omega arith) (stays n l) (none_after (padded (handles terms) slots))
 
   -- a settle of ids, by the sender and by the receiver
-  pub peer_settled : (first last : ℕ) (slots2 : List (Slot LiveLink)) → n < 2 ^ 32 → slots2 ≡ map (slot_called (SenderSettled first last)) slots → session_of terms w n slots2 ≡ session_after s (event.PeerSettled first last)
+  pub peer_settled : (first last : ℕ) (slots2 : List (Slot LiveLink)) → n < 2 ^ 32 → slots2 ≡ map (slot_called (SenderSettled first last)) slots →
+      session_of terms w n slots2 ≡ session_after s (event.PeerSettled first last)
   peer_settled first last slots2 l is =
       after_is (event.PeerSettled first last) w n slots2 (unmoved w) (stays n l) (all_after (handles terms) (SenderSettled first last) slots ∙ ap (padded (handles terms)) (sym is))
 
-  pub settled : (first last : ℕ) (slots2 : List (Slot LiveLink)) → n < 2 ^ 32 → slots2 ≡ map (slot_called (ReceiverSettled first last)) slots → session_of terms w n slots2 ≡ session_after s (event.Settled first last)
+  pub settled : (first last : ℕ) (slots2 : List (Slot LiveLink)) → n < 2 ^ 32 → slots2 ≡ map (slot_called (ReceiverSettled first last)) slots →
+      session_of terms w n slots2 ≡ session_after s (event.Settled first last)
   settled first last slots2 l is =
       after_is (event.Settled first last) w n slots2 (unmoved w) (stays n l) (all_after (handles terms) (ReceiverSettled first last) slots ∙ ap (padded (handles terms)) (sym is))
 
@@ -104,7 +113,8 @@ module _ (terms : SessionTerms) (w n : ℕ) (slots : List (Slot LiveLink)) (s : 
       ∙ ap (λ (o : Option ℕ). session_after s (named_event s f o)) (sym none)
 
   -- and of a link
-  pub link_flowed : (f : Flowing) (h : ℕ) (x new : Slot LiveLink) → f.handle ≡ Some h → f.next_outgoing_id < 2 ^ 32 → x ≡ get_or slots h x → h < length slots → is_live x ≡ true → new ≡ slot_flowed f x → session_of terms w f.next_outgoing_id (slice_set slots h new) ≡ session_after s (event_of s (Flows f))
+  pub link_flowed : (f : Flowing) (h : ℕ) (x new : Slot LiveLink) → f.handle ≡ Some h → f.next_outgoing_id < 2 ^ 32 → x ≡ get_or slots h x → h < length slots → is_live x ≡ true →
+      new ≡ slot_flowed f x → session_of terms w f.next_outgoing_id (slice_set slots h new) ≡ session_after s (event_of s (Flows f))
   link_flowed f h x new named l at within live is =
       ap (λ (y : Slot LiveLink). session_of terms w f.next_outgoing_id (slice_set slots h y)) is ∙ by_slot x at live
       ∙ ap (λ (y : Slot LiveLink). session_after s (flow_event h f y)) (sym (slot_is h x at within)) ∙ ap (λ (o : Option ℕ). session_after s (named_event s f o)) (sym named)
@@ -113,15 +123,19 @@ module _ (terms : SessionTerms) (w n : ℕ) (slots : List (Slot LiveLink)) (s : 
       by_slot Free at live = absurd (grind (arith, live))
       by_slot (Live l0) at live = by_test (is_beyond l0.link.delivery_count l0.link.credit f.delivery_count)
         where
-          by_test : (b : Bool) → session_of terms w f.next_outgoing_id (slice_set slots h (if b then Waits else Live (live_after l0 (FlowStated f.delivery_count)))) ≡ session_after s (if b then event.LinkFlowEnded h f.next_outgoing_id else event.LinkFlowCame h f.next_outgoing_id f.delivery_count)
+          by_test : (b : Bool) → session_of terms w f.next_outgoing_id (slice_set slots h (if b then Waits else Live (live_after l0 (FlowStated f.delivery_count)))) ≡ session_after s
+              (if b then event.LinkFlowEnded h f.next_outgoing_id else event.LinkFlowCame h f.next_outgoing_id f.delivery_count)
           by_test true =
-              after_is (event.LinkFlowEnded h f.next_outgoing_id) w f.next_outgoing_id (slice_set slots h Waits) (unmoved w) (stays f.next_outgoing_id l) (leaves_at (handles terms) slots h (Live l0) (there slots h (Live l0) at within) reached.reached)
+              after_is (event.LinkFlowEnded h f.next_outgoing_id) w f.next_outgoing_id (slice_set slots h Waits) (unmoved w) (stays f.next_outgoing_id l)
+              (leaves_at (handles terms) slots h (Live l0) (there slots h (Live l0) at within) reached.reached)
           by_test false =
-              after_is (event.LinkFlowCame h f.next_outgoing_id f.delivery_count) w f.next_outgoing_id (slice_set slots h (Live (live_after l0 (FlowStated f.delivery_count)))) (unmoved w) (stays f.next_outgoing_id l) (goes_on_at (handles terms) slots h (FlowStated f.delivery_count) (Live l0) (there slots h (Live l0) at within) reached.reached)
+              after_is (event.LinkFlowCame h f.next_outgoing_id f.delivery_count) w f.next_outgoing_id (slice_set slots h (Live (live_after l0 (FlowStated f.delivery_count)))) (unmoved w)
+              (stays f.next_outgoing_id l) (goes_on_at (handles terms) slots h (FlowStated f.delivery_count) (Live l0) (there slots h (Live l0) at within) reached.reached)
       by_slot Waits at live = absurd (grind (arith, live))
 
   -- what a take leaves
-  pub taken : {A : Type 0} (h : ℕ) (x new : Slot LiveLink) (t : Taken A) → n < 2 ^ 32 → x ≡ get_or slots h x → h < length slots → IsTaken x new t → session_of terms w n (slice_set slots h new) ≡ session_after s (call_event s (Take h))
+  pub taken : {A : Type 0} (h : ℕ) (x new : Slot LiveLink) (t : Taken A) → n < 2 ^ 32 → x ≡ get_or slots h x → h < length slots → IsTaken x new t →
+      session_of terms w n (slice_set slots h new) ≡ session_after s (call_event s (Take h))
   taken {A} h x new t l at within is =
       by_slot x at is ∙ ap (λ (y : Slot LiveLink). session_after s (take_event h y)) (sym (slot_is h x at within))
     where
@@ -129,7 +143,8 @@ module _ (terms : SessionTerms) (w n : ℕ) (slots : List (Slot LiveLink)) (s : 
       by_slot Free at is = absurd is
       by_slot (Live l0) at is = by_first (first_ready l0.link) is
         where
-          by_first : (o : Option Delivery) → IsSomeAnd o (λ d. IsHandedUp t d × (new ≡ Live (live_after l0 (HandedUp d)))) → session_of terms w n (slice_set slots h new) ≡ session_after s (Rattle.amqp_session.specs.Calls.first_taken h o)
+          by_first : (o : Option Delivery) → IsSomeAnd o (λ d. IsHandedUp t d × (new ≡ Live (live_after l0 (HandedUp d)))) → session_of terms w n (slice_set slots h new) ≡ session_after s
+              (Rattle.amqp_session.specs.Calls.first_taken h o)
           by_first None is = absurd is
           by_first (Some d) is = called h (HandedUp d) (Live l0) new l at within is.1
       by_slot Waits at is = absurd is
@@ -139,38 +154,50 @@ module _ (terms : SessionTerms) (w n : ℕ) (slots : List (Slot LiveLink)) (s : 
   fault_is l t = by_id t.delivery_id refl
     where
       by_id : (id : Option ℕ) → t.delivery_id ≡ id → transfer_fault s l.link t ≡ came_fault (slot_reused slots t.delivery_id (Live l)) l.link t
-      by_id None e = ap (λ (o : Option ℕ). came_fault (is_none l.link.unfinished && option_map_or (is_open_id s) o false) l.link t) e ∙ ap (λ (o : Option ℕ). came_fault (slot_reused slots o (Live l)) l.link t) (sym e)
+      by_id None e = ap (λ (o : Option ℕ). came_fault (is_none l.link.unfinished && option_map_or (is_open_id s) o false) l.link t) e
+          ∙ ap (λ (o : Option ℕ). came_fault (slot_reused slots o (Live l)) l.link t) (sym e)
       by_id (Some id) e =
           ap (λ (o : Option ℕ). came_fault (is_none l.link.unfinished && option_map_or (is_open_id s) o false) l.link t) e
-          ∙ ap (λ (b : Bool). came_fault (is_none l.link.unfinished && b) l.link t) (ap (λ (u : SessionState). list_any (slot_has id) u.links) (sym view) ∙ padded_any (slot_has id) (handles terms) slots refl reached.reached)
+          ∙ ap (λ (b : Bool). came_fault (is_none l.link.unfinished && b) l.link t) (ap (λ (u : SessionState). list_any (slot_has id) u.links) (sym view)
+          ∙ padded_any (slot_has id) (handles terms) slots refl reached.reached)
           ∙ ap (λ (o : Option ℕ). came_fault (slot_reused slots o (Live l)) l.link t) (sym e)
 
   -- a transfer
-  pub came : (t : Sent) (h : ℕ) (x new : Slot LiveLink) (reused : Bool) → n < 2 ^ 32 → 1 ≤ w → x ≡ get_or slots h x → h < length slots → is_free x ≡ false → reused ≡ slot_reused slots t.delivery_id (at_place slots h) → new ≡ slot_came reused t x → session_of terms (w - 1) ((n + 1) % 2 ^ 32) (slice_set slots h new) ≡ session_after s (event_of s (Transfers h t))
+  pub came : (t : Sent) (h : ℕ) (x new : Slot LiveLink) (reused : Bool) → n < 2 ^ 32 → 1 ≤ w → x ≡ get_or slots h x → h < length slots → is_free x ≡ false →
+      reused ≡ slot_reused slots t.delivery_id (at_place slots h) → new ≡ slot_came reused t x → session_of terms (w - 1) ((n + 1) % 2 ^ 32) (slice_set slots h new) ≡ session_after s
+      (event_of s (Transfers h t))
   came t h x new reused l some at within used re is =
-      ap (λ (y : Slot LiveLink). session_of terms (w - 1) ((n + 1) % 2 ^ 32) (slice_set slots h y)) (is ∙ ap (λ (b : Bool). slot_came b t x) (re ∙ ap (λ (y : Slot LiveLink). slot_reused slots t.delivery_id y) placed))
+      ap (λ (y : Slot LiveLink). session_of terms (w - 1) ((n + 1) % 2 ^ 32) (slice_set slots h y)) (is ∙ ap (λ (b : Bool). slot_came b t x)
+      (re ∙ ap (λ (y : Slot LiveLink). slot_reused slots t.delivery_id y) placed))
       ∙ by_slot x at used ∙ ap (λ (y : Slot LiveLink). session_after s (transfer_event s h t y)) (sym (slot_is h x at within))
     where
       placed : at_place slots h ≡ x
       placed = ap (λ (o : Option (Slot LiveLink)). unwrap_or o Free) (there slots h x at within)
 
-      by_slot : (x : Slot LiveLink) → x ≡ get_or slots h x → is_free x ≡ false → session_of terms (w - 1) ((n + 1) % 2 ^ 32) (slice_set slots h (slot_came (slot_reused slots t.delivery_id x) t x)) ≡ session_after s (transfer_event s h t x)
+      by_slot : (x : Slot LiveLink) → x ≡ get_or slots h x → is_free x ≡ false → session_of terms (w - 1) ((n + 1) % 2 ^ 32) (slice_set slots h (slot_came (slot_reused slots t.delivery_id x) t x)) ≡
+          session_after s (transfer_event s h t x)
       by_slot Free at used = absurd (grind (arith, used))
       by_slot (Live l0) at used =
           by_test (is_none (came_fault (slot_reused slots t.delivery_id (Live l0)) l0.link t))
           ∙ ap (λ (o : Option LinkFault). session_after s (if is_none o then event.TransferCame h t else event.TransferEnded h)) (sym (fault_is l0 t))
         where
-          by_test : (b : Bool) → session_of terms (w - 1) ((n + 1) % 2 ^ 32) (slice_set slots h (if b then Live (live_after l0 (Transferred t)) else Waits)) ≡ session_after s (if b then event.TransferCame h t else event.TransferEnded h)
+          by_test : (b : Bool) → session_of terms (w - 1) ((n + 1) % 2 ^ 32) (slice_set slots h (if b then Live (live_after l0 (Transferred t)) else Waits)) ≡ session_after s
+              (if b then event.TransferCame h t else event.TransferEnded h)
           by_test true =
-              after_is (event.TransferCame h t) (w - 1) ((n + 1) % 2 ^ 32) (slice_set slots h (Live (live_after l0 (Transferred t)))) (omega arith) refl (goes_on_at (handles terms) slots h (Transferred t) (Live l0) (there slots h (Live l0) at within) reached.reached)
+              after_is (event.TransferCame h t) (w - 1) ((n + 1) % 2 ^ 32) (slice_set slots h (Live (live_after l0 (Transferred t)))) (omega arith) refl
+              (goes_on_at (handles terms) slots h (Transferred t) (Live l0) (there slots h (Live l0) at within) reached.reached)
           by_test false =
-              after_is (event.TransferEnded h) (w - 1) ((n + 1) % 2 ^ 32) (slice_set slots h Waits) (omega arith) refl (leaves_at (handles terms) slots h (Live l0) (there slots h (Live l0) at within) reached.reached)
+              after_is (event.TransferEnded h) (w - 1) ((n + 1) % 2 ^ 32) (slice_set slots h Waits) (omega arith) refl (leaves_at (handles terms) slots h (Live l0)
+              (there slots h (Live l0) at within) reached.reached)
       by_slot Waits at used =
-          after_is (event.TransferDropped h) (w - 1) ((n + 1) % 2 ^ 32) (slice_set slots h Waits) (omega arith) refl (none_after (padded (handles terms) slots) ∙ ap (padded (handles terms)) (sym (put_again slots h Waits (there slots h Waits at within))))
+          after_is (event.TransferDropped h) (w - 1) ((n + 1) % 2 ^ 32) (slice_set slots h Waits) (omega arith) refl (none_after (padded (handles terms) slots)
+          ∙ ap (padded (handles terms)) (sym (put_again slots h Waits (there slots h Waits at within))))
 
-  pub came_told : (t : Sent) (h : ℕ) (x : Slot LiveLink) (reused : Bool) (news : News) → x ≡ get_or slots h x → h < length slots → reused ≡ slot_reused slots t.delivery_id (at_place slots h) → news ≡ slot_came_news reused h t x → news ≡ news_of s (Transfers h t)
+  pub came_told : (t : Sent) (h : ℕ) (x : Slot LiveLink) (reused : Bool) (news : News) → x ≡ get_or slots h x → h < length slots → reused ≡ slot_reused slots t.delivery_id (at_place slots h) →
+      news ≡ slot_came_news reused h t x → news ≡ news_of s (Transfers h t)
   came_told t h x reused news at within re is =
-      is ∙ ap (λ (b : Bool). slot_came_news b h t x) (re ∙ ap (λ (y : Slot LiveLink). slot_reused slots t.delivery_id y) placed) ∙ by_slot x ∙ ap (λ (y : Slot LiveLink). transfer_news s h t y) (sym (slot_is h x at within))
+      is ∙ ap (λ (b : Bool). slot_came_news b h t x) (re ∙ ap (λ (y : Slot LiveLink). slot_reused slots t.delivery_id y) placed) ∙ by_slot x
+      ∙ ap (λ (y : Slot LiveLink). transfer_news s h t y) (sym (slot_is h x at within))
     where
       placed : at_place slots h ≡ x
       placed = ap (λ (o : Option (Slot LiveLink)). unwrap_or o Free) (there slots h x at within)
@@ -196,7 +223,8 @@ module _ (terms : SessionTerms) (w n : ℕ) (slots : List (Slot LiveLink)) (s : 
       ∙ ap (λ (b : Bool). or_else (where_so b fault.WindowViolation) (handle_fault s h)) (ne_eqb w 0 (λ e. absurd (omega (arith, e, some))))
 
   -- why a transfer is refused, and why not
-  pub came_refused : (t : Sent) (h : ℕ) (x : Slot LiveLink) (reused : Bool) (e : SessionFault) → 1 ≤ w → x ≡ get_or slots h x → h < length slots → reused ≡ slot_reused slots t.delivery_id (at_place slots h) → IsSlotRefusal reused t x e → IsRefusal s (Transfers h t) e
+  pub came_refused : (t : Sent) (h : ℕ) (x : Slot LiveLink) (reused : Bool) (e : SessionFault) → 1 ≤ w → x ≡ get_or slots h x → h < length slots →
+      reused ≡ slot_reused slots t.delivery_id (at_place slots h) → IsSlotRefusal reused t x e → IsRefusal s (Transfers h t) e
   came_refused t h x reused fault.UnattachedHandle some at within re is = by_handle t h some ∙ handle_free h x (slot_is h x at within) is
   came_refused t h x reused fault.NoMemory some at within re is = (by_handle t h some ∙ handle_used h x (slot_is h x at within) (lives x is), grows)
     where
@@ -214,7 +242,8 @@ module _ (terms : SessionTerms) (w n : ℕ) (slots : List (Slot LiveLink)) (s : 
       same Waits = refl
 
       grows : slot_may_grow s t (slot_at s h) ≡ true
-      grows = ap (λ (y : Slot LiveLink). slot_may_grow s t y) (slot_is h x at within) ∙ same x ∙ ap (λ (b : Bool). slot_grows b t x) (sym (re ∙ ap (λ (y : Slot LiveLink). slot_reused slots t.delivery_id y) placed)) ∙ is
+      grows = ap (λ (y : Slot LiveLink). slot_may_grow s t y) (slot_is h x at within) ∙ same x ∙ ap (λ (b : Bool). slot_grows b t x)
+          (sym (re ∙ ap (λ (y : Slot LiveLink). slot_reused slots t.delivery_id y) placed)) ∙ is
   came_refused t h x reused fault.WindowViolation some at within re is = absurd is
   came_refused t h x reused fault.HandleInUse some at within re is = absurd is
   came_refused t h x reused fault.ResourceLimit some at within re is = absurd is
@@ -224,14 +253,16 @@ module _ (terms : SessionTerms) (w n : ℕ) (slots : List (Slot LiveLink)) (s : 
   came_accepted t h x some at within used = by_handle t h some ∙ handle_used h x (slot_is h x at within) used
 
 -- what stands at a handle where something was put
-pub slot_put : (terms : SessionTerms) (w n : ℕ) (slots : List (Slot LiveLink)) (h : ℕ) (new : Slot LiveLink) → IsReached terms slots → h < length slots → slot_at (session_of terms w n (slice_set slots h new)) h ≡ new
+pub slot_put : (terms : SessionTerms) (w n : ℕ) (slots : List (Slot LiveLink)) (h : ℕ) (new : Slot LiveLink) → IsReached terms slots → h < length slots →
+    slot_at (session_of terms w n (slice_set slots h new)) h ≡ new
 slot_put terms w n slots h new reached within =
     let long : length (slice_set slots h new) ≡ length slots = length-set slots h new in
     let fits : IsReached terms (slice_set slots h new) = record { reached = omega (arith, long, reached.reached); handles = reached.handles } in
     slot_is terms w n (slice_set slots h new) (session_of terms w n (slice_set slots h new)) refl fits h new (sym (get_or-set_same slots h new new within)) (omega (arith, long, within))
 
 -- the flow that states what a link is
-pub flow_is : (s : SessionState) (h : ℕ) (x : Slot LiveLink) (stated : LinkStated) (said : Said) → slot_at s h ≡ x → IsStated x stated → said ≡ link_flow_said s.next_incoming_id s.window h stated.delivery_count stated.link_credit stated.drain → link_flow s h ≡ said ∷ []
+pub flow_is : (s : SessionState) (h : ℕ) (x : Slot LiveLink) (stated : LinkStated) (said : Said) → slot_at s h ≡ x → IsStated x stated →
+    said ≡ link_flow_said s.next_incoming_id s.window h stated.delivery_count stated.link_credit stated.drain → link_flow s h ≡ said ∷ []
 flow_is s h x stated said at is same = ap (λ (y : Slot LiveLink). slot_flow s h y) at ∙ by_slot x is
   where
     by_slot : (x : Slot LiveLink) → IsStated x stated → slot_flow s h x ≡ said ∷ []
@@ -283,7 +314,8 @@ module _ (terms : SessionTerms) (w n : ℕ) (slots : List (Slot LiveLink)) (s : 
           let most = apart m in omega (arith, most, room, counts_are m)
 
   -- every live link can settle the id
-  pub may_settle : (id : ℕ) (x : Standing) → IsApart s → id < 2 ^ 32 → x ≡ standing_in id slots → standing_fault x ≡ None → (place : ℕ) (l : LiveLink) → slice_get slots place ≡ Some (Live l) → LinkMay l.link (ReceiverSettled id id)
+  pub may_settle : (id : ℕ) (x : Standing) → IsApart s → id < 2 ^ 32 → x ≡ standing_in id slots → standing_fault x ≡ None → (place : ℕ) (l : LiveLink) → slice_get slots place ≡ Some (Live l) →
+      LinkMay l.link (ReceiverSettled id id)
   may_settle id x apart short is none place l here =
       let mode = awaits x none in
       settles_everywhere s id mode.0 apart short (standing_is id x is ∙ mode.1) place l
@@ -306,12 +338,14 @@ module _ (terms : SessionTerms) (w n : ℕ) (slots : List (Slot LiveLink)) (s : 
   place_is h = subst (λ (t : SessionState). slot_at t h ≡ at_place slots h) view (padded_get (handles terms) slots h reached.reached)
 
   -- a flow that is dropped
-  pub flow_dropped : (f : Flowing) (h : ℕ) (x new : Slot LiveLink) → f.handle ≡ Some h → n < 2 ^ 32 → x ≡ get_or slots h x → h < length slots → x ≡ Waits → new ≡ slot_flowed f x → session_of terms w n (slice_set slots h new) ≡ session_after s (event_of s (Flows f))
+  pub flow_dropped : (f : Flowing) (h : ℕ) (x new : Slot LiveLink) → f.handle ≡ Some h → n < 2 ^ 32 → x ≡ get_or slots h x → h < length slots → x ≡ Waits → new ≡ slot_flowed f x →
+      session_of terms w n (slice_set slots h new) ≡ session_after s (event_of s (Flows f))
   flow_dropped f h x new named l at within waits is =
       let same : new ≡ x = is ∙ ap (slot_flowed f) waits ∙ sym waits in
       ap (λ (y : Slot LiveLink). session_of terms w n (slice_set slots h y)) same
       ∙ ap (session_of terms w n) (put_again slots h x (there slots h x at within)) ∙ view ∙ ignored terms w n slots s view reached l
-      ∙ ap (λ (y : Slot LiveLink). session_after s (flow_event h f y)) (sym (slot_is terms w n slots s view reached h x at within ∙ waits)) ∙ ap (λ (o : Option ℕ). session_after s (named_event s f o)) (sym named)
+      ∙ ap (λ (y : Slot LiveLink). session_after s (flow_event h f y)) (sym (slot_is terms w n slots s view reached h x at within ∙ waits))
+      ∙ ap (λ (o : Option ℕ). session_after s (named_event s f o)) (sym named)
 
   pub flow_kept : (h : ℕ) (x new : Slot LiveLink) → x ≡ get_or slots h x → h < length slots → new ≡ x → session_of terms w n (slice_set slots h new) ≡ s
   flow_kept h x new at within same =
@@ -364,15 +398,18 @@ no_flow s h x at none = ap (λ (y : Slot LiveLink). slot_flow s h y) at ∙ by_s
     by_slot Waits none = refl
 
 -- the fault of an attach, by its three tests
-pub attach_tested : (s : SessionState) (a : Attaching) (x : Slot LiveLink) (c d : Bool) → length a.name ≤ 255 → slot_at s a.handle ≡ x → is_free x ≡ c → (not (is_receiver a.role) && is_none a.initial_delivery_count) ≡ d → attach_fault s a ≡ or_else (where_so (not c) fault.HandleInUse) (where_so d fault.InvalidField)
+pub attach_tested : (s : SessionState) (a : Attaching) (x : Slot LiveLink) (c d : Bool) → length a.name ≤ 255 → slot_at s a.handle ≡ x → is_free x ≡ c →
+    (not (is_receiver a.role) && is_none a.initial_delivery_count) ≡ d → attach_fault s a ≡ or_else (where_so (not c) fault.HandleInUse) (where_so d fault.InvalidField)
 attach_tested s a x c d short at free lacks =
-    ap (λ (b : Bool). or_else (where_so b fault.ResourceLimit) (or_else (where_so (not (is_free (slot_at s a.handle))) fault.HandleInUse) (where_so (not (is_receiver a.role) && is_none a.initial_delivery_count) fault.InvalidField))) (le-ltb 255 (length a.name) short)
+    ap (λ (b : Bool). or_else (where_so b fault.ResourceLimit) (or_else (where_so (not (is_free (slot_at s a.handle))) fault.HandleInUse)
+    (where_so (not (is_receiver a.role) && is_none a.initial_delivery_count) fault.InvalidField))) (le-ltb 255 (length a.name) short)
     ∙ ap (λ (b : Bool). or_else (where_so (not b) fault.HandleInUse) (where_so (not (is_receiver a.role) && is_none a.initial_delivery_count) fault.InvalidField)) (ap is_free at ∙ free)
     ∙ ap (λ (b : Bool). or_else (where_so (not c) fault.HandleInUse) (where_so b fault.InvalidField)) lacks
 
 -- An attach, where the table was grown to its handle. -------------------------------------------------------------------------
 
-module _ (terms : SessionTerms) (w n : ℕ) (slots : List (Slot LiveLink)) (s : SessionState) (view : session_of terms w n slots ≡ s) (reached : IsReached terms slots) (slots1 : List (Slot LiveLink)) (same : (m : ℕ) → padded m slots1 ≡ padded m slots) where
+module _ (terms : SessionTerms) (w n : ℕ) (slots : List (Slot LiveLink)) (s : SessionState) (view : session_of terms w n slots ≡ s) (reached : IsReached terms slots) (slots1 : List (Slot LiveLink))
+    (same : (m : ℕ) → padded m slots1 ≡ padded m slots) where
   terms_are : terms ≡ s.terms
   terms_are = ap (λ (t : SessionState). t.terms) view
 
@@ -380,16 +417,20 @@ module _ (terms : SessionTerms) (w n : ℕ) (slots : List (Slot LiveLink)) (s : 
   pub grown : session_of terms w n slots1 ≡ s
   grown = ap (λ (ls : List (Slot LiveLink)). record { terms = terms; window = w; next_incoming_id = n; links = ls }) (same (handles terms)) ∙ view
 
-  pub attached_there : (a : Attaching) (x new : Slot LiveLink) → n < 2 ^ 32 → x ≡ get_or slots1 a.handle x → a.handle < length slots1 → length slots1 ≤ handles terms → refusal terms a ≡ None → new ≡ Live (live_begins (attached terms a)) → session_of terms w n (slice_set slots1 a.handle new) ≡ session_after s (event_of s (Attaches a))
+  pub attached_there : (a : Attaching) (x new : Slot LiveLink) → n < 2 ^ 32 → x ≡ get_or slots1 a.handle x → a.handle < length slots1 → length slots1 ≤ handles terms → refusal terms a ≡ None →
+      new ≡ Live (live_begins (attached terms a)) → session_of terms w n (slice_set slots1 a.handle new) ≡ session_after s (event_of s (Attaches a))
   attached_there a x new l at within most none is =
       ap (λ (y : Slot LiveLink). session_of terms w n (slice_set slots1 a.handle y)) is
-      ∙ after_is terms w n slots s view reached (event.LinkAttached a.handle (attached terms a)) w n (slice_set slots1 a.handle (Live (live_begins (attached terms a)))) (unmoved w) (stays n l) (ap (From 0 (Begins a.handle (attached terms a))) (sym (same (handles terms))) ∙ begins_at (handles terms) slots1 a.handle (attached terms a) x (there slots1 a.handle x at within) most)
+      ∙ after_is terms w n slots s view reached (event.LinkAttached a.handle (attached terms a)) w n (slice_set slots1 a.handle (Live (live_begins (attached terms a)))) (unmoved w) (stays n l)
+      (ap (From 0 (Begins a.handle (attached terms a))) (sym (same (handles terms))) ∙ begins_at (handles terms) slots1 a.handle (attached terms a) x (there slots1 a.handle x at within) most)
       ∙ ap (λ (o : Option Condition). session_after s (if is_none o then event.LinkAttached a.handle (attached terms a) else event.LinkRefused a.handle)) (sym none)
       ∙ ap (λ (t : SessionTerms). session_after s (attach_event t a)) terms_are
 
-  pub refused_there : (a : Attaching) (x : Slot LiveLink) (condition : Condition) → n < 2 ^ 32 → x ≡ get_or slots1 a.handle x → a.handle < length slots1 → length slots1 ≤ handles terms → refusal terms a ≡ Some condition → session_of terms w n (slice_set slots1 a.handle Waits) ≡ session_after s (event_of s (Attaches a))
+  pub refused_there : (a : Attaching) (x : Slot LiveLink) (condition : Condition) → n < 2 ^ 32 → x ≡ get_or slots1 a.handle x → a.handle < length slots1 → length slots1 ≤ handles terms →
+      refusal terms a ≡ Some condition → session_of terms w n (slice_set slots1 a.handle Waits) ≡ session_after s (event_of s (Attaches a))
   refused_there a x condition l at within most some =
-      after_is terms w n slots s view reached (event.LinkRefused a.handle) w n (slice_set slots1 a.handle Waits) (unmoved w) (stays n l) (ap (From 0 (Leaves a.handle)) (sym (same (handles terms))) ∙ leaves_at (handles terms) slots1 a.handle x (there slots1 a.handle x at within) most)
+      after_is terms w n slots s view reached (event.LinkRefused a.handle) w n (slice_set slots1 a.handle Waits) (unmoved w) (stays n l)
+      (ap (From 0 (Leaves a.handle)) (sym (same (handles terms))) ∙ leaves_at (handles terms) slots1 a.handle x (there slots1 a.handle x at within) most)
       ∙ ap (λ (o : Option Condition). session_after s (if is_none o then event.LinkAttached a.handle (attached terms a) else event.LinkRefused a.handle)) (sym some)
       ∙ ap (λ (t : SessionTerms). session_after s (attach_event t a)) terms_are
 

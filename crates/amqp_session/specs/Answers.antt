@@ -29,6 +29,23 @@ answer_said terms (Attaches a) answer.Attach = attach_said terms.bounds.max_mess
 answer_said terms (Attaches a) (answer.Refusal p) = refusal_said a ∷ said (performative.Detach p) ∷ []
 answer_said terms f x = said_by x
 
+-- it answers an attach
+abbrev pub IsOfAttach : Answer → Type 0
+IsOfAttach answer.Attach = Unit {0}
+IsOfAttach (answer.Refusal p) = Unit {0}
+IsOfAttach _ = ⊥
+
+-- it answers another frame
+abbrev pub IsPlain : Answer → Type 0
+IsPlain answer.Attach = ⊥
+IsPlain (answer.Refusal p) = ⊥
+IsPlain _ = Unit {0}
+
+-- an attach is answered by what answers attaches, and no other frame is
+abbrev pub IsAnswerTo : Frame → Answer → Type 0
+IsAnswerTo (Attaches a) x = IsOfAttach x
+IsAnswerTo f x = IsPlain x
+
 -- an attach is answered, or its link refused
 abbrev pub IsAttachAnswer : News → Answer → Type 0
 IsAttachAnswer (news.Failed handle condition dropped) x = (p : Detach) × (x ≡ answer.Refusal p) × (said (performative.Detach p) ≡ failure_said handle condition)
@@ -46,6 +63,7 @@ pub record IsDone (old new : SessionState) (f : Frame) (done : Done) : Type 0 wh
   pub after : new ≡ session_after old (event_of old f)
   pub news : done.news ≡ news_of old f
   pub answer : answer_of old f ≡ answer_said old.terms f done.answer
+  pub kind : IsAnswerTo f done.answer
 
 -- and one that is not for it, which does nothing
 pub record IsPassed (old new : SessionState) (done : Done) : Type 0 where

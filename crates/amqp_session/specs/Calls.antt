@@ -25,7 +25,7 @@ pub data Call : Type 0 where
 
 -- Settling. -----------------------------------------------------------------------------------------------------------
 
--- what an open delivery of the session with this id is to its receiver: the standing on the first link that has one
+-- what an open delivery of the link there with this id is to its receiver
 abbrev pub slot_standing : ℕ → Slot LiveLink → Standing
 slot_standing id Free = Absent
 slot_standing id (Live l) = standing_of id (open_set l.link)
@@ -35,6 +35,7 @@ abbrev pub or_later : Standing → Standing → Standing
 or_later Absent later = later
 or_later standing later = standing
 
+-- and one of the session: on the first link that has one, and no two have
 abbrev pub standing_in : ℕ → List (Slot LiveLink) → Standing
 standing_in id [] = Absent
 standing_in id (s ∷ slots) = or_later (slot_standing id s) (standing_in id slots)

@@ -16,7 +16,8 @@ use Rattle.amqp_session.specs.declared.slot.Slot.{Slot}
 use Rattle.amqp_session.specs.declared.slot.Slot.TheVariants.{Free, Live, Waits}
 use Rattle.amqp_session.specs.declared.terms.SessionTerms.{SessionTerms}
 use Rattle.amqp_perform.specs.Said.{Said, said_frame}
-use Rattle.amqp_session.specs.Frames.{Attaching, Flowing, Disposing, Frame, Attaches, Flows, Transfers, Disposes, Detaches, is_coordinator, attach_said, refusal_said, detach_said, failure_said, flow_said, link_flow_said}
+use Rattle.amqp_session.specs.Frames.{Attaching, Flowing, Disposing, Frame, Attaches, Flows, Transfers, Disposes, Detaches, is_coordinator, attach_said, refusal_said, detach_said, failure_said}
+use Rattle.amqp_session.specs.Frames.{flow_said, link_flow_said}
 use Rattle.amqp_session.specs.Sessions.{Attached, LiveLink, SessionState, slot_at, is_reused, slot_ready, SessionEvent, session_after}
 use Rattle.amqp_session.specs.Sessions as event
 
@@ -108,7 +109,8 @@ transfer_event s handle t Waits = event.TransferDropped handle
 
 abbrev pub flow_event : ℕ → Flowing → Slot LiveLink → SessionEvent
 flow_event handle f Free = event.Ignored  -- a session fault
-flow_event handle f (Live l) = if is_beyond l.link.delivery_count l.link.credit f.delivery_count then event.LinkFlowEnded handle f.next_outgoing_id else event.LinkFlowCame handle f.next_outgoing_id f.delivery_count
+flow_event handle f (Live l) = if is_beyond l.link.delivery_count l.link.credit f.delivery_count then event.LinkFlowEnded handle f.next_outgoing_id else event.LinkFlowCame handle f.next_outgoing_id
+    f.delivery_count
 flow_event handle f Waits = event.Ignored
 
 -- The fields of a link say nothing without a handle. [2.7.4]
@@ -227,7 +229,7 @@ answer_of s (Transfers handle t) = failure_answer (news_of s (Transfers handle t
 answer_of s (Disposes d) = []
 answer_of s (Detaches handle closed) = detach_answer handle closed (slot_at s handle)
 
--- A frame may want memory where it attaches a link, or where a transfer's link may, and it has no fault that ends session or link.
+-- A frame may want memory where it attaches a link, or where a transfer has no fault that ends its link, and its link may. A fault that ends the session comes before.
 abbrev pub slot_may_grow : SessionState → Sent → Slot LiveLink → Bool
 slot_may_grow s t Free = false
 slot_may_grow s t (Live l) = is_none (transfer_fault s l.link t) && may_grow l.link t

@@ -102,7 +102,7 @@ abbrev pub is_coordinator : List ℕ → Bool
 is_coordinator [] = false
 is_coordinator (code ∷ rest) = if code == 0 then is_coordinator_in (value_of 31 None rest) else false
 
--- The numbers of a frame have 32 bits, and a link attaches at a handle up to this one.
+-- A delivery-id and an initial-delivery-count have 32 bits, and a link attaches at a handle up to this one.
 abbrev pub IsInRange : ℕ → Frame → Type 0
 IsInRange handle_max (Attaches a) = (a.handle ≤ handle_max) × (unwrap_or a.initial_delivery_count 0 < 2 ^ 32)
 IsInRange handle_max (Flows f) = Unit {0}
@@ -122,7 +122,8 @@ abbrev pub attach_said : ℕ → Attaching → Said
 attach_said longest a = record {
   type = of_type.Attach;
   cells =
-      Bytes a.name ∷ Whole a.handle ∷ role (other_role a.role) ∷ Whole (sender_mode a.snd_settle_mode) ∷ Whole (receiver_mode a.rcv_settle_mode) ∷ span a.source ∷ span a.target ∷ Absent ∷ Absent ∷ Absent
+      Bytes a.name ∷ Whole a.handle ∷ role (other_role a.role) ∷ Whole (sender_mode a.snd_settle_mode) ∷ Whole (receiver_mode a.rcv_settle_mode) ∷ span a.source ∷ span a.target ∷ Absent ∷ Absent ∷
+      Absent
       ∷ Span (canonical (Number kind.Ulong longest)) ∷ Absent ∷ Absent ∷ Absent ∷ [];
 }
 
@@ -136,7 +137,8 @@ abbrev pub refusal_said : Attaching → Said
 refusal_said a = record {
   type = of_type.Attach;
   cells =
-      Bytes a.name ∷ Whole a.handle ∷ role (other_role a.role) ∷ Whole (sender_mode a.snd_settle_mode) ∷ Whole (receiver_mode a.rcv_settle_mode) ∷ Absent ∷ Absent ∷ Absent ∷ Absent ∷ count_stated a.role ∷ Absent
+      Bytes a.name ∷ Whole a.handle ∷ role (other_role a.role) ∷ Whole (sender_mode a.snd_settle_mode) ∷ Whole (receiver_mode a.rcv_settle_mode) ∷ Absent ∷ Absent ∷ Absent ∷ Absent ∷ count_stated
+      a.role ∷ Absent
       ∷ Absent ∷ Absent ∷ Absent ∷ [];
 }
 

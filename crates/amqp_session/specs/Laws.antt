@@ -12,6 +12,7 @@ use Rattle.amqp_session.specs.Sessions.{Attached, LiveLink, SessionState, slot_a
 use Rattle.amqp_session.specs.Histories.{part}
 use Rattle.amqp_session.specs.Faults.{is_free}
 use Rattle.amqp_session.specs.Calls.{Call, Settle}
+use Rattle.amqp_session.specs.Frames.{Frame, Transfers}
 
 -- the delivery-id of a call has 32 bits [2.8.9]
 abbrev pub IsCallInRange : Call → Type 0
@@ -33,6 +34,11 @@ IsElsewhere k (AllGoOn e) = ⊥
 IsElsewhere k (Leaves place) = place ≡ k → ⊥
 IsElsewhere k (Gone place) = place ≡ k → ⊥
 IsElsewhere k AllGone = ⊥
+
+-- the frame is a transfer
+abbrev pub IsOfTransfer : Frame → Type 0
+IsOfTransfer (Transfers handle t) = Unit {0}
+IsOfTransfer f = ⊥
 
 -- the credit of the link at a handle; none where no link is live there
 abbrev pub credit_in : Slot LiveLink → ℕ

@@ -1,4 +1,5 @@
--- A table of places at which lives follow one another: the links of a session by handle, the sessions of a connection by channel (AMQP 1.0, part 2, sections 2.5.1, 2.5.3, 2.6.2, 2.6.4). Each event changes what stands at one place, or goes on at all that live, and the same events give the history of each place.
+-- A table of places at which lives follow one another: the links of a session by handle, the sessions of a connection by channel (AMQP 1.0, part 2, sections
+-- 2.5.1, 2.5.3, 2.6.2, 2.6.4). Each event changes what stands at one place, or goes on at all that live, and the same events give the history of each place.
 use Rattle.std.specs.Prelude.{◌≡◌, ℕ, zero, suc, ◌<◌, nat_eq, if◌then◌else◌, List, [], ◌∷◌, slice_get, Option, Some, None}
 use Rattle.amqp_session.specs.declared.slot.Slot.{Slot}
 use Rattle.amqp_session.specs.declared.slot.Slot.TheVariants.{Free, Live, Waits}

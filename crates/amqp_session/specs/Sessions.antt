@@ -3,7 +3,8 @@ use Rattle.std.specs.Prelude.{◌≡◌, ℕ, suc, ◌+◌, ◌-◌, ◌%◌, �
 use Rattle.std.specs.List.{list_any}
 use Rattle.std.specs.Option.{option_map_or}
 use Rattle.amqp_link.specs.declared.terms.Terms.{Terms}
-use Rattle.amqp_link.specs.Links.{Sent, LinkState, LinkEvent, Granted, DrainAsked, Transferred, FlowStated, HandedUp, ReceiverSettled, SenderSettled, link_begins, link_after, LinkMay, link_bytes, deliveries, has_id}
+use Rattle.amqp_link.specs.Links.{Sent, LinkState, LinkEvent, Granted, DrainAsked, Transferred, FlowStated, HandedUp, ReceiverSettled, SenderSettled, link_begins, link_after, LinkMay, link_bytes}
+use Rattle.amqp_link.specs.Links.{deliveries, has_id}
 use Rattle.amqp_link.specs.Laws.{id_count}
 use Rattle.amqp_session.specs.declared.slot.Slot.{Slot}
 use Rattle.amqp_session.specs.declared.slot.Slot.TheVariants.{Free, Live, Waits}
@@ -36,7 +37,7 @@ live_may l e = LinkMay l.link e
 -- A live session. Its links stand in the order of their handles, from 0 to handle-max.
 pub record SessionState : Type 0 where
   pub terms : SessionTerms
-  pub window : ℕ  -- places of the incoming window that are left [2.5.6]
+  pub window : ℕ  -- places of the incoming-window that are left [2.5.6]
   pub next_incoming_id : ℕ  -- the next-incoming-id [2.5.6]
   pub links : List (Slot LiveLink)
 
@@ -159,7 +160,8 @@ stated_by (LinkFlowCame handle next_id count) = Some next_id
 stated_by (LinkFlowEnded handle next_id) = Some next_id
 stated_by e = None
 
--- The session after an event. What the peer states of its next-outgoing-id never changes the window. [2.5.6]
+-- The session after an event. A transfer uses a place of the incoming-window and adds 1 to next-incoming-id; a next-outgoing-id that the peer states replaces
+-- next-incoming-id and never changes the window. [2.5.6]
 abbrev pub session_after : SessionState → SessionEvent → SessionState
 session_after s e = record {
   terms = s.terms;

@@ -153,10 +153,7 @@ impl<A: Allocator + Copy> KeptLink<A> {
         requires { settle_fault id id (open_set self.old.link) ≡ None }
         ensures { self.new ≡ live_after self.old (ReceiverSettled id id) }
     {
-        match self.record.link.settle(id, id) {
-            Ok(_) => {}
-            Err(_) => unreachable!(),
-        }
+        self.record.link.settle_faultless(id, id);
     }
 
     /// The bytes that count as kept.

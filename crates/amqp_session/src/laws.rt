@@ -3,16 +3,16 @@ ghost use Rattle.std.specs.Prelude.{◌≡◌, ℕ, ◌+◌, ◌*◌, ◌%◌, �
 ghost use Rattle.amqp_perform.specs.declared.modes.ReceiverSettleMode.{ReceiverSettleMode};
 ghost use Rattle.amqp_perform.specs.declared.modes.ReceiverSettleMode.TheVariants.{First, Second};
 ghost use Rattle.amqp_link.specs.declared.settlement.Standing.TheVariants.{Told, Awaiting};
-ghost use Rattle.amqp_link.specs.Links.{LinkEvent, Granted, open_count};
+ghost use Rattle.amqp_link.specs.Links.{Sent, LinkEvent, Granted, open_count};
 ghost use Rattle.amqp_session.specs.declared.slot.Slot.TheVariants.{Free, Live, Waits};
 ghost use Rattle.amqp_session.specs.declared.terms.SessionTerms.{SessionTerms};
 ghost use Rattle.amqp_session.specs.Calls.{Call, standing_in, call_fault, call_event};
 ghost use Rattle.amqp_session.specs.Faults.{session_fault, event_of, settled_count};
-ghost use Rattle.amqp_session.specs.Frames.{Frame, IsInRange};
-ghost use Rattle.amqp_session.specs.Laws.{IsCallInRange, parts, used_count, part_bytes, part_settled, named_total, part_named, NoneStates, IsStatedBefore, IsElsewhere, credit_at, granted_at};
+ghost use Rattle.amqp_session.specs.Frames.{Flowing, Frame, Flows, Transfers, IsInRange};
+ghost use Rattle.amqp_session.specs.Laws.{IsCallInRange, IsOfTransfer, parts, used_count, part_bytes, part_settled, named_total, part_named, NoneStates, IsStatedBefore, IsElsewhere, credit_at, granted_at};
 ghost use Rattle.amqp_session.specs.Places.{GoesOn, AllGoOn, Leaves, Gone};
 ghost use Rattle.amqp_session.specs.Sessions as session;
-ghost use Rattle.amqp_session.specs.Sessions.{Attached, LiveLink, live_begins, SessionState, slot_at, is_open_id, session_bytes, SessionEvent, LinkAttached, Settled, Called, happens, is_transfer, stated_by, session_after, SessionMay, IsApart};
+ghost use Rattle.amqp_session.specs.Sessions.{Attached, LiveLink, live_begins, SessionState, slot_at, is_open_id, session_bytes, SessionEvent, LinkAttached, Settled, Ignored, Called, happens, is_transfer, stated_by, session_after, SessionMay, IsApart};
 ghost use Rattle.amqp_session.specs.Histories.{widenings, transfers, part, state_of, Sound, after_all, Accepted};
 
 use amqp_link::laws as links;
@@ -113,6 +113,21 @@ pub fn places_are_counted()
     ensures history { (terms : SessionTerms) (h : List SessionEvent) → Sound terms h → (state_of terms h).window + transfers h ≡ terms.incoming_window + widenings h }
     ensures transfer { (s : SessionState) (e : SessionEvent) → SessionMay s e → is_transfer e ≡ true → (session_after s e).window + 1 ≡ s.window }
     ensures flow { (s : SessionState) (e : SessionEvent) (next_id : ℕ) → stated_by e ≡ Some next_id → (session_after s e).window ≡ s.window }
+{}
+
+/// A transfer without a fault that ends the session uses a place, whatever comes of it, and no other frame
+/// does [2.5.6].
+pub fn transfers_use_places()
+    ensures transfer { (s : SessionState) (handle : ℕ) (t : Sent) → session_fault s (Transfers handle t) ≡ None → is_transfer (event_of s (Transfers handle t)) ≡ true }
+    ensures alone { (s : SessionState) (f : Frame) → is_transfer (event_of s f) ≡ true → IsOfTransfer f }
+{}
+
+/// A flow states its next-outgoing-id, also one that ends its link; but one for a link that waits for the
+/// peer's detach changes nothing [2.6.5, 2.7.4].
+pub fn flows_state_ids()
+    ensures session { (s : SessionState) (f : Flowing) → f.handle ≡ None → stated_by (event_of s (Flows f)) ≡ Some f.next_outgoing_id }
+    ensures live { (s : SessionState) (f : Flowing) (handle : ℕ) (l : LiveLink) → f.handle ≡ Some handle → slot_at s handle ≡ Live l → stated_by (event_of s (Flows f)) ≡ Some f.next_outgoing_id }
+    ensures waits { (s : SessionState) (f : Flowing) (handle : ℕ) → f.handle ≡ Some handle → slot_at s handle ≡ Waits → event_of s (Flows f) ≡ Ignored }
 {}
 
 /// The next-incoming-id is the next-outgoing-id that the peer stated last, by a flow or else by its begin,

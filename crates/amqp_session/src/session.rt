@@ -11,7 +11,7 @@ ghost use Rattle.amqp_perform.specs.Said.{said, said_frame};
 ghost use Rattle.amqp_session.specs.Frames.{Attaches, Flows, Transfers, Disposes, Detaches, attaching, flowing, disposing, frame_of, attach_said};
 ghost use Rattle.amqp_session.specs.Sessions.{session_begins, session_after, session_bytes, session_ready, slot_at, slot_ready, SessionMay};
 ghost use Rattle.amqp_session.specs.Slots.{HandsUp, IsViewAt};
-ghost use Rattle.amqp_session.specs.Answers.{said_by, answer_said, IsWithin, HasDone, IsFrameRefusal, IsAttachAnswer};
+ghost use Rattle.amqp_session.specs.Answers.{said_by, answer_said, IsOfAttach, IsPlain, IsWithin, HasDone, IsFrameRefusal, IsAttachAnswer};
 
 use crate::done::{Answer, Done};
 use crate::fault::{CallFault, SessionFault};
@@ -124,6 +124,7 @@ impl<A: Allocator + Copy> Session<A> {
         ensures accepted { OnOk result (session_fault self.old (Attaches (attaching attach.now)) ≡ None) }
         ensures news { IfOk result (λ done. done.news ≡ news_of self.old (Attaches (attaching attach.now))) }
         ensures answer { IfOk result (λ done. answer_of self.old (Attaches (attaching attach.now)) ≡ answer_said self.old.terms (Attaches (attaching attach.now)) done.answer) }
+        ensures kind { IfOk result (λ done. IsOfAttach done.answer) }
         ensures refused { IfErr result (λ e. IsRefusal self.old (Attaches (attaching attach.now)) e) }
         ensures err { OnErr result (self.new ≡ self.old) }
     {
@@ -147,6 +148,7 @@ impl<A: Allocator + Copy> Session<A> {
         ensures accepted { OnOk result (session_fault self.old (Flows (flowing flow.now)) ≡ None) }
         ensures news { IfOk result (λ done. done.news ≡ news_of self.old (Flows (flowing flow.now))) }
         ensures answer { IfOk result (λ done. answer_of self.old (Flows (flowing flow.now)) ≡ answer_said self.old.terms (Flows (flowing flow.now)) done.answer) }
+        ensures kind { IfOk result (λ done. IsPlain done.answer) }
         ensures refused { IfErr result (λ e. IsRefusal self.old (Flows (flowing flow.now)) e) }
         ensures err { OnErr result (self.new ≡ self.old) }
     {
@@ -205,6 +207,7 @@ impl<A: Allocator + Copy> Session<A> {
         ensures accepted { OnOk result (session_fault self.old (Detaches detach.now.handle detach.now.closed) ≡ None) }
         ensures news { IfOk result (λ done. done.news ≡ news_of self.old (Detaches detach.now.handle detach.now.closed)) }
         ensures answer { IfOk result (λ done. answer_of self.old (Detaches detach.now.handle detach.now.closed) ≡ answer_said self.old.terms (Detaches detach.now.handle detach.now.closed) done.answer) }
+        ensures kind { IfOk result (λ done. IsPlain done.answer) }
         ensures refused { IfErr result (λ e. IsRefusal self.old (Detaches detach.now.handle detach.now.closed) e) }
         ensures err { OnErr result (self.new ≡ self.old) }
     {
@@ -308,8 +311,8 @@ impl<A: Allocator + Copy> Session<A> {
         Ok(self.state.session_flow())
     }
 
-    /// Grants the link at a handle `n` places of credit, and answers the flow that says so [2.6.7]. Refused, with
-    /// nothing changed: with `NoLink`, or with `TooMuchCredit` where credit and open deliveries would be more
+    /// Grants the link at a handle `n` places of credit, and answers the flow that says so [2.6.7]. The sender is
+    /// then no longer asked to use its credit up, where `n` is 0 too. Refused, with nothing changed: with `NoLink`, or with `TooMuchCredit` where credit and open deliveries would be more
     /// than the link allows.
     pub fn grant(&mut self, handle: u32, n: u32) -> Result<Flow<'static>, CallFault>
         ensures may { OnOk result (SessionMay self.old (call_event self.old (Grant handle n))) }
@@ -374,7 +377,7 @@ impl<A: Allocator + Copy> Session<A> {
         Ok(replies::disposition(id, settled, outcome))
     }
 
-    /// Ends the link at a handle [2.6.6]: answers the detach that says so, and how many ready deliveries are
+    /// Ends the link at a handle [2.6.6]: answers the detach, with closed true, that says so, and how many ready deliveries are
     /// dropped. The handle stays in use until the peer detaches it. Refused, with nothing changed, with `NoLink`.
     pub fn detach(&mut self, handle: u32) -> Result<(Detach<'static>, u32), CallFault>
         ensures may { OnOk result (SessionMay self.old (call_event self.old (DetachCall handle))) }
@@ -394,7 +397,8 @@ impl<A: Allocator + Copy> Session<A> {
 
 /// What answers a flow that was taken.
 fn flow_answer<A: Allocator + Copy>(after: &State<A>, flow: &Flow<'_>, news: News) -> Answer
-    ensures { said_by result ≡ flow_answer after.now (flowing flow.now) news }
+    ensures said { said_by result ≡ flow_answer after.now (flowing flow.now) news }
+    ensures kind { IsPlain result }
 {
     match news {
         News::Failed {
@@ -408,7 +412,8 @@ fn flow_answer<A: Allocator + Copy>(after: &State<A>, flow: &Flow<'_>, news: New
 
 /// What answers the echo of a flow that was taken.
 fn echo<A: Allocator + Copy>(after: &State<A>, flow: &Flow<'_>) -> Answer
-    ensures { said_by result ≡ (if flow.now.echo then echo_answer after.now flow.now.handle else []) }
+    ensures said { said_by result ≡ (if flow.now.echo then echo_answer after.now flow.now.handle else []) }
+    ensures kind { IsPlain result }
 {
     if !flow.echo {
         return Answer::Nothing;
@@ -422,14 +427,14 @@ fn echo<A: Allocator + Copy>(after: &State<A>, flow: &Flow<'_>) -> Answer
     }
 }
 
-/// A delivery-id has 32 bits.
+/// A law: a delivery-id has 32 bits.
 fn is_numbered(transfer: &Transfer<'_>)
     ensures { unwrap_or transfer.now.delivery_id 0 < 2 ^ 32 }
 {
     let _ = transfer.delivery_id.unwrap_or(0);
 }
 
-/// A delivery-count has 32 bits.
+/// A law: a delivery-count has 32 bits.
 fn is_counted(attach: &Attach<'_>)
     ensures { unwrap_or attach.now.initial_delivery_count 0 < 2 ^ 32 }
 {
@@ -440,6 +445,7 @@ fn is_counted(attach: &Attach<'_>)
 fn told(news: News) -> Done
     ensures news { result.news ≡ news }
     ensures answer { said_by result.answer ≡ failure_answer news }
+    ensures kind { IsPlain result.answer }
     ensures nothing { news ≡ News.Nothing → result.answer ≡ Answer.Nothing }
 {
     let answer = match news {
@@ -457,6 +463,7 @@ fn told(news: News) -> Done
 fn attach_done(news: News) -> Done
     ensures news { result.news ≡ news }
     ensures answer { IsAttachAnswer news result.answer }
+    ensures kind { IsOfAttach result.answer }
 {
     let answer = match news {
         News::Failed {

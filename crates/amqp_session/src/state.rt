@@ -66,7 +66,7 @@ impl<A: Allocator + Copy> State<A> {
         }
     }
 
-    /// A place for each handle stands in the view.
+    /// A law: a place for each handle stands in the view.
     pub fn is_long(&self)
         ensures { length self.now.links ≡ handles self.now.terms }
     {

@@ -4,7 +4,7 @@ use amqp_link::LinkBounds;
 /// What the begins of both sides fix for as long as the session lives [2.7.2].
 #[derive(Clone, Copy, Debug)]
 pub struct SessionTerms {
-    /// The places of the incoming window at the begin.
+    /// The places of the incoming window at the begin; the laws speak of less than `2^31`.
     pub incoming_window: u32,
     /// The peer's next-outgoing-id at its begin.
     pub next_outgoing_id: u32,

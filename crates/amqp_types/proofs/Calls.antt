@@ -59,7 +59,8 @@ pub skip_only : (depth : ℕ) (bytes : List ℕ) (r : Result ℕ ReadFault) (t :
 skip_only depth bytes r t text rest within is spelled deep parts =
     answer r within is (ap (λ (b : List ℕ). after (value_of depth None b)) parts ∙ rest_again depth t text rest spelled deep)
   where
-    answer : (r : Result ℕ ReadFault) → IfOk r (λ n. n ≤ length bytes) → Is (λ n. drop n bytes) r (after (value_of depth None bytes)) → after (value_of depth None bytes) ≡ Ok rest → r ≡ Ok (length text)
+    answer : (r : Result ℕ ReadFault) → IfOk r (λ n. n ≤ length bytes) → Is (λ n. drop n bytes) r (after (value_of depth None bytes)) → after (value_of depth None bytes) ≡ Ok rest →
+        r ≡ Ok (length text)
     answer (Ok n) within is read = ap (λ (k : ℕ). Ok k) (front bytes text rest n parts within (ok_rest (drop n bytes) rest (sym is ∙ read))).0
     answer (Err e) within is read = absurd (let h : ◌≡◌ {A = Result (List ℕ) ReadFault} (Err e) (Ok rest) = sym is ∙ read in cc)
 
@@ -89,7 +90,8 @@ pub written_again : (depth nodes : ℕ) (t : Tree) (rest : List ℕ) → IsLawfu
 written_again depth nodes t rest lawful ranged fits deep few =
     decoded_again depth nodes t (canonical t) rest (canonical_spells t lawful ranged fits) lawful deep few
 
-pub decode_found : {V : Type 0} (view : V → Tree) (depth nodes : ℕ) (bytes : List ℕ) (r : Result (V × ℕ) ReadFault) → IsBytes bytes → IfOk r (λ x. x.1 ≤ length bytes) → Gives (λ x. (view x.0, drop x.1 bytes)) r (decoded depth nodes bytes)
+pub decode_found : {V : Type 0} (view : V → Tree) (depth nodes : ℕ) (bytes : List ℕ) (r : Result (V × ℕ) ReadFault) → IsBytes bytes → IfOk r (λ x. x.1 ≤ length bytes) →
+    Gives (λ x. (view x.0, drop x.1 bytes)) r (decoded depth nodes bytes)
     → IfOk r (λ x. Spells (view x.0) (take x.1 bytes) × IsLawful (view x.0) × (depth_of (view x.0) ≤ depth) × (nodes_of (view x.0) ≤ nodes))
 decode_found view depth nodes bytes (Ok x) fits within is =
     let s = decoded_found depth nodes bytes (drop x.1 bytes) (view x.0) fits is in
@@ -97,7 +99,8 @@ decode_found view depth nodes bytes (Ok x) fits within is =
     (subst (λ (b : List ℕ). Spells (view x.0) b) (sym f.1) s.1, s.3, s.4, s.5)
 decode_found view depth nodes bytes (Err e) fits within is = tt
 
-pub decode_only : {V : Type 0} (view : V → Tree) (depth nodes : ℕ) (bytes : List ℕ) (r : Result (V × ℕ) ReadFault) (t : Tree) (text rest : List ℕ) → IfOk r (λ x. x.1 ≤ length bytes) → Gives (λ x. (view x.0, drop x.1 bytes)) r (decoded depth nodes bytes)
+pub decode_only : {V : Type 0} (view : V → Tree) (depth nodes : ℕ) (bytes : List ℕ) (r : Result (V × ℕ) ReadFault) (t : Tree) (text rest : List ℕ) → IfOk r (λ x. x.1 ≤ length bytes) →
+    Gives (λ x. (view x.0, drop x.1 bytes)) r (decoded depth nodes bytes)
     → Spells t text → IsLawful t → depth_of t ≤ depth → nodes_of t ≤ nodes → bytes ≡ text ++ rest → Gives {Y = Tree × ℕ} (λ x. (view x.0, x.1)) r (Ok (t, length text))
 decode_only {V = V} view depth nodes bytes r t text rest within is spelled lawful deep few parts =
     answer r within is (ap (decoded depth nodes) parts ∙ decoded_again depth nodes t text rest spelled lawful deep few)

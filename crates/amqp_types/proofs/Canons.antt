@@ -1,5 +1,6 @@
 -- The canonical spelling spells its value.
-use Rattle.std.proofs.Common.{◌≡◌, ℕ, ◌+◌, ◌-◌, ◌^◌, ◌%◌, ◌<◌, ◌≤◌, ◌==◌, ◌&&◌, ◌||◌, ◌⊎◌, ◌≢◌, Bool, true, false, cond, ltb, leb, List, [], ◌∷◌, ◌++◌, length, Some, None, refl, sym, subst, arith, inl, inr}
+use Rattle.std.proofs.Common.{◌≡◌, ℕ, ◌+◌, ◌-◌, ◌^◌, ◌%◌, ◌<◌, ◌≤◌, ◌==◌, ◌&&◌, ◌||◌, ◌⊎◌, ◌≢◌, Bool, true, false, cond, ltb, leb, List, [], ◌∷◌, ◌++◌, length, Some, None, refl, sym, subst, arith}
+use Rattle.std.proofs.Common.{inl, inr}
 use Rattle.std.proofs.lemmas.Bool.{eqb-true, ltb-true, leb-true, and_parts, lt-ltb, le-ltb}
 use Rattle.std.proofs.lemmas.Bool.Decides.{nat_tests}
 use Rattle.byteorder.specs.Endian.{big_bytes}
@@ -15,8 +16,11 @@ use Rattle.amqp_types.specs.declared.shell.Short.TheVariants as short
 use Rattle.amqp_types.specs.Codes.{find_code, kind_of}
 use Rattle.amqp_types.specs.Kinds.{fixed_width, width}
 use Rattle.amqp_types.specs.Spelling.{sign_extended, size_len, AreOctetsOf, Spells, SpellAll, SpellDescriptors, SpellItems, SpellPairs}
-use Rattle.amqp_types.specs.Trees.{Tree, Number, Octets, ListOf, MapOf, ArrayOf, Described, Trees, none, more, Pairs, no_pair, pair, count_of, pair_count, IsOfKind, AreOfKind, IsLawful, AreLawful, ArePairsLawful}
-use Rattle.amqp_types.specs.Canonical.{full_code, full_data, block, boolean_form, unsigned_form, signed_form, short_form, number_text, shell_of, is_small, narrowest, sized, shortest, all_small, all_data, item_width, content_of, canonicals, canonical_pairs, canonical_heads, parts, canonical, Fits, AllFit, PairsFit, IsOfOctets, IsRanged, AllRanged, PairsRanged}
+use Rattle.amqp_types.specs.Trees.{Tree, Number, Octets, ListOf, MapOf, ArrayOf, Described, Trees, none, more, Pairs, no_pair, pair, count_of, pair_count, IsOfKind, AreOfKind, IsLawful, AreLawful}
+use Rattle.amqp_types.specs.Trees.{ArePairsLawful}
+use Rattle.amqp_types.specs.Canonical.{full_code, full_data, block, boolean_form, unsigned_form, signed_form, short_form, number_text, shell_of, is_small, narrowest, sized, shortest, all_small}
+use Rattle.amqp_types.specs.Canonical.{all_data, item_width, content_of, canonicals, canonical_pairs, canonical_heads, parts, canonical, Fits, AllFit, PairsFit, IsOfOctets, IsRanged, AllRanged}
+use Rattle.amqp_types.specs.Canonical.{PairsRanged}
 
 -- ---- codes
 
@@ -289,7 +293,8 @@ mutual
   written (ListOf ts) l r f =
       let all = all_written ts l r f.1 in
       let small_test = ltb (count_of ts) 256 && ltb (length (canonicals ts)) 255 in
-      let full : (s : SizeWidth) → (s ≡ size.One → (ltb (count_of ts) 256 && ltb (length (canonicals ts)) 255) ≡ true) → Spells (ListOf ts) (full_code s kind.List ∷ block s (count_of ts) (canonicals ts)) =
+      let full : (s : SizeWidth) → (s ≡ size.One → (ltb (count_of ts) 256 && ltb (length (canonicals ts)) 255) ≡ true) → Spells (ListOf ts)
+      (full_code s kind.List ∷ block s (count_of ts) (canonicals ts)) =
       λ s small. list_full s ts (canonicals ts) all (block_holds s (count_of ts) (length (canonicals ts)) small f.0) in
       record {
         spelled = list_shortest ts (canonicals ts) (full (narrowest small_test) (narrow_small small_test));
@@ -298,7 +303,8 @@ mutual
   written (MapOf ps) l r f =
       let all = pairs_written ps l r f.1 in
       let small_test = ltb (pair_count ps) 256 && ltb (length (canonical_pairs ps)) 255 in
-      let full : (s : SizeWidth) → (s ≡ size.One → (ltb (pair_count ps) 256 && ltb (length (canonical_pairs ps)) 255) ≡ true) → Spells (MapOf ps) (full_code s kind.Map ∷ block s (pair_count ps) (canonical_pairs ps)) =
+      let full : (s : SizeWidth) → (s ≡ size.One → (ltb (pair_count ps) 256 && ltb (length (canonical_pairs ps)) 255) ≡ true) → Spells (MapOf ps)
+      (full_code s kind.Map ∷ block s (pair_count ps) (canonical_pairs ps)) =
       λ s small. map_full s ps (canonical_pairs ps) all (block_holds s (pair_count ps) (length (canonical_pairs ps)) small f.0) in
       record {
         spelled = full (narrowest small_test) (narrow_small small_test);
@@ -310,7 +316,8 @@ mutual
       let items = items_written k w ts l.2 (narrow_small (all_small (parts ts))) l.1 r.1 f.2 in
       let text = content_of (ArrayOf ds k ts) in
       let small_test = ltb (count_of ts) 256 && ltb (length (content_of (ArrayOf ds k ts))) 255 in
-      let full : (s : SizeWidth) → (s ≡ size.One → (ltb (count_of ts) 256 && ltb (length (content_of (ArrayOf ds k ts))) 255) ≡ true) → Spells (ArrayOf ds k ts) (full_code s kind.Array ∷ block s (count_of ts) (content_of (ArrayOf ds k ts))) =
+      let full : (s : SizeWidth) → (s ≡ size.One → (ltb (count_of ts) 256 && ltb (length (content_of (ArrayOf ds k ts))) 255) ≡ true) →
+      Spells (ArrayOf ds k ts) (full_code s kind.Array ∷ block s (count_of ts) (content_of (ArrayOf ds k ts))) =
       λ s small. array_full s w ds k ts (canonical_heads ds) (all_data w (parts ts)) heads items (block_holds s (count_of ts) (length text) small f.0) in
       record {
         spelled = full (narrowest small_test) (narrow_small small_test);
@@ -337,7 +344,8 @@ mutual
   pairs_written (pair k v ps) l r f =
       (canonical k, canonical v, canonical_pairs ps, refl, (written k l.0 r.0 f.0).spelled, (written v l.1 r.1 f.1).spelled, pairs_written ps l.3 r.2 f.2)
 
-  items_written : (k : Kind) (s : SizeWidth) (ts : Trees) → AreOfKind k ts → (s ≡ size.One → all_small (parts ts) ≡ true) → AreLawful ts → AllRanged ts → AllFit ts → SpellItems (full_code s k) ts (all_data s (parts ts))
+  items_written : (k : Kind) (s : SizeWidth) (ts : Trees) → AreOfKind k ts → (s ≡ size.One → all_small (parts ts) ≡ true) → AreLawful ts → AllRanged ts → AllFit ts →
+      SpellItems (full_code s k) ts (all_data s (parts ts))
   items_written k s none of_kind small l r f = refl
   items_written k s (more t ts) of_kind small l r f =
       let here : s ≡ size.One → is_small (shell_of t) (content_of t) ≡ true = λ e. (and_parts _ _ (small e)).0 in

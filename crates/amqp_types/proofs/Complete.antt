@@ -53,7 +53,8 @@ number_again w k f n text rest h of_kind = rw (form_again w f (width k) n text r
 
 pub all_ascii : (octets : List ℕ) → IsAscii octets → position is_beyond_ascii octets ≡ None
 all_ascii octets h =
-    let n : position_or_len is_beyond_ascii octets ≡ length octets = position_or_len_is is_beyond_ascii octets (length octets) 0 (omega arith) (λ k lt. lt-leb _ _ (h k)) (λ lt. absurd (omega arith)) in
+    let n : position_or_len is_beyond_ascii octets ≡ length octets = position_or_len_is is_beyond_ascii octets (length octets) 0 (omega arith) (λ k lt. lt-leb _ _ (h k))
+    (λ lt. absurd (omega arith)) in
     rw (n, le-ltb (length octets) (length octets) (omega arith)) refl
 
 no_octets_fault : (k : Kind) (at : ℕ) (octets : List ℕ) → AreOctetsOf k octets → octets_fault k at octets ≡ None
@@ -64,5 +65,6 @@ no_octets_fault _ at octets h = refl
 pub sized_again : (w : Window) (k : Kind) (s : SizeWidth) (octets text rest : List ℕ) → SpellsOctets s octets text → AreOctetsOf k octets → sized_at w k s (text ++ rest) ≡ Ok (octets, rest)
 unfolding sized_at
 sized_again w k s octets text rest h of_kind =
-    let regrouped : text ++ rest ≡ big_bytes (size_len s) (length octets) ++ (octets ++ rest) = ap (λ (t : List ℕ). t ++ rest) h.1 ∙ append_assoc (big_bytes (size_len s) (length octets)) octets rest in
+    let regrouped : text ++ rest ≡ big_bytes (size_len s) (length octets) ++ (octets ++ rest) = ap (λ (t : List ℕ). t ++ rest) h.1
+    ∙ append_assoc (big_bytes (size_len s) (length octets)) octets rest in
     rw (regrouped, big_again w (size_len s) (length octets) (octets ++ rest) h.0, octets_again w (length octets) octets rest refl, no_octets_fault k (place w (octets ++ rest)) octets of_kind) refl

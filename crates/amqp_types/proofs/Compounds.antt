@@ -1,5 +1,6 @@
 -- Containers that are read are spelled so, within the depth and the nodes that are left.
-use Rattle.std.proofs.Common.{◌≡◌, ℕ, zero, suc, ◌+◌, ◌*◌, ◌/◌, ◌%◌, ◌^◌, ◌<◌, ◌≤◌, ◌⊎◌, max, Bool, true, false, cond, ltb, eqb, ◌&&◌, not, is_some, List, [], ◌∷◌, ◌++◌, length, Option, Some, None, Result, Ok, Err, refl, sym, ap, subst, ◌∙◌, append_assoc, arith, inl, inr}
+use Rattle.std.proofs.Common.{◌≡◌, ℕ, zero, suc, ◌+◌, ◌*◌, ◌/◌, ◌%◌, ◌^◌, ◌<◌, ◌≤◌, ◌⊎◌, max, Bool, true, false, cond, ltb, eqb, ◌&&◌, not, is_some, List, [], ◌∷◌, ◌++◌, length, Option, Some, None}
+use Rattle.std.proofs.Common.{Result, Ok, Err, refl, sym, ap, subst, ◌∙◌, append_assoc, arith, inl, inr}
 use Rattle.std.specs.Str.{bytes_eq}
 use Rattle.std.proofs.lemmas.Bool.{ltb-false, eqb-true, eqb-false, or_parts}
 use Rattle.std.proofs.lemmas.Slice.Eq.{bytes_eq-Decides}
@@ -16,14 +17,17 @@ use Rattle.amqp_types.specs.declared.fault.ReadFault.TheVariants.{BadSize, BadCo
 use Rattle.amqp_types.specs.declared.window.Window.{Window}
 use Rattle.amqp_types.specs.Codes.{find_code, kind_of}
 use Rattle.amqp_types.specs.Kinds.{is_container}
-use Rattle.amqp_types.specs.Trees.{Tree, Number, Octets, ListOf, MapOf, ArrayOf, Described, Trees, none, more, Pairs, no_pair, pair, count_of, pair_count, HasNoKey, IsLawful, AreLawful, ArePairsLawful, depth_of, depth_of_all, depth_of_pairs, nodes_in, nodes_in_all, nodes_in_pairs}
+use Rattle.amqp_types.specs.Trees.{Tree, Number, Octets, ListOf, MapOf, ArrayOf, Described, Trees, none, more, Pairs, no_pair, pair, count_of, pair_count, HasNoKey, IsLawful, AreLawful}
+use Rattle.amqp_types.specs.Trees.{ArePairsLawful, depth_of, depth_of_all, depth_of_pairs, nodes_in, nodes_in_all, nodes_in_pairs}
 use Rattle.amqp_types.specs.Images.{image, has_key}
 use Rattle.amqp_types.specs.Spelling.{size_len, SpellsBlock, Spells, SpellDescriptors, SpellItems, SpellPairs}
-use Rattle.amqp_types.specs.Reading.{Read, Part, Budget, Level, Head, Block, ◌>>=◌, place, charge, behind, octets_at, big_at, block_of, block_at, count_at, trees_at, distinct, pairs_at, ended, with_descriptor, allowed, head_at, list_at, map_at, array_at, uncharged, number_at, sized_at, item_by, described_at, value_by, level_by, inside}
+use Rattle.amqp_types.specs.Reading.{Read, Part, Budget, Level, Head, Block, ◌>>=◌, place, charge, behind, octets_at, big_at, block_of, block_at, count_at, trees_at, distinct, pairs_at, ended}
+use Rattle.amqp_types.specs.Reading.{with_descriptor, allowed, head_at, list_at, map_at, array_at, uncharged, number_at, sized_at, item_by, described_at, value_by, level_by, inside}
 use Rattle.amqp_types.proofs.Octets.{IsBytes, IsBytes-rest}
 use Rattle.amqp_types.proofs.Sound.{bind_ok, guard_ok, ok_is, Takes, Takes-then, octets_sound, big_sound, number_sound, sized_sound}
 use Rattle.amqp_types.specs.Misreading.{IsCounted}
-use Rattle.amqp_types.proofs.Joined.{Spent, spent_none, spent_then, spent_same, spent_charge, counted_behind, Joined, joined_none, joined_more, SpellAll-from_joined, SpellsItem, SpellItems-from_joined, AreOfKind-from_joined}
+use Rattle.amqp_types.proofs.Joined.{Spent, spent_none, spent_then, spent_same, spent_charge, counted_behind, Joined, joined_none, joined_more, SpellAll-from_joined, SpellsItem}
+use Rattle.amqp_types.proofs.Joined.{SpellItems-from_joined, AreOfKind-from_joined}
 
 -- ---- blocks
 
@@ -76,9 +80,15 @@ pub block_text : (s : SizeWidth) (least n : ℕ) (bytes : List ℕ) (block : Blo
     → block.body ≡ big_bytes (size_len s) n ++ (parts ++ rest) → rest ≡ []
     → SpellsBlock s n parts (big_bytes (size_len s) (length block.body) ++ block.body)
 block_text s least n bytes block parts rest is lt body nil =
-    let whole : block.body ≡ big_bytes (size_len s) n ++ parts = body ∙ ap (λ (r : List ℕ). big_bytes (size_len s) n ++ (parts ++ r)) nil ∙ ap (λ (p : List ℕ). big_bytes (size_len s) n ++ p) (append-nil parts) in
-    let len : length block.body ≡ size_len s + length parts = ap length whole ∙ length-append (big_bytes (size_len s) n) parts ∙ ap (λ (k : ℕ). k + length parts) (length-bytes_high_first (size_len s) n) in
-    (lt, subst (λ (k : ℕ). k < 256 ^ size_len s) len is.small, ap (λ (k : ℕ). big_bytes (size_len s) k ++ block.body) len ∙ ap (λ (b : List ℕ). big_bytes (size_len s) (size_len s + length parts) ++ b) whole)
+    let whole : block.body ≡ big_bytes (size_len s) n ++ parts = body ∙ ap (λ (r : List ℕ). big_bytes (size_len s) n ++ (parts ++ r)) nil
+    ∙ ap (λ (p : List ℕ). big_bytes (size_len s) n ++ p) (append-nil parts) in
+    let len : length block.body ≡ size_len s + length parts = ap length whole ∙ length-append (big_bytes (size_len s) n) parts ∙ ap (λ (k : ℕ). k + length parts)
+    (length-bytes_high_first (size_len s) n) in (
+      lt,
+      subst (λ (k : ℕ). k < 256 ^ size_len s) len is.small,
+      ap (λ (k : ℕ). big_bytes (size_len s) k ++ block.body) len
+          ∙ ap (λ (b : List ℕ). big_bytes (size_len s) (size_len s + length parts) ++ b) whole,
+    )
 
 -- ---- what a reader of one value promises
 
@@ -193,12 +203,14 @@ pairs_sound depth level sound (suc n) seen w budget bytes x fits e =
     let new = distinct_ok budget seen a.0.0 (place w bytes) a.0 d.0 d.1 in
     let key : IsRead Spells depth 0 budget bytes d.0 = subst (λ (y : Tree × Budget × List ℕ). IsRead Spells depth 0 budget bytes y) new.0 first in
     let unseen : IsCounted budget → has_key d.0.0 seen ≡ false = λ c. subst (λ (y : Tree × Budget × List ℕ). has_key y.0 seen ≡ false) new.0 (new.1 c) in
-    let b = bind_ok (level.value w 0 (behind budget d.0.1) d.0.2) (λ value. pairs_at level (more d.0.0 seen) n w (behind budget value.1) value.2 >>= λ others. Ok (pair d.0.0 value.0 others.0, others.1, others.2)) x d.2 in
+    let b = bind_ok (level.value w 0 (behind budget d.0.1) d.0.2) (λ value. pairs_at level (more d.0.0 seen) n w (behind budget value.1) value.2 >>= λ others. Ok
+    (pair d.0.0 value.0 others.0, others.1, others.2)) x d.2 in
     let value = sound.value 0 w (behind budget d.0.1) d.0.2 b.0 key.takes.rest_fits b.1 in
     let g = bind_ok (pairs_at level (more d.0.0 seen) n w (behind budget b.0.1) b.0.2) (λ others. Ok (pair d.0.0 b.0.0 others.0, others.1, others.2)) x b.2 in
     let others = pairs_sound depth level sound n (more d.0.0 seen) w (behind budget b.0.1) b.0.2 g.0 value.takes.rest_fits g.1 in
     let counted_value : IsCounted budget → IsCounted (behind budget d.0.1) = counted_behind budget d.0.1 _ key.spent in
-    let two : Spent budget (nodes_in d.0.0 + nodes_in b.0.0) b.0.1 = spent_then budget d.0.1 b.0.1 (nodes_in d.0.0) (nodes_in b.0.0) (spent_same budget d.0.1 _ _ (omega arith) key.spent) (spent_same (behind budget d.0.1) b.0.1 _ _ (omega arith) value.spent) in
+    let two : Spent budget (nodes_in d.0.0 + nodes_in b.0.0) b.0.1 = spent_then budget d.0.1 b.0.1 (nodes_in d.0.0) (nodes_in b.0.0) (spent_same budget d.0.1 _ _ (omega arith) key.spent)
+    (spent_same (behind budget d.0.1) b.0.1 _ _ (omega arith) value.spent) in
     let counted_rest : IsCounted budget → IsCounted (behind budget b.0.1) = counted_behind budget b.0.1 _ two in
     subst (λ (y : Pairs × Budget × List ℕ). ArePairsRead depth (suc n) seen budget bytes y) (ok_is (pair d.0.0 b.0.0 g.0.0, g.0.1, g.0.2) x g.2) (record {
       text = key.text ++ (value.text ++ others.text);
@@ -254,13 +266,16 @@ head_sound depth level sound zero w budget [] x fits e = absurd cc
 head_sound depth level sound (suc fuel) w budget [] x fits e = absurd cc
 head_sound depth level sound zero w budget (code ∷ rest) x fits e = absurd cc
 head_sound depth level sound (suc fuel) w budget (code ∷ rest) x fits e =
-    elim (either_way (eqb code 0) (charge budget 1 (place w (code ∷ rest)) >>= λ left. level.value w 0 left rest >>= λ descriptor. head_at fuel level w (behind budget descriptor.1) descriptor.2 >>= λ head. Ok (with_descriptor descriptor.0 head.0, head.1, head.2))
+    elim (either_way (eqb code 0) (charge budget 1 (place w (code ∷ rest)) >>= λ left. level.value w 0 left rest >>= λ descriptor. head_at fuel level w
+    (behind budget descriptor.1) descriptor.2 >>= λ head. Ok (with_descriptor descriptor.0 head.0, head.1, head.2))
     (allowed (place w (code ∷ rest)) level.holds (find_code code) >>= λ c. Ok (record { descriptors = none; constructor = c }, budget, rest)) (Ok x) e) [
       | inl d ↦
           let is_zero : code ≡ 0 = eqb-true code 0 d.0 in
-          let a = bind_ok (charge budget 1 (place w (code ∷ rest))) (λ left. level.value w 0 left rest >>= λ descriptor. head_at fuel level w (behind budget descriptor.1) descriptor.2 >>= λ head. Ok (with_descriptor descriptor.0 head.0, head.1, head.2)) x d.1 in
+          let a = bind_ok (charge budget 1 (place w (code ∷ rest))) (λ left. level.value w 0 left rest >>= λ descriptor. head_at fuel level w (behind budget descriptor.1) descriptor.2 >>= λ head. Ok
+          (with_descriptor descriptor.0 head.0, head.1, head.2)) x d.1 in
           let paid = spent_charge budget 1 (place w (code ∷ rest)) a.0 a.1 in
-          let b = bind_ok (level.value w 0 a.0 rest) (λ descriptor. head_at fuel level w (behind budget descriptor.1) descriptor.2 >>= λ head. Ok (with_descriptor descriptor.0 head.0, head.1, head.2)) x a.2 in
+          let b = bind_ok (level.value w 0 a.0 rest) (λ descriptor. head_at fuel level w (behind budget descriptor.1) descriptor.2 >>= λ head. Ok
+          (with_descriptor descriptor.0 head.0, head.1, head.2)) x a.2 in
           let first = sound.value 0 w a.0 rest b.0 (IsBytes-rest code rest fits) b.1 in
           let spent_first : Spent budget (1 + nodes_in b.0.0) b.0.1 = after_charge budget a.0 b.0.1 1 (nodes_in b.0.0) paid (spent_same a.0 b.0.1 _ _ (omega arith) first.spent) in
           let g = bind_ok (head_at fuel level w (behind budget b.0.1) b.0.2) (λ head. Ok (with_descriptor b.0.0 head.0, head.1, head.2)) x b.2 in
@@ -269,14 +284,16 @@ head_sound depth level sound (suc fuel) w budget (code ∷ rest) x fits e =
             text = 0 ∷ (first.text ++ others.text);
             element = others.element;
             takes = record {
-              parts = ap (λ (k : ℕ). k ∷ rest) is_zero ∙ ap (λ (r : List ℕ). 0 ∷ r) (first.takes.parts ∙ ap (λ (r : List ℕ). first.text ++ r) others.takes.parts ∙ regroup first.text others.text (others.element ∷ []) g.0.2);
+              parts = ap (λ (k : ℕ). k ∷ rest) is_zero ∙ ap (λ (r : List ℕ). 0 ∷ r) (first.takes.parts ∙ ap (λ (r : List ℕ). first.text ++ r) others.takes.parts
+                  ∙ regroup first.text others.text (others.element ∷ []) g.0.2);
               rest_fits = others.takes.rest_fits;
             };
             spelled = (first.text, others.text, refl, first.spelled, others.spelled);
             known = others.known;
             holds = others.holds;
             deep = omega (arith, first.deep, others.deep);
-            spent = spent_same budget g.0.1 _ _ (omega arith) (spent_then budget b.0.1 g.0.1 (1 + nodes_in b.0.0) (count_of g.0.0.descriptors + nodes_in_all g.0.0.descriptors) spent_first others.spent);
+            spent = spent_same budget g.0.1 _ _ (omega arith) (spent_then budget b.0.1 g.0.1 (1 + nodes_in b.0.0) (count_of g.0.0.descriptors + nodes_in_all g.0.0.descriptors) spent_first
+                others.spent);
             lawful = λ c. (first.lawful (counted_charge budget a.0 1 (place w (code ∷ rest)) a.1 c), others.lawful (counted_behind budget b.0.1 _ spent_first c));
           })
       | inr d ↦
@@ -315,7 +332,8 @@ list_sound depth level sound s code is w budget bytes x fits e =
     let b = bind_ok (count_at a.0.within s false a.0.body) (λ count. charge budget count.0 (place a.0.within a.0.body) >>= λ left.
     trees_at (λ within. level.value within 0) count.0 a.0.within left count.1 >>= λ items. ended a.0.within items.2 (ListOf items.0, items.1, a.0.behind)) x a.2 in
     let count = count_sound a.0.within s false a.0.body b.0 block.fits b.1 in
-    let c = bind_ok (charge budget b.0.0 (place a.0.within a.0.body)) (λ left. trees_at (λ within. level.value within 0) b.0.0 a.0.within left b.0.1 >>= λ items. ended a.0.within items.2 (ListOf items.0, items.1, a.0.behind)) x b.2 in
+    let c = bind_ok (charge budget b.0.0 (place a.0.within a.0.body)) (λ left. trees_at (λ within. level.value within 0) b.0.0 a.0.within left b.0.1 >>= λ items. ended a.0.within items.2
+    (ListOf items.0, items.1, a.0.behind)) x b.2 in
     let paid = spent_charge budget b.0.0 (place a.0.within a.0.body) c.0 c.1 in
     let d = bind_ok (trees_at (λ within. level.value within 0) b.0.0 a.0.within c.0 b.0.1) (λ items. ended a.0.within items.2 (ListOf items.0, items.1, a.0.behind)) x c.2 in
     let items = trees_sound (λ within. level.value within 0) Spells depth (sound.value 0) b.0.0 a.0.within c.0 b.0.1 d.0 count.0.rest_fits d.1 in
@@ -341,7 +359,8 @@ map_sound depth level sound s code is w budget bytes x fits e =
     let b = bind_ok (count_at a.0.within s true a.0.body) (λ count. charge budget count.0 (place a.0.within a.0.body) >>= λ left.
     pairs_at level none (count.0 / 2) a.0.within left count.1 >>= λ entries. ended a.0.within entries.2 (MapOf entries.0, entries.1, a.0.behind)) x a.2 in
     let count = count_sound a.0.within s true a.0.body b.0 block.fits b.1 in
-    let c = bind_ok (charge budget b.0.0 (place a.0.within a.0.body)) (λ left. pairs_at level none (b.0.0 / 2) a.0.within left b.0.1 >>= λ entries. ended a.0.within entries.2 (MapOf entries.0, entries.1, a.0.behind)) x b.2 in
+    let c = bind_ok (charge budget b.0.0 (place a.0.within a.0.body)) (λ left. pairs_at level none (b.0.0 / 2) a.0.within left b.0.1 >>= λ entries. ended a.0.within entries.2
+    (MapOf entries.0, entries.1, a.0.behind)) x b.2 in
     let paid = spent_charge budget b.0.0 (place a.0.within a.0.body) c.0 c.1 in
     let d = bind_ok (pairs_at level none (b.0.0 / 2) a.0.within c.0 b.0.1) (λ entries. ended a.0.within entries.2 (MapOf entries.0, entries.1, a.0.behind)) x c.2 in
     let entries = pairs_sound depth level sound (b.0.0 / 2) none a.0.within c.0 b.0.1 d.0 count.0.rest_fits d.1 in
@@ -395,7 +414,8 @@ array_made : (depth : ℕ) (level : Level) (s : SizeWidth) (code n : ℕ) (budge
     → IsRead (SpellsItem code kind.Array) (suc depth) 0 budget bytes (ArrayOf h.0.descriptors (kind_of h.0.constructor) d.0, d.1, block.behind)
 array_made depth level s code n budget left bytes rest block h d sound known is count lt paid counted head items nil =
     let k = kind_of h.0.constructor in
-    let spent_head : Spent budget (n + (count_of h.0.descriptors + nodes_in_all h.0.descriptors)) h.1 = after_charge budget left h.1 n (count_of h.0.descriptors + nodes_in_all h.0.descriptors) paid head.spent in
+    let spent_head : Spent budget (n + (count_of h.0.descriptors + nodes_in_all h.0.descriptors)) h.1 = after_charge budget left h.1 n
+    (count_of h.0.descriptors + nodes_in_all h.0.descriptors) paid head.spent in
     record {
       text = big_bytes (size_len s) (length block.body) ++ block.body;
       takes = is.takes;
@@ -406,7 +426,8 @@ array_made depth level s code n budget left bytes rest block h d sound known is 
         refl,
       );
       deep = deep_enough (is_container k) depth (depth_of_all h.0.descriptors) (depth_of_all d.0) (λ c. sound.holds (head.holds c)) head.deep items.deep;
-      spent = spent_same budget d.1 _ _ (omega (arith, items.count)) (spent_then budget h.1 d.1 (n + (count_of h.0.descriptors + nodes_in_all h.0.descriptors)) (nodes_in_all d.0) spent_head items.spent);
+      spent = spent_same budget d.1 _ _ (omega (arith, items.count)) (spent_then budget h.1 d.1 (n + (count_of h.0.descriptors + nodes_in_all h.0.descriptors))
+          (nodes_in_all d.0) spent_head items.spent);
       lawful = λ q. (head.lawful (counted q), items.lawful (counted_behind budget h.1 _ spent_head q), AreOfKind-from_joined head.element k d.0 items.text items.spelled);
     }
 
@@ -424,7 +445,8 @@ record ArrayParts (level : Level) (w : Window) (s : SizeWidth) (budget : Budget)
   items_is : trees_at (level.item head.0.constructor) count.0 block.within (behind budget head.1) head.2 ≡ Ok items
   end_is : ended {A = Tree × Budget × List ℕ} block.within items.2 (ArrayOf head.0.descriptors (kind_of head.0.constructor) items.0, items.1, block.behind) ≡ Ok x
 
-array_parts : (level : Level) (w : Window) (s : SizeWidth) (budget : Budget) (bytes : List ℕ) (x : Tree × Budget × List ℕ) → array_at level w s budget bytes ≡ Ok x → ArrayParts level w s budget bytes x
+array_parts : (level : Level) (w : Window) (s : SizeWidth) (budget : Budget) (bytes : List ℕ) (x : Tree × Budget × List ℕ) → array_at level w s budget bytes ≡ Ok x →
+    ArrayParts level w s budget bytes x
 unfolding array_at
 array_parts level w s budget bytes x e =
     let a = bind_ok (block_at w s (size_len s + 1) bytes) _ x e in
@@ -441,7 +463,8 @@ array_sound depth level sound s code is w budget bytes x fits e =
     let block = block_sound w s (size_len s + 1) bytes p.block fits p.block_is in
     let count = count_sound p.block.within s false p.block.body p.count block.fits p.count_is in
     let head = head_sound depth level sound (length p.count.1) p.block.within p.left p.count.1 p.head count.0.rest_fits p.head_is in
-    let items = trees_sound (level.item p.head.0.constructor) (SpellsItem head.element (kind_of p.head.0.constructor)) depth (sound.item p.head.0.constructor head.element head.known (λ c. sound.holds (head.holds c))) p.count.0 p.block.within (behind budget p.head.1) p.head.2 p.items head.takes.rest_fits p.items_is in
+    let items = trees_sound (level.item p.head.0.constructor) (SpellsItem head.element (kind_of p.head.0.constructor)) depth (sound.item p.head.0.constructor head.element head.known
+    (λ c. sound.holds (head.holds c))) p.count.0 p.block.within (behind budget p.head.1) p.head.2 p.items head.takes.rest_fits p.items_is in
     let last = ended_ok p.block.within p.items.2 (ArrayOf p.head.0.descriptors (kind_of p.head.0.constructor) p.items.0, p.items.1, p.block.behind) x p.end_is in
     subst (λ (y : Tree × Budget × List ℕ). IsRead (SpellsItem code kind.Array) (suc depth) 0 budget bytes y) last.1
     (array_made depth level s code p.count.0 budget p.left bytes p.count.1 p.block p.head p.items sound is block count.0 count.1
@@ -449,11 +472,13 @@ array_sound depth level sound s code is w budget bytes x fits e =
 
 -- ---- every level
 
-uncharged_ok : {A : Type 0} (budget : Budget) (read : Read A) (tree : A → Tree) (x : Tree × Budget × List ℕ) → uncharged budget read tree ≡ Ok x → (y : A × List ℕ) × (read ≡ Ok y) × (◌≡◌ {A = Tree × Budget × List ℕ} (tree y.0, budget, y.1) x)
+uncharged_ok : {A : Type 0} (budget : Budget) (read : Read A) (tree : A → Tree) (x : Tree × Budget × List ℕ) → uncharged budget read tree ≡ Ok x →
+    (y : A × List ℕ) × (read ≡ Ok y) × (◌≡◌ {A = Tree × Budget × List ℕ} (tree y.0, budget, y.1) x)
 uncharged_ok budget (Ok y) tree x e = (y, refl, ok_is (tree y.0, budget, y.1) x e)
 uncharged_ok budget (Err d) tree x e = absurd cc
 
-scalar_read : (depth code : ℕ) (k : Kind) (budget : Budget) (bytes : List ℕ) (t : Tree) (rest text : List ℕ) → Takes bytes text rest → SpellsItem code k t text → depth_of t ≡ 0 → nodes_in t ≡ 0 → IsLawful t
+scalar_read : (depth code : ℕ) (k : Kind) (budget : Budget) (bytes : List ℕ) (t : Tree) (rest text : List ℕ) → Takes bytes text rest → SpellsItem code k t text → depth_of t ≡ 0 → nodes_in t ≡ 0 →
+    IsLawful t
     → IsRead (SpellsItem code k) depth 0 budget bytes (t, budget, rest)
 scalar_read depth code k budget bytes t rest text takes spelled d n lawful =
     record { text = text; takes = takes; spelled = spelled; deep = omega arith; spent = spent_same budget budget 0 _ (omega arith) (spent_none budget); lawful = λ _. lawful }
@@ -499,7 +524,8 @@ unfolding described_at Spells
 described_sound depth None sound at w due budget bytes x fits e = absurd cc
 described_sound depth (Some level) sound at w due budget bytes x fits e =
     let l = sound level refl in
-    let a = bind_ok (charge budget (due + 2) at) (λ left. level.value w 0 left bytes >>= λ descriptor. level.value w 0 (behind budget descriptor.1) descriptor.2 >>= λ value. Ok (Described descriptor.0 value.0, value.1, value.2)) x e in
+    let a = bind_ok (charge budget (due + 2) at) (λ left. level.value w 0 left bytes >>= λ descriptor. level.value w 0 (behind budget descriptor.1) descriptor.2 >>= λ value. Ok
+    (Described descriptor.0 value.0, value.1, value.2)) x e in
     let paid = spent_charge budget (due + 2) at a.0 a.1 in
     let b = bind_ok (level.value w 0 a.0 bytes) (λ descriptor. level.value w 0 (behind budget descriptor.1) descriptor.2 >>= λ value. Ok (Described descriptor.0 value.0, value.1, value.2)) x a.2 in
     let first = l.2.value 0 w a.0 bytes b.0 fits b.1 in
@@ -511,7 +537,8 @@ described_sound depth (Some level) sound at w due budget bytes x fits e =
       takes = Takes-then bytes first.text b.0.2 second.text c.0.2 first.takes second.takes;
       spelled = (first.text, second.text, refl, first.spelled, second.spelled);
       deep = omega (arith, first.deep, second.deep, l.1);
-      spent = spent_same budget c.0.1 _ _ (omega arith) (spent_then budget b.0.1 c.0.1 (due + 2 + nodes_in b.0.0) (nodes_in c.0.0) spent_first (spent_same (behind budget b.0.1) c.0.1 _ _ (omega arith) second.spent));
+      spent = spent_same budget c.0.1 _ _ (omega arith) (spent_then budget b.0.1 c.0.1 (due + 2 + nodes_in b.0.0) (nodes_in c.0.0) spent_first
+          (spent_same (behind budget b.0.1) c.0.1 _ _ (omega arith) second.spent));
       lawful = λ q. (first.lawful (counted_charge budget a.0 (due + 2) at a.1 q), second.lawful (counted_behind budget b.0.1 _ spent_first q));
     })
 
@@ -570,5 +597,6 @@ inside_sound zero level e = absurd cc
 inside_sound (suc depth) level e = (depth, refl, subst (λ (l : Level). IsSoundLevel depth l) (some_same (level_by (inside depth)) level e) (sound_level depth (inside depth) (inside_sound depth)))
 
 -- what is read is spelled so, lawful and within the limits
-pub value_sound : (depth : ℕ) (w : Window) (due : ℕ) (budget : Budget) (bytes : List ℕ) (x : Tree × Budget × List ℕ) → IsBytes bytes → value_by (inside depth) w due budget bytes ≡ Ok x → IsRead Spells depth due budget bytes x
+pub value_sound : (depth : ℕ) (w : Window) (due : ℕ) (budget : Budget) (bytes : List ℕ) (x : Tree × Budget × List ℕ) → IsBytes bytes → value_by (inside depth) w due budget bytes ≡ Ok x →
+    IsRead Spells depth due budget bytes x
 value_sound depth w due budget bytes x fits e = value_by_sound depth (inside depth) (inside_sound depth) due w budget bytes x fits e

@@ -1,5 +1,6 @@
 -- Values are equal exactly if their images are.
-use Rattle.std.proofs.Common.{◌≡◌, ◌≢◌, ℕ, ◌+◌, ◌-◌, ◌^◌, ◌<◌, ◌≤◌, Bool, true, false, cond, ltb, List, [], ◌∷◌, ◌++◌, length, get_or, take, drop, Some, refl, sym, ap, subst, ◌∙◌, append_assoc, arith, inl, inr}
+use Rattle.std.proofs.Common.{◌≡◌, ◌≢◌, ℕ, ◌+◌, ◌-◌, ◌^◌, ◌<◌, ◌≤◌, Bool, true, false, cond, ltb, List, [], ◌∷◌, ◌++◌, length, get_or, take, drop, Some, refl, sym, ap, subst, ◌∙◌, append_assoc, arith}
+use Rattle.std.proofs.Common.{inl, inr}
 use Rattle.std.specs.Prelude.{slice_get}
 use Rattle.std.specs.Str.{bytes_eq}
 use Rattle.std.proofs.lemmas.Bool.{false_from_ne_true, or_from}
@@ -122,7 +123,8 @@ mutual
   pairs_same (pair k v ps) no_pair a b p q e = absurd (let h = ap first e in omega arith)
   pairs_same (pair k v ps) (pair l w qs) a b p q e =
       let h = tail_same 1 1 ((image k ++ (image v ++ pair_images ps)) ++ a) ((image l ++ (image w ++ pair_images qs)) ++ b) e in
-      let s = image_same k l ((image v ++ pair_images ps) ++ a) ((image w ++ pair_images qs) ++ b) p.0 q.0 (sym (append_assoc (image k) (image v ++ pair_images ps) a) ∙ h.1 ∙ append_assoc (image l) (image w ++ pair_images qs) b) in
+      let s = image_same k l ((image v ++ pair_images ps) ++ a) ((image w ++ pair_images qs) ++ b) p.0 q.0 (sym (append_assoc (image k) (image v ++ pair_images ps) a) ∙ h.1
+      ∙ append_assoc (image l) (image w ++ pair_images qs) b) in
       let r = image_same v w (pair_images ps ++ a) (pair_images qs ++ b) p.1 q.1 (sym (append_assoc (image v) (pair_images ps) a) ∙ s.1 ∙ append_assoc (image w) (pair_images qs) b) in
       let o = pairs_same ps qs a b p.2 q.2 r.1 in
       (ap (λ (x : Tree). pair x v ps) s.0 ∙ ap (λ (x : Tree). pair l x ps) r.0 ∙ ap (pair l w) o.0, o.1)

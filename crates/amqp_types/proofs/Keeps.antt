@@ -152,10 +152,12 @@ module _ (level : Level) (w : Window) where
   unfolding pairs_at
   pairs_keep_on ps k v count i left middle less bytes between rest total lt h new g so_far =
       let step : behind_pairs (pair_views ps) (pairs_at level (keys_before none ps) (suc (count - (i + 1))) w (Some left) bytes)
-      ≡ behind_pairs (pair_views ps) (pairs_at level (more (view k) (keys_before none ps)) (count - (i + 1)) w (Some less) rest >>= λ others. Ok (pair (view k) (view v) others.0, others.1, others.2)) =
+      ≡ behind_pairs (pair_views ps) (pairs_at level (more (view k) (keys_before none ps)) (count - (i + 1)) w (Some less) rest >>= λ others. Ok
+      (pair (view k) (view v) others.0, others.1, others.2)) =
       rw (h, new, g) refl in
       one_more_pair ps k v (pairs_at level (keys_before none (ps ++ (k, v) ∷ [])) (count - (i + 1)) w (Some less) rest)
-      ∙ ap (λ (seen : Trees). behind_pairs (pair_views ps) (pairs_at level seen (count - (i + 1)) w (Some less) rest >>= λ others. Ok (pair (view k) (view v) others.0, others.1, others.2))) (keys_before-push none ps k v)
+      ∙ ap (λ (seen : Trees). behind_pairs (pair_views ps) (pairs_at level seen (count - (i + 1)) w (Some less) rest >>= λ others. Ok (pair (view k) (view v) others.0, others.1, others.2)))
+      (keys_before-push none ps k v)
       ∙ sym step ∙ now_pairs (pair_views ps) (keys_before none ps) count i left bytes total lt so_far
 
   pub key_stops : (front : Pairs) (seen : Trees) (count i left : ℕ) (bytes : List ℕ) (d : ReadFault) (total : Part Pairs) → i < count

@@ -1,5 +1,6 @@
 -- Where reading meets a fault, the bytes are misread so.
-use Rattle.std.proofs.Common.{◌≡◌, ◌≢◌, ℕ, zero, suc, ◌+◌, ◌-◌, ◌/◌, ◌%◌, ◌<◌, ◌≤◌, ◌⊎◌, Bool, true, false, cond, ltb, eqb, ◌&&◌, ◌||◌, not, is_some, List, [], ◌∷◌, ◌++◌, length, drop, Option, Some, None, Result, Ok, Err, refl, sym, ap, subst, ◌∙◌, arith, inl, inr}
+use Rattle.std.proofs.Common.{◌≡◌, ◌≢◌, ℕ, zero, suc, ◌+◌, ◌-◌, ◌/◌, ◌%◌, ◌<◌, ◌≤◌, ◌⊎◌, Bool, true, false, cond, ltb, eqb, ◌&&◌, ◌||◌, not, is_some, List, [], ◌∷◌, ◌++◌, length, drop, Option, Some}
+use Rattle.std.proofs.Common.{None, Result, Ok, Err, refl, sym, ap, subst, ◌∙◌, arith, inl, inr}
 use Rattle.std.specs.Str.{bytes_eq}
 use Rattle.std.proofs.lemmas.Slice.Eq.{bytes_eq-Decides}
 use Rattle.std.proofs.lemmas.Bool.{ltb-false, ltb-true, eqb-true, eqb-false, and_parts}
@@ -21,8 +22,14 @@ use Rattle.amqp_types.specs.Images.{image, has_key}
 use Rattle.amqp_types.specs.Spelling.{size_len, Spells}
 use Rattle.std.specs.Prelude.{IfErr}
 use Rattle.amqp_types.specs.Decoding.{decoded}
-use Rattle.amqp_types.specs.Reading.{Read, Part, Budget, Level, Head, Block, ◌>>=◌, Is, Gives, after, outermost, value_of, unless, place, number_fault, octets_fault, charge, behind, octets_at, big_at, form_at, number_at, sized_at, block_of, block_at, count_at, trees_at, distinct, pairs_at, ended, with_descriptor, allowed, head_at, list_at, map_at, array_at, uncharged, item_by, described_at, value_by, level_by, inside}
-use Rattle.amqp_types.specs.Misreading.{IsCounted, Enough, IsShort, spend, MayStand, IsWithin, EndsInSized, EndsInside, IsBelow, IsTooSmall, OctetsFault, IsBlockOf, IsHolder, IsAmong, IsNewKey, Sought, AValue, DataOf, Values, Entries, Elements, Items, OpensWithCode, IsDone, parts_of, Misread, nothing, left_over, unknown_code, too_deep, too_deep_described, too_many, too_many_described, too_many_descriptors, bad_data, bad_descriptor, bad_described, ends_inside, no_number, no_octets, too_small, odd_count, too_many_parts, bad_parts, bad_value, bad_later_value, bad_key, equal_key, bad_entry, bad_later_entry, bad_array_descriptor, bad_elements, bad_items, bad_item, bad_later_item}
+use Rattle.amqp_types.specs.Reading.{Read, Part, Budget, Level, Head, Block, ◌>>=◌, Is, Gives, after, outermost, value_of, unless, place, number_fault, octets_fault, charge, behind, octets_at, big_at}
+use Rattle.amqp_types.specs.Reading.{form_at, number_at, sized_at, block_of, block_at, count_at, trees_at, distinct, pairs_at, ended, with_descriptor, allowed, head_at, list_at, map_at, array_at}
+use Rattle.amqp_types.specs.Reading.{uncharged, item_by, described_at, value_by, level_by, inside}
+use Rattle.amqp_types.specs.Misreading.{IsCounted, Enough, IsShort, spend, MayStand, IsWithin, EndsInSized, EndsInside, IsBelow, IsTooSmall, OctetsFault, IsBlockOf, IsHolder, IsAmong, IsNewKey}
+use Rattle.amqp_types.specs.Misreading.{Sought, AValue, DataOf, Values, Entries, Elements, Items, OpensWithCode, IsDone, parts_of, Misread, nothing, left_over, unknown_code, too_deep}
+use Rattle.amqp_types.specs.Misreading.{too_deep_described, too_many, too_many_described, too_many_descriptors, bad_data, bad_descriptor, bad_described, ends_inside, no_number, no_octets, too_small}
+use Rattle.amqp_types.specs.Misreading.{odd_count, too_many_parts, bad_parts, bad_value, bad_later_value, bad_key, equal_key, bad_entry, bad_later_entry, bad_array_descriptor, bad_elements, bad_items}
+use Rattle.amqp_types.specs.Misreading.{bad_item, bad_later_item}
 use Rattle.amqp_types.proofs.Octets.{IsBytes, IsBytes-rest}
 use Rattle.amqp_types.proofs.Sound.{bind_ok, guard_ok, ok_is, Takes-then, octets_sound, big_sound, form_sound}
 use Rattle.amqp_types.proofs.Faults.{bind_err, then_ok_err, guard_err, unless_err, big_short, octets_short, form_short, fault_of_number, fault_of_octets}
@@ -61,7 +68,8 @@ part_of spells depth budget bytes x r =
 
 -- ---- numbers and bytes
 
-number_misread : (k : Kind) (f : Form) (depth : ℕ) (w : Window) (budget : Budget) (bytes : List ℕ) (e : ReadFault) → IsBytes bytes → number_at w k f bytes ≡ Err e → Misread (DataOf (Fixed k f)) depth w budget bytes e
+number_misread : (k : Kind) (f : Form) (depth : ℕ) (w : Window) (budget : Budget) (bytes : List ℕ) (e : ReadFault) → IsBytes bytes → number_at w k f bytes ≡ Err e →
+    Misread (DataOf (Fixed k f)) depth w budget bytes e
 unfolding number_at
 number_misread k f depth w budget bytes e fits h =
     elim (bind_err (form_at w f (width k) bytes) (λ n. unless (number_fault k (place w bytes) n.0) n) e h) [
@@ -71,7 +79,8 @@ number_misread k f depth w budget bytes e fits h =
           no_number n.0.0 t.0 n.0.1 t.1.parts t.2 (fault_of_number k (place w bytes) n.0.0 e (unless_err _ n.0 e n.2))
     ]
 
-sized_misread : (k : Kind) (s : SizeWidth) (depth : ℕ) (w : Window) (budget : Budget) (bytes : List ℕ) (e : ReadFault) → IsBytes bytes → sized_at w k s bytes ≡ Err e → Misread (DataOf (Variable k s)) depth w budget bytes e
+sized_misread : (k : Kind) (s : SizeWidth) (depth : ℕ) (w : Window) (budget : Budget) (bytes : List ℕ) (e : ReadFault) → IsBytes bytes → sized_at w k s bytes ≡ Err e →
+    Misread (DataOf (Variable k s)) depth w budget bytes e
 unfolding sized_at
 sized_misread k s depth w budget bytes e fits h =
     elim (bind_err (big_at w (size_len s) bytes) (λ n. octets_at w n.0 n.1 >>= λ octets. unless (octets_fault k (place w n.1) octets.0) octets) e h) [
@@ -132,7 +141,8 @@ sequence_misread one spells sought depth sound first later done (suc n) w budget
           let p = part_of spells depth budget bytes a.0 r in
           let rest = then_ok_err (trees_at one n w (behind budget a.0.1) a.0.2) (λ others. (more a.0.0 others.0, others.1, others.2)) e a.2 in
           later n w budget bytes e a.0.0 r.text a.0.2 r.takes.parts r.spelled p.0
-          (subst (λ (b : Budget). Misread (sought n) depth w b a.0.2 e) p.1 (sequence_misread one spells sought depth sound first later done n w (behind budget a.0.1) a.0.2 e r.takes.rest_fits (inl rest)))
+          (subst (λ (b : Budget). Misread (sought n) depth w b a.0.2 e) p.1 (sequence_misread one spells sought depth sound first later done n w (behind budget a.0.1) a.0.2 e r.takes.rest_fits
+          (inl rest)))
     ]
 sequence_misread one spells sought depth sound first later done (suc n) w budget bytes e fits (inr (x, h, left)) =
     let a = bind_ok (one w budget bytes) (λ t. trees_at one n w (behind budget t.1) t.2 >>= λ others. Ok (more t.0 others.0, others.1, others.2)) x h in
@@ -142,13 +152,15 @@ sequence_misread one spells sought depth sound first later done (suc n) w budget
     let same = ok_is (more a.0.0 b.0.0, b.0.1, b.0.2) x b.2 in
     let over : IsLeft w b.0.2 e = subst (λ (y : Trees × Budget × List ℕ). IsLeft w y.2 e) (sym same) left in
     later n w budget bytes e a.0.0 r.text a.0.2 r.takes.parts r.spelled p.0
-    (subst (λ (y : Budget). Misread (sought n) depth w y a.0.2 e) p.1 (sequence_misread one spells sought depth sound first later done n w (behind budget a.0.1) a.0.2 e r.takes.rest_fits (inr (b.0, b.1, over))))
+    (subst (λ (y : Budget). Misread (sought n) depth w y a.0.2 e) p.1 (sequence_misread one spells sought depth sound first later done n w (behind budget a.0.1) a.0.2 e r.takes.rest_fits
+    (inr (b.0, b.1, over))))
 
 -- ---- a level
 
 pub record IsMisreadLevel (depth : ℕ) (level : Level) : Type 0 where
   pub value : (due : ℕ) (w : Window) (budget : Budget) (bytes : List ℕ) (e : ReadFault) → IsBytes bytes → level.value w due budget bytes ≡ Err e → Misread (AValue due) depth w budget bytes e
-  pub item : (c : Constructor) (w : Window) (budget : Budget) (bytes : List ℕ) (e : ReadFault) → MayStand c depth → IsBytes bytes → level.item c w budget bytes ≡ Err e → Misread (DataOf c) depth w budget bytes e
+  pub item : (c : Constructor) (w : Window) (budget : Budget) (bytes : List ℕ) (e : ReadFault) → MayStand c depth → IsBytes bytes → level.item c w budget bytes ≡ Err e →
+      Misread (DataOf c) depth w budget bytes e
   pub none_left : level.holds ≡ false → depth ≡ 0
 
 values_misread : (depth : ℕ) (level : Level) → IsSoundLevel depth level → IsMisreadLevel depth level → (n : ℕ) (w : Window) (budget : Budget) (bytes : List ℕ) (e : ReadFault) → IsBytes bytes
@@ -201,7 +213,8 @@ not_found b f t = let h : true ≡ false = sym t ∙ f in cc
 pub new_key : (budget : Budget) (key : Tree) (seen : Trees) → (IsCounted budget → has_key key seen ≡ false) → IsNewKey budget key seen
 new_key budget key seen h c is = not_found (has_key key seen) (h c) (found_among key seen is)
 
-distinct_err : {A : Type 0} (budget : Budget) (seen : Trees) (key : Tree) (at : ℕ) (x : A) (e : ReadFault) → distinct budget seen key at x ≡ Err e → IsCounted budget × (has_key key seen ≡ true) × (DuplicateKey at ≡ e)
+distinct_err : {A : Type 0} (budget : Budget) (seen : Trees) (key : Tree) (at : ℕ) (x : A) (e : ReadFault) → distinct budget seen key at x ≡ Err e →
+    IsCounted budget × (has_key key seen ≡ true) × (DuplicateKey at ≡ e)
 distinct_err None seen key at x e h = absurd cc
 distinct_err (Some b) seen key at x e h = let g = guard_err (has_key key seen) (DuplicateKey at) e x h in (tt, g.0, g.1)
 
@@ -228,7 +241,8 @@ later_entry depth level sound n seen w budget bytes e a v key p new is rest =
     bad_later_entry a.0 v.0 key.text value.text v.2 (key.takes.parts ∙ ap (λ (b : List ℕ). key.text ++ b) value.takes.parts) key.spelled p.0 new value.spelled within
     (subst (λ (b : Budget). Misread (Entries (more a.0 seen) n) depth w b v.2 e) left (rest value.takes.rest_fits))
 
-entries_misread : (depth : ℕ) (level : Level) → IsSoundLevel depth level → IsMisreadLevel depth level → (n : ℕ) (seen : Trees) (w : Window) (budget : Budget) (bytes : List ℕ) (e : ReadFault) → AreSmall seen → IsBytes bytes
+entries_misread : (depth : ℕ) (level : Level) → IsSoundLevel depth level → IsMisreadLevel depth level → (n : ℕ) (seen : Trees) (w : Window) (budget : Budget) (bytes : List ℕ) (e : ReadFault) →
+    AreSmall seen → IsBytes bytes
     → EndsPairs level seen n w budget bytes e → Misread (Entries seen n) depth w budget bytes e
 unfolding pairs_at
 entries_misread depth level sound mis zero seen w budget bytes e smalls fits (inl h) = absurd cc
@@ -249,7 +263,8 @@ entries_misread depth level sound mis (suc n) seen w budget bytes e smalls fits 
                 let new = distinct_ok budget seen a.0.0 (place w bytes) a.0 d.0 d.1 in
                 let is_new : IsNewKey budget a.0.0 seen = new_key budget a.0.0 seen (new.1) in
                 let others : behind_key level seen n w budget a.0 ≡ Err e = ap (behind_key level seen n w budget) new.0 ∙ d.2 in
-                elim (bind_err (level.value w 0 (behind budget a.0.1) a.0.2) (λ value. pairs_at level (more a.0.0 seen) n w (behind budget value.1) value.2 >>= λ others. Ok (pair a.0.0 value.0 others.0, others.1, others.2)) e others) [
+                elim (bind_err (level.value w 0 (behind budget a.0.1) a.0.2) (λ value. pairs_at level (more a.0.0 seen) n w (behind budget value.1) value.2 >>= λ others. Ok
+                (pair a.0.0 value.0 others.0, others.1, others.2)) e others) [
                   | inl bad ↦ bad_entry a.0.0 key.text a.0.2 key.takes.parts key.spelled p.0 is_new
                       (subst (λ (b : Budget). Misread (AValue 0) depth w b a.0.2 e) p.1 (mis.value 0 w (behind budget a.0.1) a.0.2 e key.takes.rest_fits bad))
                   | inr v ↦
@@ -266,7 +281,8 @@ entries_misread depth level sound mis (suc n) seen w budget bytes e smalls fits 
     let d = bind_ok (distinct budget seen a.0.0 (place w bytes) a.0) (behind_key level seen n w budget) x a.2 in
     let new = distinct_ok budget seen a.0.0 (place w bytes) a.0 d.0 d.1 in
     let others : behind_key level seen n w budget a.0 ≡ Ok x = ap (behind_key level seen n w budget) new.0 ∙ d.2 in
-    let v = bind_ok (level.value w 0 (behind budget a.0.1) a.0.2) (λ value. pairs_at level (more a.0.0 seen) n w (behind budget value.1) value.2 >>= λ others. Ok (pair a.0.0 value.0 others.0, others.1, others.2)) x others in
+    let v = bind_ok (level.value w 0 (behind budget a.0.1) a.0.2) (λ value. pairs_at level (more a.0.0 seen) n w (behind budget value.1) value.2 >>= λ others. Ok
+    (pair a.0.0 value.0 others.0, others.1, others.2)) x others in
     let g = bind_ok (pairs_at level (more a.0.0 seen) n w (behind budget v.0.1) v.0.2) (λ others. Ok (pair a.0.0 v.0.0 others.0, others.1, others.2)) x v.2 in
     let over : IsLeft w g.0.2 e = subst (λ (y : Pairs × Budget × List ℕ). IsLeft w y.2 e) (sym (ok_is (pair a.0.0 v.0.0 g.0.0, g.0.1, g.0.2) x g.2)) left in
     later_entry depth level sound n seen w budget bytes e a.0 v.0 key p (new_key budget a.0.0 seen new.1) v.1
@@ -322,7 +338,8 @@ behind_part depth level sound n w budget left code rest e d is_zero paid fits is
     subst (λ (k : ℕ). Misread (Elements n) depth w budget (k ∷ rest) e) (sym is_zero)
     (bad_elements d.0 r.text d.2 paid.1 r.takes.parts r.spelled within (subst (λ (b : Budget). Misread (Elements n) depth w b d.2 e) last (others r.takes.rest_fits)))
 
-elements_misread : (depth : ℕ) (level : Level) → IsSoundLevel depth level → IsMisreadLevel depth level → (fuel n : ℕ) (w : Window) (budget : Budget) (bytes : List ℕ) (e : ReadFault) → length bytes ≤ fuel → IsBytes bytes
+elements_misread : (depth : ℕ) (level : Level) → IsSoundLevel depth level → IsMisreadLevel depth level → (fuel n : ℕ) (w : Window) (budget : Budget) (bytes : List ℕ) (e : ReadFault) →
+    length bytes ≤ fuel → IsBytes bytes
     → EndsElements fuel level n w budget bytes e → Misread (Elements n) depth w budget bytes e
 unfolding head_at
 elements_misread depth level sound mis fuel n w budget [] e le fits (inl h) =
@@ -366,12 +383,14 @@ elements_misread depth level sound mis (suc fuel) n w budget (code ∷ rest) e l
                       let others = then_ok_err (head_at fuel level w (behind budget b.0.1) b.0.2) (λ head. (with_descriptor b.0.0 head.0, head.1, head.2)) e b.2 in
                       let shorter = sound.value 0 w a.0 rest b.0 (IsBytes-rest code rest fits) b.1 in
                       behind_part depth level sound n w budget a.0 code rest e b.0 is_zero paid (IsBytes-rest code rest fits) b.1
-                      (λ rest_fits. elements_misread depth level sound mis fuel n w (behind budget b.0.1) b.0.2 e (omega (arith, ap length shorter.takes.parts, length-append shorter.text b.0.2)) rest_fits (inl others))
+                      (λ rest_fits. elements_misread depth level sound mis fuel n w (behind budget b.0.1) b.0.2 e (omega (arith, ap length shorter.takes.parts, length-append shorter.text b.0.2))
+                      rest_fits (inl others))
                 ]
           ]
       | inr d ↦
           let some : code ≢ 0 = eqb-false code 0 d.0 in
-          code_misread (Elements n) depth level.holds w budget code rest e tt mis.none_left some (then_ok_err (allowed (place w (code ∷ rest)) level.holds (find_code code)) (λ c. (record { descriptors = none; constructor = c }, budget, rest)) e d.1)
+          code_misread (Elements n) depth level.holds w budget code rest e tt mis.none_left some (then_ok_err (allowed (place w (code ∷ rest)) level.holds (find_code code))
+          (λ c. (record { descriptors = none; constructor = c }, budget, rest)) e d.1)
     ]
 elements_misread depth level sound mis (suc fuel) n w budget (code ∷ rest) e le fits (inr (x, h, items)) =
     elim (either_way (eqb code 0) (charge budget 1 (place w (code ∷ rest)) >>= λ left. level.value w 0 left rest >>= behind_descriptor fuel level w budget)
@@ -395,7 +414,8 @@ elements_misread depth level sound mis (suc fuel) n w budget (code ∷ rest) e l
           let ok = allowed_ok (place w (code ∷ rest)) level.holds (find_code code) a.0 a.1 in
           let may : MayStand a.0 depth = λ is. sound.holds (ok.1 is) in
           let same = ok_is (record { descriptors = none; constructor = a.0 }, budget, rest) x a.2 in
-          let known : EndsItems level n w budget (record { descriptors = none; constructor = a.0 }, budget, rest) e = subst (λ (y : Head × Budget × List ℕ). EndsItems level n w budget y e) (sym same) items in
+          let known : EndsItems level n w budget (record { descriptors = none; constructor = a.0 }, budget, rest) e = subst (λ (y : Head × Budget × List ℕ). EndsItems level n w budget y e)
+          (sym same) items in
           bad_items a.0 ok.0 may (items_misread depth level sound mis a.0 code ok.0 may n w budget rest e (IsBytes-rest code rest fits)
           (subst (λ (y : Budget). Ends (level.item a.0) n w y rest e) (behind_same budget) known))
     ]
@@ -446,7 +466,8 @@ block_window w s least bytes block h =
     tested false fault r h = h
 
 -- the count of a block that was read, and its parts
-block_parts : (w : Window) (s : SizeWidth) (least : ℕ) (paired : Bool) (bytes : List ℕ) (block : Block) (count : ℕ × List ℕ) → IsBytes bytes → block_at w s least bytes ≡ Ok block → big_at block.within (size_len s) block.body ≡ Ok count
+block_parts : (w : Window) (s : SizeWidth) (least : ℕ) (paired : Bool) (bytes : List ℕ) (block : Block) (count : ℕ × List ℕ) → IsBytes bytes → block_at w s least bytes ≡ Ok block →
+    big_at block.within (size_len s) block.body ≡ Ok count
     → IsBlockOf w s count.0 count.1 bytes block.within (place block.within block.body) × (least ≤ size_len s + length count.1) × IsBytes count.1
 block_parts w s least paired bytes block count fits h k =
     let b = block_sound w s least bytes block fits h in
@@ -508,11 +529,13 @@ record Opens (c : Constructor) (s : SizeWidth) (least : ℕ) (paired : Bool) : T
   holder : (count : ℕ) (parts : List ℕ) → (paired ≡ true → count % 2 ≡ 0) → least ≤ size_len s + length parts → IsHolder c s count parts
   some : size_len s ≤ least
 
-opened_misread : (c : Constructor) (s : SizeWidth) (least : ℕ) (paired : Bool) → Opens c s least paired → (depth : ℕ) (w : Window) (budget : Budget) (bytes : List ℕ) (e : ReadFault) (parts : Block → ℕ × List ℕ → Budget → Part Tree) → IsBytes bytes
+opened_misread : (c : Constructor) (s : SizeWidth) (least : ℕ) (paired : Bool) → Opens c s least paired → (depth : ℕ) (w : Window) (budget : Budget) (bytes : List ℕ) (e : ReadFault)
+    (parts : Block → ℕ × List ℕ → Budget → Part Tree) → IsBytes bytes
     → ((block : Block) (count : ℕ × List ℕ) → IsBytes count.1 → parts block count (spend budget count.0) ≡ Err e → Misread (parts_of c count.0) depth block.within (spend budget count.0) count.1 e)
     → opened w s least paired budget bytes parts ≡ Err e → Misread (DataOf c) (suc depth) w budget bytes e
 opened_misread c s least paired is depth w budget bytes e parts fits bad h =
-    elim (bind_err (block_at w s least bytes) (λ block. count_at block.within s paired block.body >>= λ count. charge budget count.0 (place block.within block.body) >>= λ left. parts block count left) e h) [
+    elim (bind_err (block_at w s least bytes) (λ block. count_at block.within s paired block.body >>= λ count. charge budget count.0
+    (place block.within block.body) >>= λ left. parts block count left) e h) [
       | inl no_block ↦ elim (block_err w s least bytes e no_block) [
         | inl short ↦ subst (λ (d : ReadFault). Misread (DataOf c) (suc depth) w budget bytes d) short.1 (ends_inside (is.ends bytes short.0))
         | inr small_size ↦ subst (λ (d : ReadFault). Misread (DataOf c) (suc depth) w budget bytes d) small_size.1 (too_small (is.below bytes small_size.0))
@@ -559,7 +582,8 @@ unfolding list_at
 list_misread depth level sound mis s w budget bytes e fits h =
     opened_misread (ListIn s) s (size_len s) false
     (record { ends = λ b x. x; below = λ b x. x; odd = λ x. absurd (no x); holder = λ n b x y. refl; some = omega arith })
-    depth w budget bytes e (λ block count left. trees_at (λ within. level.value within 0) count.0 block.within left count.1 >>= λ items. ended block.within items.2 (ListOf items.0, items.1, block.behind)) fits
+    depth w budget bytes e (λ block count left. trees_at (λ within. level.value within 0) count.0 block.within left count.1 >>= λ items. ended block.within items.2
+    (ListOf items.0, items.1, block.behind)) fits
     (λ block count parts_fit bad. values_misread depth level sound mis count.0 block.within (spend budget count.0) count.1 e parts_fit
     (ends (λ within. level.value within 0) count.0 block.within (spend budget count.0) count.1 (λ items. (ListOf items.0, items.1, block.behind)) e bad)) h
   where
@@ -591,16 +615,19 @@ array_misread depth level sound mis s w budget bytes e fits h =
     opened_misread (ArrayIn s) s (size_len s + 1) false
     (record { ends = λ b x. x; below = λ b x. x; odd = λ x. absurd (no x); holder = λ n b x y. (refl, omega arith); some = omega arith })
     depth w budget bytes e (λ block count left. head_at (length count.1) level block.within left count.1 >>= λ head. behind_head block count left head) fits
-    (λ block count parts_fit bad. elements_misread depth level sound mis (length count.1) count.0 block.within (spend budget count.0) count.1 e (omega arith) parts_fit (ends_elements block count bad)) h
+    (λ block count parts_fit bad. elements_misread depth level sound mis (length count.1) count.0 block.within (spend budget count.0) count.1 e (omega arith) parts_fit
+    (ends_elements block count bad)) h
   where
     no : false ≡ true → ⊥
     no h = cc
 
     behind_head : Block → ℕ × List ℕ → Budget → Head × Budget × List ℕ → Part Tree
     behind_head block count left head =
-        trees_at (level.item head.0.constructor) count.0 block.within (behind budget head.1) head.2 >>= λ items. ended block.within items.2 (ArrayOf head.0.descriptors (kind_of head.0.constructor) items.0, items.1, block.behind)
+        trees_at (level.item head.0.constructor) count.0 block.within (behind budget head.1) head.2 >>= λ items. ended block.within items.2
+        (ArrayOf head.0.descriptors (kind_of head.0.constructor) items.0, items.1, block.behind)
 
-    ends_elements : (block : Block) (count : ℕ × List ℕ) → (head_at (length count.1) level block.within (spend budget count.0) count.1 >>= λ head. behind_head block count (spend budget count.0) head) ≡ Err e
+    ends_elements : (block : Block) (count : ℕ × List ℕ) → (head_at (length count.1) level block.within (spend budget count.0) count.1 >>= λ head. behind_head block count
+        (spend budget count.0) head) ≡ Err e
         → EndsElements (length count.1) level count.0 block.within (spend budget count.0) count.1 e
     ends_elements block count h =
         let left = spend budget count.0 in
@@ -622,7 +649,8 @@ uncharged_err : {A : Type 0} (budget : Budget) (read : Read A) (tree : A → Tre
 uncharged_err budget (Ok y) tree e h = absurd cc
 uncharged_err budget (Err d) tree e h = cc
 
-item_misread : (depth : ℕ) (inner : Option Level) → AllMisread depth inner → (inner ≡ None → depth ≡ 0) → (c : Constructor) (w : Window) (budget : Budget) (bytes : List ℕ) (e : ReadFault) → MayStand c depth → IsBytes bytes
+item_misread : (depth : ℕ) (inner : Option Level) → AllMisread depth inner → (inner ≡ None → depth ≡ 0) → (c : Constructor) (w : Window) (budget : Budget) (bytes : List ℕ) (e : ReadFault) →
+    MayStand c depth → IsBytes bytes
     → item_by inner c w budget bytes ≡ Err e → Misread (DataOf c) depth w budget bytes e
 unfolding item_by
 item_misread depth inner all none_left (Fixed k f) w budget bytes e may fits h = number_misread k f depth w budget bytes e fits (uncharged_err budget (number_at w k f bytes) (Number k) e h)
@@ -651,16 +679,19 @@ described_misread depth (Some level) all none_left due w budget bytes e fits h =
     let l = all level refl in
     let at = place w (0 ∷ bytes) in
     subst (λ (d : ℕ). Misread (AValue due) d w budget (0 ∷ bytes) e) l.1 (
-    elim (bind_err (charge budget (due + 2) at) (λ left. level.value w 0 left bytes >>= λ descriptor. level.value w 0 (behind budget descriptor.1) descriptor.2 >>= λ value. Ok (Described descriptor.0 value.0, value.1, value.2)) e h) [
+    elim (bind_err (charge budget (due + 2) at) (λ left. level.value w 0 left bytes >>= λ descriptor. level.value w 0 (behind budget descriptor.1) descriptor.2 >>= λ value. Ok
+    (Described descriptor.0 value.0, value.1, value.2)) e h) [
       | inl few ↦ let c = charge_err budget (due + 2) at e few in subst (λ (d : ReadFault). Misread (AValue due) (suc l.0) w budget (0 ∷ bytes) d) c.1 (too_many_described c.0)
       | inr a ↦
           let paid = charge_ok budget a.0 (due + 2) at a.1 in
-          elim (bind_err (level.value w 0 a.0 bytes) (λ descriptor. level.value w 0 (behind budget descriptor.1) descriptor.2 >>= λ value. Ok (Described descriptor.0 value.0, value.1, value.2)) e a.2) [
+          elim (bind_err (level.value w 0 a.0 bytes) (λ descriptor. level.value w 0 (behind budget descriptor.1) descriptor.2 >>= λ value. Ok (Described descriptor.0 value.0, value.1, value.2)) e
+          a.2) [
             | inl bad ↦ bad_descriptor paid.1 (subst (λ (b : Budget). Misread (AValue 0) l.0 w b bytes e) paid.0 (l.3.value 0 w a.0 bytes e fits bad))
             | inr d ↦
                 let r = l.2.value 0 w a.0 bytes d.0 fits d.1 in
                 let p = part_of Spells l.0 a.0 bytes d.0 r in
-                let bad = l.3.value 0 w (behind budget d.0.1) d.0.2 e r.takes.rest_fits (then_ok_err (level.value w 0 (behind budget d.0.1) d.0.2) (λ value. (Described d.0.0 value.0, value.1, value.2)) e d.2) in
+                let bad = l.3.value 0 w (behind budget d.0.1) d.0.2 e r.takes.rest_fits (then_ok_err (level.value w 0 (behind budget d.0.1) d.0.2)
+                (λ value. (Described d.0.0 value.0, value.1, value.2)) e d.2) in
                 let last : behind budget d.0.1 ≡ spend (spend budget (due + 2)) (nodes_in d.0.0) =
                 sym (behind_spend budget (due + 2) d.0.1) ∙ ap (λ (b : Budget). behind b d.0.1) (sym paid.0) ∙ p.1 ∙ ap (λ (b : Budget). spend b (nodes_in d.0.0)) paid.0 in
                 bad_described d.0.0 r.text d.0.2 paid.1 r.takes.parts r.spelled (subst (λ (b : Budget). IsWithin l.0 b d.0.0) paid.0 p.0)
@@ -674,7 +705,8 @@ unfolding value_by
 value_by_misread depth inner all none_left due w budget [] e fits h = subst (λ (d : ReadFault). Misread (AValue due) depth w budget [] d) (fault_is w.short e h) (nothing tt)
 value_by_misread depth inner all none_left due w budget (code ∷ rest) e fits h =
     let at = place w (code ∷ rest) in
-    elim (either_way (eqb code 0) (described_at inner at w due budget rest) (allowed at (is_some inner) (find_code code) >>= λ c. charge budget due at >>= λ left. item_by inner c w left rest) (Err e) h) [
+    elim (either_way (eqb code 0) (described_at inner at w due budget rest) (allowed at (is_some inner) (find_code code) >>= λ c. charge budget due at >>= λ left. item_by inner c w left rest)
+    (Err e) h) [
       | inl d ↦
           let is_zero : code ≡ 0 = eqb-true code 0 d.0 in
           subst (λ (k : ℕ). Misread (AValue due) depth w budget (k ∷ rest) e) (sym is_zero)
@@ -746,8 +778,10 @@ pub skip_misread : (depth : ℕ) (bytes : List ℕ) (r : Result ℕ ReadFault) �
 skip_misread depth bytes (Ok n) fits is = tt
 skip_misread depth bytes (Err e) fits is = value_misread depth (outermost bytes) 1 None bytes e fits (then_ok_err (value_of depth None bytes) (λ x. x.2) e is)
 
-pub decode_misread : {V : Type 0} (view : V → Tree) (depth nodes : ℕ) (bytes : List ℕ) (r : Result (V × ℕ) ReadFault) → IsBytes bytes → Gives (λ x. (view x.0, drop x.1 bytes)) r (decoded depth nodes bytes)
+pub decode_misread : {V : Type 0} (view : V → Tree) (depth nodes : ℕ) (bytes : List ℕ) (r : Result (V × ℕ) ReadFault) → IsBytes bytes →
+    Gives (λ x. (view x.0, drop x.1 bytes)) r (decoded depth nodes bytes)
     → IfErr r (λ e. (e ≡ NoMemory) ⊎ Misread (AValue 1) depth (outermost bytes) (Some nodes) bytes e)
 decode_misread view depth nodes bytes (Ok x) fits is = tt
 decode_misread view depth nodes bytes (Err e) fits (inl refused) = inl refused
-decode_misread view depth nodes bytes (Err e) fits (inr is) = inr (value_misread depth (outermost bytes) 1 (Some nodes) bytes e fits (then_ok_err (value_of depth (Some nodes) bytes) (λ x. (x.0, x.2)) e is))
+decode_misread view depth nodes bytes (Err e) fits (inr is) = inr (value_misread depth (outermost bytes) 1 (Some nodes) bytes e fits
+    (then_ok_err (value_of depth (Some nodes) bytes) (λ x. (x.0, x.2)) e is))

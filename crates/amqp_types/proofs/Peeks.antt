@@ -1,5 +1,6 @@
 -- From the grammar to the outermost case.
-use Rattle.std.proofs.Common.{◌≡◌, ℕ, zero, suc, ◌+◌, ◌^◌, ◌<◌, ◌≤◌, ◌⊎◌, cond, eqb, false, true, List, [], ◌∷◌, ◌++◌, length, take, drop, Some, Ok, Err, Result, refl, sym, ap, subst, ◌∙◌, append_assoc, arith, inl, inr}
+use Rattle.std.proofs.Common.{◌≡◌, ℕ, zero, suc, ◌+◌, ◌^◌, ◌<◌, ◌≤◌, ◌⊎◌, cond, eqb, false, true, List, [], ◌∷◌, ◌++◌, length, take, drop, Some, Ok, Err, Result, refl, sym, ap, subst, ◌∙◌}
+use Rattle.std.proofs.Common.{append_assoc, arith, inl, inr}
 use Rattle.std.proofs.lemmas.List.{length-append, take_at, drop_at}
 use Rattle.byteorder.specs.Endian.{big_bytes}
 use Rattle.amqp_types.specs.declared.kind.Kind.{Kind}
@@ -41,7 +42,8 @@ SpellsBehind (ListIn s) t data_ = (ts : Trees) × (parts : List ℕ) × (t ≡ L
 SpellsBehind (MapIn s) t data_ = (ps : Pairs) × (t ≡ MapOf ps)
 SpellsBehind (ArrayIn s) t data_ = (ds : Trees) × (k : Kind) × (ts : Trees) × (t ≡ ArrayOf ds k ts)
 
-own_behind : (c d : Constructor) (t : Tree) (code own : ℕ) (data_ text : List ℕ) → find_code code ≡ Some c → code ∷ data_ ≡ own ∷ text → find_code own ≡ Some d → SpellsBehind d t text → SpellsBehind c t data_
+own_behind : (c d : Constructor) (t : Tree) (code own : ℕ) (data_ text : List ℕ) → find_code code ≡ Some c → code ∷ data_ ≡ own ∷ text → find_code own ≡ Some d → SpellsBehind d t text →
+    SpellsBehind c t data_
 own_behind c d t code own data_ text found e is spelled =
     let same = heads code own data_ text e in
     let con : c ≡ d = same_constructor code c d found (ap find_code same.0 ∙ is) in
@@ -57,7 +59,8 @@ behind c (MapOf ps) code data_ found h = own_behind c (MapIn h.1) (MapOf ps) cod
 behind c (ArrayOf ds k ts) code data_ found h = own_behind c (ArrayIn h.1) (ArrayOf ds k ts) code h.0 data_ h.6 found h.8 h.7 (ds, k, ts, refl)
 behind c (Described d t) code data_ found h = absurd (no_zero code c found (heads code 0 data_ (h.0 ++ h.1) h.2).0)
 
-pub map_or_array : (c : Constructor) (t : Tree) (code : ℕ) (data_ : List ℕ) → ((s : SizeWidth) × (c ≡ MapIn s)) ⊎ ((s : SizeWidth) × (c ≡ ArrayIn s)) → find_code code ≡ Some c → Spells t (code ∷ data_) → IsOther t
+pub map_or_array : (c : Constructor) (t : Tree) (code : ℕ) (data_ : List ℕ) → ((s : SizeWidth) × (c ≡ MapIn s)) ⊎ ((s : SizeWidth) × (c ≡ ArrayIn s)) → find_code code ≡ Some c →
+    Spells t (code ∷ data_) → IsOther t
 map_or_array c t code data_ (inl is) found spelled =
     let h = behind (MapIn is.0) t code data_ (found ∙ ap Some is.1) spelled in
     subst (λ (x : Tree). IsOther x) (sym h.1) tt
@@ -67,13 +70,16 @@ map_or_array c t code data_ (inr is) found spelled =
 
 -- ---- numbers
 
-number_read : (w : Window) (k : Kind) (f : Form) (bytes : List ℕ) (t : Tree) (data_ rest : List ℕ) (h : SpellsBehind (Fixed k f) t data_) → bytes ≡ data_ ++ rest → number_at w k f bytes ≡ Ok (h.0, rest)
+number_read : (w : Window) (k : Kind) (f : Form) (bytes : List ℕ) (t : Tree) (data_ rest : List ℕ) (h : SpellsBehind (Fixed k f) t data_) → bytes ≡ data_ ++ rest →
+    number_at w k f bytes ≡ Ok (h.0, rest)
 number_read w k f bytes t data_ rest h parts = ap (number_at w k f) parts ∙ number_again w k f h.0 data_ rest h.2 h.3
 
-pub no_number_err : (w : Window) (k : Kind) (f : Form) (bytes : List ℕ) (e : ReadFault) → number_at w k f bytes ≡ Err e → (t : Tree) (data_ rest : List ℕ) → SpellsBehind (Fixed k f) t data_ → bytes ≡ data_ ++ rest → ⊥
+pub no_number_err : (w : Window) (k : Kind) (f : Form) (bytes : List ℕ) (e : ReadFault) → number_at w k f bytes ≡ Err e → (t : Tree) (data_ rest : List ℕ) → SpellsBehind (Fixed k f) t data_ →
+    bytes ≡ data_ ++ rest → ⊥
 no_number_err w k f bytes e read t data_ rest h parts = no_ok e (h.0, rest) (sym read ∙ number_read w k f bytes t data_ rest h parts)
 
-pub number_is : (w : Window) (k : Kind) (f : Form) (bytes : List ℕ) (n : ℕ) (after : List ℕ) → number_at w k f bytes ≡ Ok (n, after) → (t : Tree) (data_ rest : List ℕ) → SpellsBehind (Fixed k f) t data_ → bytes ≡ data_ ++ rest → (t ≡ Number k n) × IsNumberOf k n
+pub number_is : (w : Window) (k : Kind) (f : Form) (bytes : List ℕ) (n : ℕ) (after : List ℕ) → number_at w k f bytes ≡ Ok (n, after) → (t : Tree) (data_ rest : List ℕ) →
+    SpellsBehind (Fixed k f) t data_ → bytes ≡ data_ ++ rest → (t ≡ Number k n) × IsNumberOf k n
 number_is w k f bytes n after read t data_ rest h parts =
     let same : n ≡ h.0 = ap (λ (x : ℕ × List ℕ). x.0) (same_ok (n, after) (h.0, rest) (sym read ∙ number_read w k f bytes t data_ rest h parts)) in
     (h.1 ∙ ap (Number k) (sym same), subst (λ (m : ℕ). IsNumberOf k m) (sym same) h.3)
@@ -111,7 +117,8 @@ other_number kind.Uint null boolean ubyte ushort uint ulong = absurd (uint refl)
 other_number kind.Ulong null boolean ubyte ushort uint ulong = absurd (ulong refl)
 other_number _ null boolean ubyte ushort uint ulong = tt
 
-pub other_case : (k : Kind) (f : Form) (t : Tree) (data_ : List ℕ) → (k ≡ kind.Null → ⊥) → (k ≡ kind.Boolean → ⊥) → (k ≡ kind.Ubyte → ⊥) → (k ≡ kind.Ushort → ⊥) → (k ≡ kind.Uint → ⊥) → (k ≡ kind.Ulong → ⊥) → SpellsBehind (Fixed k f) t data_ → IsOther t
+pub other_case : (k : Kind) (f : Form) (t : Tree) (data_ : List ℕ) → (k ≡ kind.Null → ⊥) → (k ≡ kind.Boolean → ⊥) → (k ≡ kind.Ubyte → ⊥) → (k ≡ kind.Ushort → ⊥) → (k ≡ kind.Uint → ⊥) →
+    (k ≡ kind.Ulong → ⊥) → SpellsBehind (Fixed k f) t data_ → IsOther t
 other_case k f t data_ null boolean ubyte ushort uint ulong h =
     subst (λ (x : Tree). IsOther x) (sym h.1) (other_number k null boolean ubyte ushort uint ulong)
 
@@ -127,24 +134,29 @@ few : (s : SizeWidth) (n : ℕ) → n < 256 ^ size_len s → n < 2 ^ 32
 few size.One n lt = omega arith
 few size.Four n lt = lt
 
-size_read : (w : Window) (k : Kind) (s : SizeWidth) (bytes : List ℕ) (t : Tree) (data_ rest : List ℕ) (h : SpellsBehind (Variable k s) t data_) → bytes ≡ data_ ++ rest → big_at w (size_len s) bytes ≡ Ok (length h.0, h.0 ++ rest)
+size_read : (w : Window) (k : Kind) (s : SizeWidth) (bytes : List ℕ) (t : Tree) (data_ rest : List ℕ) (h : SpellsBehind (Variable k s) t data_) → bytes ≡ data_ ++ rest →
+    big_at w (size_len s) bytes ≡ Ok (length h.0, h.0 ++ rest)
 size_read w k s bytes t data_ rest h parts =
     let front = big_bytes (size_len s) (length h.0) in
     ap (big_at w (size_len s)) (parts ∙ ap (λ (x : List ℕ). x ++ rest) h.2.1 ∙ append_assoc front h.0 rest) ∙ big_again w (size_len s) (length h.0) (h.0 ++ rest) h.2.0
 
-pub no_size_err : (w : Window) (k : Kind) (s : SizeWidth) (bytes : List ℕ) (e : ReadFault) → big_at w (size_len s) bytes ≡ Err e → (t : Tree) (data_ rest : List ℕ) → SpellsBehind (Variable k s) t data_ → bytes ≡ data_ ++ rest → ⊥
+pub no_size_err : (w : Window) (k : Kind) (s : SizeWidth) (bytes : List ℕ) (e : ReadFault) → big_at w (size_len s) bytes ≡ Err e → (t : Tree) (data_ rest : List ℕ) →
+    SpellsBehind (Variable k s) t data_ → bytes ≡ data_ ++ rest → ⊥
 no_size_err w k s bytes e read t data_ rest h parts = no_ok e _ (sym read ∙ size_read w k s bytes t data_ rest h parts)
 
-octets_read : (w : Window) (k : Kind) (s : SizeWidth) (bytes : List ℕ) (n : ℕ) (tail : List ℕ) → big_at w (size_len s) bytes ≡ Ok (n, tail) → (t : Tree) (data_ rest : List ℕ) (h : SpellsBehind (Variable k s) t data_) → bytes ≡ data_ ++ rest → octets_at w n tail ≡ Ok (h.0, rest)
+octets_read : (w : Window) (k : Kind) (s : SizeWidth) (bytes : List ℕ) (n : ℕ) (tail : List ℕ) → big_at w (size_len s) bytes ≡ Ok (n, tail) →
+    (t : Tree) (data_ rest : List ℕ) (h : SpellsBehind (Variable k s) t data_) → bytes ≡ data_ ++ rest → octets_at w n tail ≡ Ok (h.0, rest)
 octets_read w k s bytes n tail counted t data_ rest h parts =
     let read = same_ok (n, tail) (length h.0, h.0 ++ rest) (sym counted ∙ size_read w k s bytes t data_ rest h parts) in
     ap (λ (x : ℕ × List ℕ). octets_at w x.0 x.1) read ∙ octets_again w (length h.0) h.0 rest refl
 
-pub no_octets_err : (w : Window) (k : Kind) (s : SizeWidth) (bytes : List ℕ) (n : ℕ) (tail : List ℕ) (e : ReadFault) → big_at w (size_len s) bytes ≡ Ok (n, tail) → octets_at w n tail ≡ Err e → (t : Tree) (data_ rest : List ℕ) → SpellsBehind (Variable k s) t data_ → bytes ≡ data_ ++ rest → ⊥
+pub no_octets_err : (w : Window) (k : Kind) (s : SizeWidth) (bytes : List ℕ) (n : ℕ) (tail : List ℕ) (e : ReadFault) → big_at w (size_len s) bytes ≡ Ok (n, tail) → octets_at w n tail ≡ Err e →
+    (t : Tree) (data_ rest : List ℕ) → SpellsBehind (Variable k s) t data_ → bytes ≡ data_ ++ rest → ⊥
 no_octets_err w k s bytes n tail e counted taken t data_ rest h parts = no_ok e _ (sym taken ∙ octets_read w k s bytes n tail counted t data_ rest h parts)
 
 -- the bytes that are read are those of the value
-pub octets_are : (k j : Kind) → k ≡ j → (w : Window) (s : SizeWidth) (bytes : List ℕ) (n : ℕ) (tail octets after : List ℕ) → big_at w (size_len s) bytes ≡ Ok (n, tail) → octets_at w n tail ≡ Ok (octets, after)
+pub octets_are : (k j : Kind) → k ≡ j → (w : Window) (s : SizeWidth) (bytes : List ℕ) (n : ℕ) (tail octets after : List ℕ) → big_at w (size_len s) bytes ≡ Ok (n, tail) →
+    octets_at w n tail ≡ Ok (octets, after)
     → (t : Tree) (data_ rest : List ℕ) → SpellsBehind (Variable k s) t data_ → bytes ≡ data_ ++ rest → (t ≡ Octets j octets) × AreOctetsOf j octets × (length octets < 2 ^ 32)
 octets_are k j is w s bytes n tail octets after counted taken t data_ rest h parts =
     let read = octets_read w k s bytes n tail counted t data_ rest h parts in
@@ -162,22 +174,26 @@ list_block w s bytes t data_ rest h parts =
     let b = block_again w s (size_len s) (count_of h.0) h.1 data_ rest h.3 (omega arith) in
     (b.0, ap (block_at w s (size_len s)) parts ∙ b.1)
 
-pub no_block_err : (w : Window) (s : SizeWidth) (bytes : List ℕ) (e : ReadFault) → block_at w s (size_len s) bytes ≡ Err e → (t : Tree) (data_ rest : List ℕ) → SpellsBehind (ListIn s) t data_ → bytes ≡ data_ ++ rest → ⊥
+pub no_block_err : (w : Window) (s : SizeWidth) (bytes : List ℕ) (e : ReadFault) → block_at w s (size_len s) bytes ≡ Err e → (t : Tree) (data_ rest : List ℕ) → SpellsBehind (ListIn s) t data_ →
+    bytes ≡ data_ ++ rest → ⊥
 no_block_err w s bytes e read t data_ rest h parts =
     let b = list_block w s bytes t data_ rest h parts in
     no_ok e _ (sym read ∙ b.1)
 
-pub list_count : (w : Window) (s : SizeWidth) (bytes : List ℕ) (b : Block) → block_at w s (size_len s) bytes ≡ Ok b → (t : Tree) (data_ rest : List ℕ) (h : SpellsBehind (ListIn s) t data_) → bytes ≡ data_ ++ rest
+pub list_count : (w : Window) (s : SizeWidth) (bytes : List ℕ) (b : Block) → block_at w s (size_len s) bytes ≡ Ok b → (t : Tree) (data_ rest : List ℕ) (h : SpellsBehind (ListIn s) t data_) →
+    bytes ≡ data_ ++ rest
     → count_at b.within s false b.body ≡ Ok (count_of h.0, h.1)
 list_count w s bytes b read t data_ rest h parts =
     let found = list_block w s bytes t data_ rest h parts in
     let body : b.body ≡ big_bytes (size_len s) (count_of h.0) ++ h.1 = ap (λ (x : Block). x.body) (same_ok b _ (sym read ∙ found.1)) in
     ap (count_at b.within s false) body ∙ count_again b.within s false (count_of h.0) h.1 h.3.0 (λ e. absurd (let f : false ≡ true = e in cc))
 
-pub no_count_err : (w : Window) (s : SizeWidth) (bytes : List ℕ) (b : Block) (e : ReadFault) → block_at w s (size_len s) bytes ≡ Ok b → count_at b.within s false b.body ≡ Err e → (t : Tree) (data_ rest : List ℕ) → SpellsBehind (ListIn s) t data_ → bytes ≡ data_ ++ rest → ⊥
+pub no_count_err : (w : Window) (s : SizeWidth) (bytes : List ℕ) (b : Block) (e : ReadFault) → block_at w s (size_len s) bytes ≡ Ok b → count_at b.within s false b.body ≡ Err e →
+    (t : Tree) (data_ rest : List ℕ) → SpellsBehind (ListIn s) t data_ → bytes ≡ data_ ++ rest → ⊥
 no_count_err w s bytes b e read counted t data_ rest h parts = no_ok e _ (sym counted ∙ list_count w s bytes b read t data_ rest h parts)
 
-pub list_case : (w : Window) (s : SizeWidth) (bytes : List ℕ) (b : Block) (n : ℕ) (items : List ℕ) → block_at w s (size_len s) bytes ≡ Ok b → count_at b.within s false b.body ≡ Ok (n, items) → (t : Tree) (code : ℕ) (data_ rest : List ℕ) → SpellsBehind (ListIn s) t data_ → bytes ≡ data_ ++ rest
+pub list_case : (w : Window) (s : SizeWidth) (bytes : List ℕ) (b : Block) (n : ℕ) (items : List ℕ) → block_at w s (size_len s) bytes ≡ Ok b → count_at b.within s false b.body ≡ Ok (n, items) →
+    (t : Tree) (code : ℕ) (data_ rest : List ℕ) → SpellsBehind (ListIn s) t data_ → bytes ≡ data_ ++ rest
     → (ts : Trees) × (head : List ℕ) × (t ≡ ListOf ts) × (n ≡ count_of ts) × (◌≡◌ {A = List ℕ} (code ∷ data_) (head ++ items)) × SpellAll ts items
 list_case w s bytes b n items read counted t code data_ rest h parts =
     let same = same_ok (n, items) (count_of h.0, h.1) (sym counted ∙ list_count w s bytes b read t data_ rest h parts) in
@@ -201,7 +217,8 @@ skip_ends bytes r only t text rest h parts =
     only t text rest h (omega (arith, ap length parts, length-append text rest, depth_within t text h)) parts
 
 -- where as many bytes are in front as the first of two texts has
-pub two_parts : (n : ℕ) (bytes first tail front back : List ℕ) → ◌≡◌ {A = Result ℕ ReadFault} (Ok n) (Ok (length first)) → bytes ≡ first ++ tail → front ≡ take n bytes → back ≡ drop n bytes → (front ≡ first) × (back ≡ tail)
+pub two_parts : (n : ℕ) (bytes first tail front back : List ℕ) → ◌≡◌ {A = Result ℕ ReadFault} (Ok n) (Ok (length first)) → bytes ≡ first ++ tail → front ≡ take n bytes → back ≡ drop n bytes →
+    (front ≡ first) × (back ≡ tail)
 two_parts n bytes first tail front back is parts f b =
     let len : length first ≡ n = sym (same_ok n (length first) is) in
     (f ∙ ap (take n) parts ∙ take_at first tail n len, b ∙ ap (drop n) parts ∙ drop_at first tail n len)
@@ -212,7 +229,8 @@ two_parts n bytes first tail front back is parts f b =
 abbrev pub Opened : List ℕ → List ℕ → ℕ → List ℕ → Type 0
 Opened text rest code after = (c : Constructor) × (data_ : List ℕ) × (find_code code ≡ Some c) × (text ≡ code ∷ data_) × (after ≡ data_ ++ rest)
 
-opened : (text rest : List ℕ) (code : ℕ) (after : List ℕ) (own : ℕ) (c : Constructor) (data_ : List ℕ) → code ∷ after ≡ text ++ rest → find_code own ≡ Some c → text ≡ own ∷ data_ → Opened text rest code after
+opened : (text rest : List ℕ) (code : ℕ) (after : List ℕ) (own : ℕ) (c : Constructor) (data_ : List ℕ) → code ∷ after ≡ text ++ rest → find_code own ≡ Some c → text ≡ own ∷ data_ →
+    Opened text rest code after
 opened text rest code after own c data_ e found is =
     let same = heads code own after (data_ ++ rest) (e ∙ ap (λ (b : List ℕ). b ++ rest) is) in
     (c, data_, ap find_code same.0 ∙ found, is ∙ ap (λ (x : ℕ). x ∷ data_) (sym same.0), same.1)

@@ -1,5 +1,6 @@
 -- A fault stands within the bytes that are read, and where nothing is counted it is of the bytes alone.
-use Rattle.std.proofs.Common.{◌≡◌, ℕ, zero, suc, ◌+◌, ◌-◌, ◌/◌, ◌%◌, ◌≤◌, Bool, true, false, cond, ltb, eqb, ◌&&◌, not, is_some, List, [], ◌∷◌, length, take, drop, Option, Some, None, Result, Ok, Err, refl, sym, ap, subst, arith, inl, inr}
+use Rattle.std.proofs.Common.{◌≡◌, ℕ, zero, suc, ◌+◌, ◌-◌, ◌/◌, ◌%◌, ◌≤◌, Bool, true, false, cond, ltb, eqb, ◌&&◌, not, is_some, List, [], ◌∷◌, length, take, drop, Option, Some, None, Result, Ok, Err}
+use Rattle.std.proofs.Common.{refl, sym, ap, subst, arith, inl, inr}
 use Rattle.std.specs.Prelude.{IfErr}
 use Rattle.std.specs.Str.{is_utf8}
 use Rattle.std.specs.Str.Lossy.{utf8_valid_len}
@@ -25,7 +26,9 @@ use Rattle.amqp_types.specs.Decoding.{decoded}
 use Rattle.amqp_types.specs.Images.{has_key}
 use Rattle.amqp_types.specs.Kinds.{width, is_container}
 use Rattle.amqp_types.specs.Places.{place_of, IsPlain}
-use Rattle.amqp_types.specs.Reading.{Read, Part, Budget, Level, Block, Is, Gives, ◌>>=◌, after, unless, outermost, place, charge, behind, number_fault, is_beyond_ascii, octets_fault, octets_at, big_at, form_at, number_at, sized_at, block_of, block_at, count_at, trees_at, distinct, pairs_at, ended, allowed, head_at, list_at, map_at, array_at, uncharged, item_by, described_at, value_by, inside, value_of}
+use Rattle.amqp_types.specs.Reading.{Read, Part, Budget, Level, Block, Is, Gives, ◌>>=◌, after, unless, outermost, place, charge, behind, number_fault, is_beyond_ascii, octets_fault, octets_at}
+use Rattle.amqp_types.specs.Reading.{big_at, form_at, number_at, sized_at, block_of, block_at, count_at, trees_at, distinct, pairs_at, ended, allowed, head_at, list_at, map_at, array_at, uncharged}
+use Rattle.amqp_types.specs.Reading.{item_by, described_at, value_by, inside, value_of}
 use Rattle.amqp_types.specs.Spelling.{sign_extended, size_len}
 use Rattle.amqp_types.specs.Trees.{Tree, Number, Octets, Trees, none, more}
 
@@ -150,7 +153,8 @@ block_fares free w s least bytes o =
     (λ _. then_fares _ _ _ (octets_at w size.0 size.1) (λ parts. Ok (block_of w bytes parts)) (octets_fare free w size.0 size.1 (open_later free w bytes size.1 o less))
     (λ parts sum. block_inside free w bytes size.1 parts o less sum.1)))
 
-count_fares : (free : Type 0) (w : Window) (s : SizeWidth) (paired : Bool) (bytes : List ℕ) → IsOpen free w bytes → Fares (λ x. length x.1 ≤ length bytes) (Bounds free w.end) (count_at w s paired bytes)
+count_fares : (free : Type 0) (w : Window) (s : SizeWidth) (paired : Bool) (bytes : List ℕ) → IsOpen free w bytes → Fares (λ x. length x.1 ≤ length bytes) (Bounds free w.end)
+    (count_at w s paired bytes)
 unfolding count_at
 count_fares free w s paired bytes o =
     then_fares _ _ _ (big_at w (size_len s) bytes) (λ count. cond (paired && eqb (count.0 % 2) 1) (Err (BadCount (place w bytes))) (Ok count)) (big_fares free w (size_len s) bytes o)
@@ -168,7 +172,8 @@ not_some x e = absurd cc
 charge_fares : (free : Type 0) (end : ℕ) (budget : Budget) (n at : ℕ) → (free → budget ≡ None) → at ≤ end → Fares (λ left. free → left ≡ None) (Bounds free end) (charge budget n at)
 charge_fares free end None n at unlimited le = λ _. refl
 charge_fares free end (Some left) n at unlimited le =
-    choice_fares _ _ (ltb left n) (Err (TooManyNodes at)) (Ok (Some (left - n))) (λ _. record { within = le; plain = λ f. absurd (not_some left (unlimited f)) }) (λ _ f. absurd (not_some left (unlimited f)))
+    choice_fares _ _ (ltb left n) (Err (TooManyNodes at)) (Ok (Some (left - n))) (λ _. record { within = le; plain = λ f. absurd (not_some left (unlimited f)) })
+    (λ _ f. absurd (not_some left (unlimited f)))
 
 distinct_fares : {A : Type 0} (ok : A → Type 0) (free : Type 0) (end : ℕ) (budget : Budget) (seen : Trees) (key : Tree) (at : ℕ) (x : A) → (free → budget ≡ None) → at ≤ end → ok x
     → Fares ok (Bounds free end) (distinct budget seen key at x)
@@ -201,11 +206,14 @@ unfolding pairs_at
 pairs_fare free level fair zero seen w budget bytes o unlimited = omega arith
 pairs_fare free level fair (suc n) seen w budget bytes o unlimited =
     then_fares _ _ _ (level.value w 0 budget bytes) _ (fair.value 0 w budget bytes o unlimited)
-    (λ read first. then_fares (λ x. length x.2 ≤ length bytes) _ _ (distinct budget seen read.0 (place w bytes) read) _ (distinct_fares _ free w.end budget seen read.0 (place w bytes) read unlimited (omega arith) first)
-    (λ key less. then_fares _ _ _ (level.value w 0 (behind budget key.1) key.2) _ (fair.value 0 w (behind budget key.1) key.2 (open_later free w bytes key.2 o less) (still_none free budget key.1 unlimited))
+    (λ read first. then_fares (λ x. length x.2 ≤ length bytes) _ _ (distinct budget seen read.0 (place w bytes) read) _ (distinct_fares _ free w.end budget seen read.0 (place w bytes) read unlimited
+    (omega arith) first)
+    (λ key less. then_fares _ _ _ (level.value w 0 (behind budget key.1) key.2) _ (fair.value 0 w (behind budget key.1) key.2 (open_later free w bytes key.2 o less)
+    (still_none free budget key.1 unlimited))
     (λ value second. let le : length value.2 ≤ length bytes = omega (arith, less, second) in
     then_fares _ _ _ (pairs_at level (more key.0 seen) n w (behind budget value.1) value.2) _
-    (pairs_fare free level fair n (more key.0 seen) w (behind budget value.1) value.2 (open_later free w bytes value.2 o le) (still_none free budget value.1 unlimited)) (λ others rest. omega (arith, le, rest)))))
+    (pairs_fare free level fair n (more key.0 seen) w (behind budget value.1) value.2 (open_later free w bytes value.2 o le) (still_none free budget value.1 unlimited))
+    (λ others rest. omega (arith, le, rest)))))
 
 allowed_fares : (free : Type 0) (at end : ℕ) (holds : Bool) (o : Option Constructor) → at ≤ end → Fares (λ _. Unit {0}) (Bounds free end) (allowed at holds o)
 allowed_fares free at end holds None le = at_place free end (UnknownCode at) le tt
@@ -234,7 +242,8 @@ head_fares free level fair (suc fuel) w budget (code ∷ rest) o unlimited =
 -- ---- containers
 
 -- what follows the size of a block stays inside it
-inside_fares : {A : Type 0} (ok : A → Type 0) (free : Type 0) (w : Window) (bytes : List ℕ) (r : Result Block ReadFault) (f : Block → Result A ReadFault) → Fares (IsInside free w bytes) (Bounds free w.end) r
+inside_fares : {A : Type 0} (ok : A → Type 0) (free : Type 0) (w : Window) (bytes : List ℕ) (r : Result Block ReadFault) (f : Block → Result A ReadFault) →
+    Fares (IsInside free w bytes) (Bounds free w.end) r
     → ((block : Block) → IsInside free w bytes block → Fares ok (Bounds free block.within.end) (f block)) → Fares ok (Bounds free w.end) (r >>= f)
 inside_fares ok free w bytes (Ok block) f p q = wider ok free block.within.end w.end (f block) p.end (q block p)
 inside_fares ok free w bytes (Err e) f p q = p
@@ -244,7 +253,8 @@ unfolding list_at
 list_fares free level fair s w budget bytes o unlimited =
     inside_fares _ free w bytes (block_at w s (size_len s) bytes) _ (block_fares free w s (size_len s) bytes o)
     (λ block is. then_fares _ _ _ (count_at block.within s false block.body) _ (count_fares free block.within s false block.body is.opened)
-    (λ count less. then_fares _ _ _ (charge budget count.0 (place block.within block.body)) _ (charge_fares free block.within.end budget count.0 (place block.within block.body) unlimited (omega arith))
+    (λ count less. then_fares _ _ _ (charge budget count.0 (place block.within block.body)) _ (charge_fares free block.within.end budget count.0 (place block.within block.body) unlimited
+    (omega arith))
     (λ left uncounted. then_fares _ _ _ (trees_at (λ within. level.value within 0) count.0 block.within left count.1) _
     (trees_fare free (λ within. level.value within 0) (fair.value 0) count.0 block.within left count.1 (open_later free block.within block.body count.1 is.opened less) uncounted)
     (λ items _. ended_fares _ free block.within items.2 _ is.opened.short is.behind))))
@@ -254,7 +264,8 @@ unfolding map_at
 map_fares free level fair s w budget bytes o unlimited =
     inside_fares _ free w bytes (block_at w s (size_len s) bytes) _ (block_fares free w s (size_len s) bytes o)
     (λ block is. then_fares _ _ _ (count_at block.within s true block.body) _ (count_fares free block.within s true block.body is.opened)
-    (λ count less. then_fares _ _ _ (charge budget count.0 (place block.within block.body)) _ (charge_fares free block.within.end budget count.0 (place block.within block.body) unlimited (omega arith))
+    (λ count less. then_fares _ _ _ (charge budget count.0 (place block.within block.body)) _ (charge_fares free block.within.end budget count.0 (place block.within block.body) unlimited
+    (omega arith))
     (λ left uncounted. then_fares _ _ _ (pairs_at level none (count.0 / 2) block.within left count.1) _
     (pairs_fare free level fair (count.0 / 2) none block.within left count.1 (open_later free block.within block.body count.1 is.opened less) uncounted)
     (λ entries _. ended_fares _ free block.within entries.2 _ is.opened.short is.behind))))
@@ -264,11 +275,13 @@ unfolding array_at
 array_fares free level fair s w budget bytes o unlimited =
     inside_fares _ free w bytes (block_at w s (size_len s + 1) bytes) _ (block_fares free w s (size_len s + 1) bytes o)
     (λ block is. then_fares _ _ _ (count_at block.within s false block.body) _ (count_fares free block.within s false block.body is.opened)
-    (λ count less. then_fares _ _ _ (charge budget count.0 (place block.within block.body)) _ (charge_fares free block.within.end budget count.0 (place block.within block.body) unlimited (omega arith))
+    (λ count less. then_fares _ _ _ (charge budget count.0 (place block.within block.body)) _ (charge_fares free block.within.end budget count.0 (place block.within block.body) unlimited
+    (omega arith))
     (λ left uncounted. let later = open_later free block.within block.body count.1 is.opened less in
     then_fares _ _ _ (head_at (length count.1) level block.within left count.1) _ (head_fares free level fair (length count.1) block.within left count.1 later uncounted)
     (λ head lesser. then_fares _ _ _ (trees_at (level.item head.0.constructor) count.0 block.within (behind budget head.1) head.2) _
-    (trees_fare free (level.item head.0.constructor) (fair.item head.0.constructor) count.0 block.within (behind budget head.1) head.2 (open_later free block.within count.1 head.2 later lesser) (still_none free budget head.1 unlimited))
+    (trees_fare free (level.item head.0.constructor) (fair.item head.0.constructor) count.0 block.within (behind budget head.1) head.2 (open_later free block.within count.1 head.2 later lesser)
+    (still_none free budget head.1 unlimited))
     (λ items _. ended_fares _ free block.within items.2 _ is.opened.short is.behind)))))
 
 -- ---- every level
@@ -294,7 +307,8 @@ item_fares free (Some level) fair (ListIn s) w budget bytes o unlimited = list_f
 item_fares free (Some level) fair (MapIn s) w budget bytes o unlimited = map_fares free level fair s w budget bytes o unlimited
 item_fares free (Some level) fair (ArrayIn s) w budget bytes o unlimited = array_fares free level fair s w budget bytes o unlimited
 
-described_fares : (free : Type 0) (inner : Option Level) → AreFair free inner → (at : ℕ) (w : Window) (due : ℕ) (budget : Budget) (bytes : List ℕ) → IsOpen free w bytes → (free → budget ≡ None) → at ≤ w.end
+described_fares : (free : Type 0) (inner : Option Level) → AreFair free inner → (at : ℕ) (w : Window) (due : ℕ) (budget : Budget) (bytes : List ℕ) → IsOpen free w bytes → (free → budget ≡ None) →
+    at ≤ w.end
     → Fares (λ x. length x.2 ≤ length bytes) (Bounds free w.end) (described_at inner at w due budget bytes)
 unfolding described_at
 described_fares free None fair at w due budget bytes o unlimited le = at_place free w.end (TooDeep at) le tt
@@ -302,9 +316,11 @@ described_fares free (Some level) fair at w due budget bytes o unlimited le =
     then_fares _ _ _ (charge budget (due + 2) at) _ (charge_fares free w.end budget (due + 2) at unlimited le)
     (λ left uncounted. then_fares _ _ _ (level.value w 0 left bytes) _ (fair.value 0 w left bytes o uncounted)
     (λ descriptor less. then_fares _ _ _ (level.value w 0 (behind budget descriptor.1) descriptor.2) _
-    (fair.value 0 w (behind budget descriptor.1) descriptor.2 (open_later free w bytes descriptor.2 o less) (still_none free budget descriptor.1 unlimited)) (λ value lesser. omega (arith, less, lesser))))
+    (fair.value 0 w (behind budget descriptor.1) descriptor.2 (open_later free w bytes descriptor.2 o less) (still_none free budget descriptor.1 unlimited))
+    (λ value lesser. omega (arith, less, lesser))))
 
-one_more : {A : Type 0} (free : Type 0) (end code : ℕ) (rest : List ℕ) (r : Part A) → Fares (λ x. length x.2 ≤ length rest) (Bounds free end) r → Fares (λ x. length x.2 ≤ length (code ∷ rest)) (Bounds free end) r
+one_more : {A : Type 0} (free : Type 0) (end code : ℕ) (rest : List ℕ) (r : Part A) → Fares (λ x. length x.2 ≤ length rest) (Bounds free end) r →
+    Fares (λ x. length x.2 ≤ length (code ∷ rest)) (Bounds free end) r
 one_more free end code rest (Ok x) p = omega (arith, p)
 one_more free end code rest (Err e) p = p
 
@@ -330,7 +346,8 @@ outermost_open free bytes = record { short = at_place free (length bytes) (Trunc
 
 -- ---- calls
 
-pub decode_placed : {V : Type 0} (view : V → Tree × List ℕ) (depth nodes : ℕ) (bytes : List ℕ) (r : Result V ReadFault) → Gives view r (decoded depth nodes bytes) → IfErr r (λ e. place_of e ≤ length bytes)
+pub decode_placed : {V : Type 0} (view : V → Tree × List ℕ) (depth nodes : ℕ) (bytes : List ℕ) (r : Result V ReadFault) → Gives view r (decoded depth nodes bytes) →
+    IfErr r (λ e. place_of e ≤ length bytes)
 decode_placed view depth nodes bytes (Ok x) is = tt
 decode_placed view depth nodes bytes (Err e) (inl memory) = subst (λ (d : ReadFault). place_of d ≤ length bytes) (sym memory) (omega arith)
 decode_placed view depth nodes bytes (Err e) (inr is) =

@@ -47,7 +47,8 @@ boolean_spelled n lt = canonical_spells (Number kind.Boolean n) tt (λ e. absurd
 pub unsigned_spelled : (k : Kind) (n : ℕ) → IsUnsigned k → n < 256 ^ width k → Spells (Number k n) (canonical (Number k n))
 unsigned_spelled k n is lt = canonical_spells (Number k n) tt (unsigned_ranged k n is lt) tt
 
-octets_spelled : (k : Kind) (octets : List ℕ) → IsOfOctets k → ((i : ℕ) → slice_index octets i < 256) → AreOctetsOf k octets → length octets < 2 ^ 32 → Spells (Octets k octets) (canonical (Octets k octets))
+octets_spelled : (k : Kind) (octets : List ℕ) → IsOfOctets k → ((i : ℕ) → slice_index octets i < 256) → AreOctetsOf k octets → length octets < 2 ^ 32 →
+    Spells (Octets k octets) (canonical (Octets k octets))
 octets_spelled k octets is bytes of_kind few = canonical_spells (Octets k octets) tt (is, bytes, of_kind) (lt-ltb (length octets) (2 ^ 32) few)
 
 pub boolean_scalar : (b is_true : Bool) (value : Peek) → b ≡ is_true → value ≡ peek.Boolean b → IsScalarOf (Number kind.Boolean (cond is_true 1 0)) value
@@ -61,7 +62,8 @@ pub scalar_put : (r : Option ℕ) (value : Peek) (t : Tree) (old new : List ℕ)
 scalar_put None value t old new is spelled h = tt
 scalar_put (Some n) value t old new is spelled h = (t, is, spelled, h)
 
-pub octets_put : (r : Option ℕ) (value : Peek) (k : Kind) (octets old new : List ℕ) → IsOfOctets k → AreOctetsOf k octets → ((i : ℕ) → slice_index octets i < 256) → (length octets < 2 ^ 32 → IsScalarOf (Octets k octets) value)
+pub octets_put : (r : Option ℕ) (value : Peek) (k : Kind) (octets old new : List ℕ) → IsOfOctets k → AreOctetsOf k octets → ((i : ℕ) → slice_index octets i < 256) →
+    (length octets < 2 ^ 32 → IsScalarOf (Octets k octets) value)
     → IfSome r (λ n. length octets < 2 ^ 32) → IfSome r (IsPut (canonical (Octets k octets)) old new) → IfSome r (IsPutOf value old new)
 octets_put None value k octets old new is of_kind bytes scalar few h = tt
 octets_put (Some n) value k octets old new is of_kind bytes scalar few h = (Octets k octets, scalar few, octets_spelled k octets is bytes of_kind few, h)

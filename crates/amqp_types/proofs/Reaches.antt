@@ -1,5 +1,6 @@
 -- How far a value reaches does not depend on the window around it.
-use Rattle.std.proofs.Common.{◌≡◌, ℕ, zero, suc, ◌+◌, ◌-◌, ◌*◌, ◌%◌, ◌<◌, ◌≤◌, Bool, true, false, not, ◌&&◌, cond, eqb, List, [], ◌∷◌, length, take, drop, Option, Some, None, is_some, Result, Ok, Err, refl, sym, ap, subst, ◌∙◌, arith}
+use Rattle.std.proofs.Common.{◌≡◌, ℕ, zero, suc, ◌+◌, ◌-◌, ◌*◌, ◌%◌, ◌<◌, ◌≤◌, Bool, true, false, not, ◌&&◌, cond, eqb, List, [], ◌∷◌, length, take, drop, Option, Some, None, is_some, Result, Ok, Err}
+use Rattle.std.proofs.Common.{refl, sym, ap, subst, ◌∙◌, arith}
 use Rattle.std.proofs.lemmas.Bool.{le-ltb, lt-ltb, eq-eqb, ne_eqb, eqb-true}
 use Rattle.std.proofs.lemmas.List.{length-drop, length-take-le, drop-drop, drop_all}
 use Rattle.byteorder.specs.Endian.{big_number}
@@ -18,7 +19,8 @@ use Rattle.amqp_types.specs.Codes.{find_code, kind_of}
 use Rattle.amqp_types.specs.Kinds.{width, is_container, is_partial}
 use Rattle.amqp_types.specs.Trees.{Tree, Number, Octets, ListOf, Described}
 use Rattle.amqp_types.specs.Spelling.{form_len, size_len}
-use Rattle.amqp_types.specs.Reading.{Part, Level, Block, ◌>>=◌, after, place, allowed, octets_at, big_at, octets_fault, number_at, form_at, sized_at, block_at, block_of, count_at, trees_at, list_at, map_at, array_at, head_at, item_by, described_at, value_by}
+use Rattle.amqp_types.specs.Reading.{Part, Level, Block, ◌>>=◌, after, place, allowed, octets_at, big_at, octets_fault, number_at, form_at, sized_at, block_at, block_of, count_at, trees_at, list_at}
+use Rattle.amqp_types.specs.Reading.{map_at, array_at, head_at, item_by, described_at, value_by}
 use Rattle.amqp_types.specs.Skipping.{rest_of, is_still, plain_width, counted, IsBody, constructor_after}
 use Rattle.amqp_types.proofs.Skips.{rest_of_number}
 use Rattle.amqp_types.proofs.Walks.{after_step, first_ok, uncharged_rest, still_number, closes, map_after, array_after, head_code}
@@ -246,11 +248,15 @@ module _ (level : Level) (w : Window) (s : SizeWidth) (bytes : List ℕ) (count 
       let whole : length (code ∷ items) ≡ length (code ∷ items) - 0 = omega arith in
       let head = constructor_after (head_at (length (code ∷ items)) level block.within None (code ∷ items)) in
       let element : constructor_after (head_at (length (code ∷ items)) level block.within None (code ∷ items)) ≡ Ok (c, items) =
-      head_code level block.within (length (code ∷ items)) 0 code items head (omega arith) ne (subst (λ (k : ℕ). constructor_after (head_at k level block.within None (code ∷ items)) ≡ head) whole refl) ∙ rw (allowed_anywhere (place block.within (code ∷ items)) level.holds (find_code code) c e) refl in
-      array_after level w s bytes block count (code ∷ items) c items (Ok []) (block_is w s (size_len s + 1) bytes body.within more) (subst (λ (h : List ℕ). count_at block.within s false (counted s bytes) ≡ Ok (count, h)) is (count_is block.within s false bytes count parts body refl)) element all_read
+      head_code level block.within (length (code ∷ items)) 0 code items head (omega arith) ne
+      (subst (λ (k : ℕ). constructor_after (head_at k level block.within None (code ∷ items)) ≡ head) whole refl)
+      ∙ rw (allowed_anywhere (place block.within (code ∷ items)) level.holds (find_code code) c e) refl in
+      array_after level w s bytes block count (code ∷ items) c items (Ok []) (block_is w s (size_len s + 1) bytes body.within more)
+      (subst (λ (h : List ℕ). count_at block.within s false (counted s bytes) ≡ Ok (count, h)) is (count_is block.within s false bytes count parts body refl)) element all_read
       ∙ ap (λ (r : List ℕ). Ok r) (behind_body s bytes count parts body)
 
-  pub parts_rest : (paired : Bool) (n : ℕ) → length parts ≤ n → (paired && eqb (count % 2) 1) ≡ false → ((v : Window) → after (trees_at (λ within. level.value within 0) count v None parts) ≡ Ok (drop n parts))
+  pub parts_rest : (paired : Bool) (n : ℕ) → length parts ≤ n → (paired && eqb (count % 2) 1) ≡ false →
+      ((v : Window) → after (trees_at (λ within. level.value within 0) count v None parts) ≡ Ok (drop n parts))
       → after (cond paired (map_at level w s None bytes) (list_at level w s None bytes)) ≡ Ok (drop (2 * size_len s + length parts) bytes)
   parts_rest true n all even read = map_rest n all even read
   parts_rest false n all even read = list_rest n all read

@@ -1,5 +1,6 @@
 -- Skipping goes along with reading, step by step.
-use Rattle.std.proofs.Common.{◌≡◌, ℕ, zero, suc, ◌+◌, ◌-◌, ◌*◌, ◌/◌, ◌%◌, ◌<◌, ◌≤◌, Bool, true, false, cond, eqb, ◌&&◌, List, [], ◌∷◌, length, Option, None, Result, Ok, Err, refl, sym, ap, subst, ◌∙◌, arith}
+use Rattle.std.proofs.Common.{◌≡◌, ℕ, zero, suc, ◌+◌, ◌-◌, ◌*◌, ◌/◌, ◌%◌, ◌<◌, ◌≤◌, Bool, true, false, cond, eqb, ◌&&◌, List, [], ◌∷◌, length, Option, None, Result, Ok, Err, refl, sym, ap, subst, ◌∙◌}
+use Rattle.std.proofs.Common.{arith}
 use Rattle.std.proofs.lemmas.Bool.{eq-eqb, ne_eqb, eqb-true, eqb-false}
 use Rattle.amqp_types.specs.declared.kind.Kind.{Kind}
 use Rattle.amqp_types.specs.declared.kind.Kind.TheVariants as kind
@@ -13,7 +14,8 @@ use Rattle.amqp_types.specs.Codes.{find_code, kind_of}
 use Rattle.amqp_types.specs.Kinds.{width}
 use Rattle.amqp_types.specs.Trees.{Tree, Number, MapOf, ArrayOf, Trees, none, more, pair}
 use Rattle.amqp_types.specs.Spelling.{form_len}
-use Rattle.amqp_types.specs.Reading.{Read, Part, Budget, Level, Head, ◌>>=◌, after, place, allowed, octets_at, number_at, form_at, uncharged, trees_at, pairs_at, head_at, item_by, with_descriptor, Block, block_at, count_at, big_at, ended, map_at, array_at}
+use Rattle.amqp_types.specs.Reading.{Read, Part, Budget, Level, Head, ◌>>=◌, after, place, allowed, octets_at, number_at, form_at, uncharged, trees_at, pairs_at, head_at, item_by, with_descriptor}
+use Rattle.amqp_types.specs.Reading.{Block, block_at, count_at, big_at, ended, map_at, array_at}
 use Rattle.amqp_types.specs.declared.code.SizeWidth.{SizeWidth}
 use Rattle.amqp_types.specs.Spelling.{size_len}
 use Rattle.amqp_types.specs.Skipping.{constructor_after, rest_of, is_still}
@@ -255,7 +257,8 @@ head_parts x c rest e = (ap (λ (p : Constructor × List ℕ). p.0) (both (x.0.c
 
 head_then : (level : Level) (block : Block) (n : ℕ) (read : Part Head) (c : Constructor) (items : List ℕ) (total : Result (List ℕ) ReadFault)
     → constructor_after read ≡ Ok (c, items) → after (trees_at (level.item c) n block.within None items) ≡ total
-    → after (read >>= λ head. trees_at (level.item head.0.constructor) n block.within None head.2 >>= λ ts. ended block.within ts.2 (ArrayOf head.0.descriptors (kind_of head.0.constructor) ts.0, ts.1, block.behind)) ≡ closed block total
+    → after (read >>= λ head. trees_at (level.item head.0.constructor) n block.within None head.2 >>= λ ts. ended block.within ts.2
+    (ArrayOf head.0.descriptors (kind_of head.0.constructor) ts.0, ts.1, block.behind)) ≡ closed block total
 head_then level block n (Ok x) c items total e1 e2 =
     let p = head_parts x c items e1 in
     closes block (trees_at (level.item x.0.constructor) n block.within None x.2) (ArrayOf x.0.descriptors (kind_of x.0.constructor)) total

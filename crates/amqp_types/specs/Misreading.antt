@@ -1,6 +1,6 @@
 -- What is wrong with the front of bytes, in the words of the spelling: up to a place the parts are spelled as
 -- values are, and what stands there has the fault. What a spelling is comes from [1.2]; the names, the places
--- and the order of the faults are this profile's own (docs/PROTOCOL.md).
+-- and the order of the faults are our own (docs/PROTOCOL.md).
 use Rattle.std.specs.Prelude.{◌≡◌, ◌≢◌, ℕ, suc, ◌+◌, ◌-◌, ◌%◌, ◌/◌, ◌<◌, ◌≤◌, ◌⊎◌, true, List, [], ◌∷◌, ◌++◌, length, take, slice_index, Some, None}
 use Rattle.std.specs.Str.{IsAscii, IsValidUpTo}
 use Rattle.byteorder.specs.Endian.{big_number}
@@ -200,13 +200,16 @@ pub data Misread : Sought → ℕ → Window → Budget → List ℕ → ReadFau
   too_small : {c : Constructor} {depth : ℕ} {w : Window} {budget : Budget} {bytes : List ℕ} → IsTooSmall c bytes
       → Misread (DataOf c) (suc depth) w budget bytes (BadSize (place w bytes))
   -- a map has a key without a value
-  odd_count : {s : SizeWidth} {depth : ℕ} {w : Window} {budget : Budget} {bytes : List ℕ} (count : ℕ) (parts : List ℕ) (within : Window) (at : ℕ) → IsBlockOf w s count parts bytes within at → count % 2 ≡ 1
+  odd_count : {s : SizeWidth} {depth : ℕ} {w : Window} {budget : Budget} {bytes : List ℕ} (count : ℕ) (parts : List ℕ) (within : Window) (at : ℕ) → IsBlockOf w s count parts bytes within at →
+      count % 2 ≡ 1
       → Misread (DataOf (MapIn s)) (suc depth) w budget bytes (BadCount at)
   -- fewer nodes are left than the count
-  too_many_parts : {c : Constructor} {depth : ℕ} {w : Window} {budget : Budget} {bytes : List ℕ} (s : SizeWidth) (count : ℕ) (parts : List ℕ) (within : Window) (at : ℕ) → IsHolder c s count parts → IsBlockOf w s count parts bytes within at → IsShort budget count
+  too_many_parts : {c : Constructor} {depth : ℕ} {w : Window} {budget : Budget} {bytes : List ℕ} (s : SizeWidth) (count : ℕ) (parts : List ℕ) (within : Window) (at : ℕ) → IsHolder c s count parts →
+      IsBlockOf w s count parts bytes within at → IsShort budget count
       → Misread (DataOf c) (suc depth) w budget bytes (TooManyNodes at)
   -- the parts are bad
-  bad_parts : {c : Constructor} {depth : ℕ} {w : Window} {budget : Budget} {bytes : List ℕ} {fault : ReadFault} (s : SizeWidth) (count : ℕ) (parts : List ℕ) (within : Window) (at : ℕ) → IsHolder c s count parts → IsBlockOf w s count parts bytes within at → Enough budget count
+  bad_parts : {c : Constructor} {depth : ℕ} {w : Window} {budget : Budget} {bytes : List ℕ} {fault : ReadFault} (s : SizeWidth) (count : ℕ) (parts : List ℕ) (within : Window) (at : ℕ) →
+      IsHolder c s count parts → IsBlockOf w s count parts bytes within at → Enough budget count
       → Misread (parts_of c count) depth within (spend budget count) parts fault
       → Misread (DataOf c) (suc depth) w budget bytes fault
   -- the first value is bad, or it is spelled and a later one is bad

@@ -17,6 +17,8 @@ mod memory;
 #[cfg(test)]
 mod scripts;
 #[cfg(test)]
+mod serving;
+#[cfg(test)]
 mod settling;
 #[cfg(test)]
 mod shown;

@@ -3,7 +3,9 @@ ghost use Rattle.std.specs.Prelude.{◌≡◌};
 
 use crate::case::Case;
 use amqp_link::{LinkBounds, MAX_ALLOWED};
-use amqp_perform::{Attach, Outcome, ReceiverSettleMode, Role, SenderSettleMode, Transfer};
+use amqp_perform::{
+    Attach, Outcome, Performative, ReceiverSettleMode, Role, SenderSettleMode, Transfer,
+};
 use amqp_session::{CallFault, News, Session, SessionFault, SessionTerms};
 use std::alloc::Global;
 
@@ -83,7 +85,8 @@ fn whole(handle: u32, id: u32) -> Transfer<'static> {
 /// A delivery comes and is handed up. Answers how long it was.
 fn arrive(session: &mut Session, handle: u32, id: u32, payload: &[u8]) -> Result<u64, Stopped> {
     session.grant(handle, 1)?;
-    match session.transfer(&whole(handle, id), payload)? {
+    let done = session.frame(&Performative::Transfer(whole(handle, id)), payload)?;
+    match done.news {
         News::Ready { .. } => {}
         _ => return Err(Stopped::Link),
     }

@@ -1,5 +1,5 @@
 //! Tests of `amqp_session` from outside, over the bytes of frames. They stand apart, since a crate is proved again with
-//! its tests. The library itself is empty.
+//! its tests; the one that must see private fields stands in `amqp_session`. The library itself is empty.
 #![tactic(auto)]
 
 #[cfg(test)]

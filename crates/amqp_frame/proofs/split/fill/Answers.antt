@@ -1,13 +1,15 @@
-use Rattle.std.proofs.Common.{arith}
-use Rattle.amqp_frame.proofs.Fronts.{taken_more, length_rest}
+use Rattle.std.proofs.Common.{inl, vec_capacity, arith}
+use Rattle.amqp_frame.proofs.Fronts.{whole_one, whole_sound}
 use Rattle.amqp_frame.proofs.split.fill.Goals as goal
 
-pub loop-taken-preserved : goal.loop-taken-preserved
-loop-taken-preserved g c = record {
-  bound = let l = c.fill_once-count.ensures.bound in omega (arith, length_rest c.args.piece.now c.loop-taken.taken);
-  filled =
-      taken_more c.args.bytes.now.items c.loop-taken.bytes.items c.fill_once-count.new.bytes.items c.args.piece.now c.loop-taken.taken c.fill_once-count.result
-      c.loop-taken.invariant.filled c.fill_once-count.ensures.filled;
-  held = c.fill_once-count.ensures.held;
-  room = c.fill_once-count.ensures.room;
-}
+pub returns-in-Some-clause-sound : goal.returns-in-Some-clause-sound
+returns-in-Some-clause-sound g c =
+    whole_sound c.args.max c.args.stage c.args.bytes.now.items c.args.piece.now c.extend_from_slice.new.self.items c.in-Some.size
+    (vec_capacity c.extend_from_slice.new.self) c.requires.least (let k = c.extend_from_slice.ensures.capacity in let r = c.requires.room in omega arith)
+    (rw c.as_slice.ensures.value at c.in-Some.ensures) (rw c.unwrap.ensures at c.extend_from_slice.ensures.items)
+
+pub returns-in-Some-clause-all : goal.returns-in-Some-clause-all
+returns-in-Some-clause-all g c = λ short.
+    inl
+    (whole_one c.args.max c.args.stage c.args.bytes.now.items c.args.piece.now c.extend_from_slice.new.self.items c.in-Some.size
+    (rw c.as_slice.ensures.value at c.in-Some.ensures) (rw c.unwrap.ensures at c.extend_from_slice.ensures.items))

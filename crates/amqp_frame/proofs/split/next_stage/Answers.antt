@@ -17,7 +17,7 @@ returns-else-eq c =
     rw c.in-Header.is (next_header c.args.max c.args.bytes.now Refused (rw c.in-Header.is at c.requires.held) c.if-bytes-lt8.false (ap (λ b. cond b Frames Refused) (sym other)))
 
 pub returns-in-Whole : goal.returns-in-Whole
-returns-in-Whole c = rw c.in-Frames.is (FrameUnit c.args.bytes.now, record { is = c.in-Whole.ensures; whole = refl }, refl)
+returns-in-Whole c = rw c.in-Frames.is (FrameUnit c.args.bytes.now, record { is = rw (c.in-Frames.is, c.in-Whole.is) at c.requires.judged; whole = refl }, refl)
 
 pub returns-in-Fails : goal.returns-in-Fails
-returns-in-Fails c = rw c.in-Frames.is (FaultUnit c.in-Fails.fault c.args.bytes.now, record { is = c.in-Fails.ensures; whole = refl }, refl)
+returns-in-Fails c = rw c.in-Frames.is (FaultUnit c.in-Fails.fault c.args.bytes.now, record { is = rw (c.in-Frames.is, c.in-Fails.is) at c.requires.judged; whole = refl }, refl)

@@ -12,7 +12,8 @@ abbrev Counted : ℕ → List ℕ → ℕ → ℕ → Type 0
 Counted max input count behind =
     (us : List StreamUnit) × (rest : List ℕ) × Units max input us rest × (count ≡ length us) × (behind ≡ length rest)
 
-ends : (max : ℕ) (s : SplitterState) (us : List StreamUnit) (input : List ℕ) (at count : ℕ) → s.limit ≡ max → IsHeld s.limit s.stage s.filled → (IsOne s.limit s.stage s.filled → ⊥) → (0 < length (drop at input) → TakesNothing s) → WentBy s us (take at input) → count ≡ length us → Counted max input count (length s.filled + (length input - at))
+ends : (max : ℕ) (s : SplitterState) (us : List StreamUnit) (input : List ℕ) (at count : ℕ) → s.limit ≡ max → IsHeld s.limit s.stage s.filled → (IsOne s.limit s.stage s.filled → ⊥) →
+    (0 < length (drop at input) → TakesNothing s) → WentBy s us (take at input) → count ≡ length us → Counted max input count (length s.filled + (length input - at))
 ends max s us input at count limit held none full went e =
     let all = reading_ends s us (take at input) (drop at input) held (λ u w. none (record { unit = u; stands = w })) full went in
     let reading : Units max input us (s.filled ++ drop at input) =
@@ -33,7 +34,8 @@ some_pushed old s rest n e f o =
     let q = ap length (sym o.stands.whole ∙ f) in
     omega (arith, length-append old (take n rest), length-take n rest, ap length e)
 
-went_more : (s : SplitterState) (us : List StreamUnit) (input : List ℕ) (at n : ℕ) → WentBy s us (take at input ++ take n (take (length input - at) (drop at input))) → WentBy s us (take (at + n) input)
+went_more : (s : SplitterState) (us : List StreamUnit) (input : List ℕ) (at n : ℕ) → WentBy s us (take at input ++ take n (take (length input - at) (drop at input))) →
+    WentBy s us (take (at + n) input)
 went_more s us input at n w = subst (λ (t : List ℕ). WentBy s us t) (taken_more [] (take at input) (take at input ++ take n (take (length input - at) (drop at input))) input at n refl refl) w
 
 pub loop-at-preserved : goal.loop-at-preserved

@@ -27,7 +27,8 @@ returns-then-place-lt-FRAME_HEADER c =
 
 pub returns-then-bytes-ne0 : goal.returns-then-bytes-ne0
 returns-then-bytes-ne0 c =
-    fails_type c.args.max c.args.bytes.now c.requires.least c.requires.held (omega arith) (record { least = omega arith; most = omega arith }) (record { least = omega arith; within = omega arith }) (omega arith)
+    fails_type c.args.max c.args.bytes.now c.requires.least c.requires.held (omega arith) (record { least = omega arith; most = omega arith }) (record { least = omega arith; within = omega arith })
+    (omega arith)
 
 pub returns-then-bytes-size : goal.returns-then-bytes-size
 returns-then-bytes-size c =

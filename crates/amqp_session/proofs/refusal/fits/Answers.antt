@@ -16,7 +16,17 @@ returns-then-room-ge-MAX_REPLY c =
 
 pub returns : goal.returns
 returns c =
-    let spoken = c.accepted-reply.ensures c.args.terms.now.bounds.max_message_size (attaching c.args.attach.now) (c.ulong-spelled.ensures ∙ ap (λ n. canonical (Number kind.Ulong n)) c.max_message_size.ensures) (record { name_is = refl; source_is = refl; target_is = refl; handle_is = ap (λ m. m.handle) c.of.ensures; role_is = ap (λ m. m.role) c.of.ensures; sender_is = ap (λ m. m.snd_settle_mode) c.of.ensures; receiver_is = ap (λ m. m.rcv_settle_mode) c.of.ensures }) in
+    let spoken = c.accepted-reply.ensures c.args.terms.now.bounds.max_message_size (attaching c.args.attach.now) (c.ulong-spelled.ensures
+    ∙ ap (λ n. canonical (Number kind.Ulong n)) c.max_message_size.ensures) (record {
+      name_is = refl;
+      source_is = refl;
+      target_is = refl;
+      handle_is = ap (λ m. m.handle) c.of.ensures;
+      role_is = ap (λ m. m.role) c.of.ensures;
+      sender_is = ap (λ m. m.snd_settle_mode) c.of.ensures;
+      receiver_is = ap (λ m. m.rcv_settle_mode) c.of.ensures;
+    }) in
     let short = reply_short c.args.terms.now.bounds.max_message_size (attaching c.args.attach.now) c.requires.name c.requires.ends in
-    fits_is c.is_written.result (said_frame 0 (said (performative.Attach c.accepted-reply.result)) []) c.args.terms.now.max_frame_size c.is_written.ensures (omega (arith, short, ap (λ (s : Said). length (said_frame 0 s [])) spoken))
+    fits_is c.is_written.result (said_frame 0 (said (performative.Attach c.accepted-reply.result)) []) c.args.terms.now.max_frame_size c.is_written.ensures
+    (omega (arith, short, ap (λ (s : Said). length (said_frame 0 s [])) spoken))
     ∙ ap (λ (s : Said). not (nat_lt c.args.terms.now.max_frame_size (length (said_frame 0 s [])))) spoken

@@ -6,5 +6,16 @@ use Rattle.amqp_session.proofs.replies.write_attach_reply.Goals as goal
 
 pub returns : goal.returns
 returns c =
-    let spoken = c.accepted-reply.ensures c.args.longest (attaching c.args.attach.now) c.ulong-spelled.ensures (record { name_is = refl; source_is = refl; target_is = refl; handle_is = ap (λ m. m.handle) c.of.ensures; role_is = ap (λ m. m.role) c.of.ensures; sender_is = ap (λ m. m.snd_settle_mode) c.of.ensures; receiver_is = ap (λ m. m.rcv_settle_mode) c.of.ensures }) in
-    subst (λ (s : Said). IsWritten (said_frame c.args.channel s []) c.write_frame.result c.args.out.now c.write_frame.new.out) spoken (record { written = c.write_frame.ensures.written; fits = c.write_frame.ensures.fits; unchanged = c.write_frame.ensures.unchanged })
+    let spoken = c.accepted-reply.ensures c.args.longest (attaching c.args.attach.now) c.ulong-spelled.ensures
+    (record {
+      name_is = refl;
+      source_is = refl;
+      target_is = refl;
+      handle_is = ap (λ m. m.handle) c.of.ensures;
+      role_is = ap (λ m. m.role) c.of.ensures;
+      sender_is =
+          ap (λ m. m.snd_settle_mode) c.of.ensures;
+      receiver_is = ap (λ m. m.rcv_settle_mode) c.of.ensures;
+    }) in
+    subst (λ (s : Said). IsWritten (said_frame c.args.channel s []) c.write_frame.result c.args.out.now c.write_frame.new.out) spoken
+    (record { written = c.write_frame.ensures.written; fits = c.write_frame.ensures.fits; unchanged = c.write_frame.ensures.unchanged })

@@ -13,4 +13,5 @@ pub spell_heads-returns-in_err-spell-clause-err : goal.spell_heads-returns-in_er
 spell_heads-returns-in_err-spell-clause-err t c =
     let p = err_from_is_err_and c.from_residual-in_err-spell.result c.from_residual-in_err-spell.ensures.1 in
     rw (p.1, p.2, ← c.deref-descriptor-items.ensures.value)
-    (unfit_item _ c.loop-descriptor.descriptor-index c.deref-descriptor-items.result.now c.descriptor-item.result (omega arith) c.descriptor-item.is c.loop-descriptor.invariant.rest c.in_err-spell.ensures.err)
+    (unfit_item _ c.loop-descriptor.descriptor-index c.deref-descriptor-items.result.now c.descriptor-item.result (omega arith) c.descriptor-item.is c.loop-descriptor.invariant.rest
+    c.in_err-spell.ensures.err)

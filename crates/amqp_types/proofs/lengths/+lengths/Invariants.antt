@@ -25,5 +25,6 @@ decreases-values_len l = 8 * l.depth + 4
 abbrev pub invariant-values_len-loop : goal.invariant-values_len-loop
 invariant-values_len-loop l = record {
   within : l.at ≤ length l.bytes;
-  same : (w : Window) → after (trees_at (λ within. value_by (inside l.depth) within 0) (l.count - l.counter) w None (drop l.at l.bytes)) ≡ after (trees_at (λ within. value_by (inside l.depth) within 0) l.count w None l.bytes);
+  same : (w : Window) → after (trees_at (λ within. value_by (inside l.depth) within 0) (l.count - l.counter) w None (drop l.at l.bytes)) ≡ after
+      (trees_at (λ within. value_by (inside l.depth) within 0) l.count w None l.bytes);
 }

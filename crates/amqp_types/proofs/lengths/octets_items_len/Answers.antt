@@ -13,8 +13,10 @@ loop-preserved c =
       within = omega (arith, one.within, length-drop c.loop.at c.args.bytes.now, c.loop.invariant.within);
       same = λ inner w.
           let item = octets_item inner w c.args.kind c.args.size c.args.bytes.now c.loop.at c.in_ok-at.field-0 (one.read w) in
-          goes_on (item_by inner (Variable c.args.kind c.args.size)) w c.args.count c.loop.counter (drop c.loop.at c.args.bytes.now) (drop (c.loop.at + c.in_ok-at.field-0) c.args.bytes.now) _ c.loop-test.true item (c.loop.invariant.same inner w);
+          goes_on (item_by inner (Variable c.args.kind c.args.size)) w c.args.count c.loop.counter (drop c.loop.at c.args.bytes.now)
+          (drop (c.loop.at + c.in_ok-at.field-0) c.args.bytes.now) _ c.loop-test.true item (c.loop.invariant.same inner w);
     }
 
 pub returns-clause-read : goal.returns-clause-read
-returns-clause-read c = λ inner w. is_done (item_by inner (Variable c.args.kind c.args.size)) w c.args.count c.loop.counter (drop c.loop.at c.args.bytes.now) _ c.loop-test.false (c.loop.invariant.same inner w)
+returns-clause-read c = λ inner w. is_done (item_by inner (Variable c.args.kind c.args.size)) w c.args.count c.loop.counter (drop c.loop.at c.args.bytes.now) _ c.loop-test.false
+    (c.loop.invariant.same inner w)

@@ -7,5 +7,6 @@ use Rattle.amqp_types.proofs.lengths.octets_items_len.Given as goal
 abbrev pub invariant-loop : goal.invariant-loop
 invariant-loop l = record {
   within : l.at ≤ length l.bytes;
-  same : (inner : Option Level) (w : Window) → after (trees_at (item_by inner (Variable l.kind l.size)) (l.count - l.counter) w None (drop l.at l.bytes)) ≡ after (trees_at (item_by inner (Variable l.kind l.size)) l.count w None l.bytes);
+  same : (inner : Option Level) (w : Window) → after (trees_at (item_by inner (Variable l.kind l.size)) (l.count - l.counter) w None (drop l.at l.bytes)) ≡ after
+      (trees_at (item_by inner (Variable l.kind l.size)) l.count w None l.bytes);
 }

@@ -36,5 +36,6 @@ returns-in_err-len c = λ t code data_ rest found_code spelled parts.
 
 pub returns-in_err-octets : goal.returns-in_err-octets
 returns-in_err-octets c = λ t code data_ rest found_code spelled parts.
-    absurd (no_octets_err c.args.w c.args.kind c.args.size c.args.bytes.now c.in_ok-len.len c.in_ok-len.rest.now _ (rw c.size_len.ensures at c.in_ok-len.ensures.read) c.in_err-octets.ensures.read t data_ rest
+    absurd (no_octets_err c.args.w c.args.kind c.args.size c.args.bytes.now c.in_ok-len.len c.in_ok-len.rest.now _ (rw c.size_len.ensures at c.in_ok-len.ensures.read) c.in_err-octets.ensures.read t
+    data_ rest
     (behind (Variable c.args.kind c.args.size) t code data_ found_code spelled) parts)

@@ -11,13 +11,15 @@ skip_array-returns-in_err-ended-clause-read t c =
     rw (
       p.1,
       p.2,
-      array_after (level_by (inside c.args.depth)) c.args.w c.args.size c.args.bytes.now _ c.in_ok-count.count c.in_ok-count.head.now c.in_ok-constructor.constructor c.in_ok-constructor.items.now (Ok c.in_ok-rest.rest.now)
+      array_after (level_by (inside c.args.depth)) c.args.w c.args.size c.args.bytes.now _ c.in_ok-count.count c.in_ok-count.head.now c.in_ok-constructor.constructor c.in_ok-constructor.items.now
+          (Ok c.in_ok-rest.rest.now)
           (rw c.size_len.ensures at c.in_ok-block.ensures.read) c.in_ok-count.ensures.read c.in_ok-constructor.ensures.read c.in_ok-rest.ensures.read,
     ) (search rules)
 
 pub skip_array-returns-clause-read : goal.skip_array-returns-clause-read
 skip_array-returns-clause-read t c =
-    rw (array_after (level_by (inside c.args.depth)) c.args.w c.args.size c.args.bytes.now _ c.in_ok-count.count c.in_ok-count.head.now c.in_ok-constructor.constructor c.in_ok-constructor.items.now (Ok c.in_ok-rest.rest.now)
+    rw (array_after (level_by (inside c.args.depth)) c.args.w c.args.size c.args.bytes.now _ c.in_ok-count.count c.in_ok-count.head.now c.in_ok-constructor.constructor c.in_ok-constructor.items.now
+    (Ok c.in_ok-rest.rest.now)
     (rw c.size_len.ensures at c.in_ok-block.ensures.read) c.in_ok-count.ensures.read c.in_ok-constructor.ensures.read c.in_ok-rest.ensures.read) (search rules)
 
 pub skip_map-returns-in_err-rest-clause-read : goal.skip_map-returns-in_err-rest-clause-read
@@ -54,26 +56,30 @@ pub skip_head-returns-in_err-allowed-clause-read : goal.skip_head-returns-in_err
 skip_head-returns-in_err-allowed-clause-read t c =
     let p = err_from_is_err_and c.from_residual.result c.from_residual.ensures.1 in
     let parts : c.loop.rest.now ≡ c.in-Some.code.now ∷ c.in-Some.after.now = search rules in
-    let step = head_code (level_by (inside c.args.depth)) c.args.w (length c.args.bytes.now) c.loop.counter c.in-Some.code.now c.in-Some.after.now _ c.loop-test.true c.if-code-ne0.true (rw parts at c.loop.invariant.same) in
+    let step = head_code (level_by (inside c.args.depth)) c.args.w (length c.args.bytes.now) c.loop.counter c.in-Some.code.now c.in-Some.after.now _ c.loop-test.true c.if-code-ne0.true
+    (rw parts at c.loop.invariant.same) in
     rw (p.1, p.2, step) (search rules)
 
 pub skip_head-returns-then-code-ne0-clause-read : goal.skip_head-returns-then-code-ne0-clause-read
 skip_head-returns-then-code-ne0-clause-read t c =
     let parts : c.loop.rest.now ≡ c.in-Some.code.now ∷ c.in-Some.after.now = search rules in
-    let step = head_code (level_by (inside c.args.depth)) c.args.w (length c.args.bytes.now) c.loop.counter c.in-Some.code.now c.in-Some.after.now _ c.loop-test.true c.if-code-ne0.true (rw parts at c.loop.invariant.same) in
+    let step = head_code (level_by (inside c.args.depth)) c.args.w (length c.args.bytes.now) c.loop.counter c.in-Some.code.now c.in-Some.after.now _ c.loop-test.true c.if-code-ne0.true
+    (rw parts at c.loop.invariant.same) in
     step ∙ search rules
 
 pub skip_head-returns-in_err-rest-clause-read : goal.skip_head-returns-in_err-rest-clause-read
 skip_head-returns-in_err-rest-clause-read t c =
     let p = err_from_is_err_and c.from_residual-in_err-rest.result c.from_residual-in_err-rest.ensures.1 in
     let parts : c.loop.rest.now ≡ c.in-Some.code.now ∷ c.in-Some.after.now = search rules in
-    rw (p.1, p.2) (head_err (level_by (inside c.args.depth)) c.args.w (length c.args.bytes.now) c.loop.counter c.in-Some.code.now c.in-Some.after.now _ _ c.loop-test.true c.if-code-ne0.false c.in_err-rest.ensures.read (rw parts at c.loop.invariant.same))
+    rw (p.1, p.2) (head_err (level_by (inside c.args.depth)) c.args.w (length c.args.bytes.now) c.loop.counter c.in-Some.code.now c.in-Some.after.now _ _ c.loop-test.true c.if-code-ne0.false
+    c.in_err-rest.ensures.read (rw parts at c.loop.invariant.same))
 
 pub skip_head-loop-preserved : goal.skip_head-loop-preserved
 skip_head-loop-preserved t c =
     let parts : c.loop.rest.now ≡ c.in-Some.code.now ∷ c.in-Some.after.now = search rules in
     record {
-      same = head_more (level_by (inside c.args.depth)) c.args.w (length c.args.bytes.now) c.loop.counter c.in-Some.code.now c.in-Some.after.now c.in_ok-rest.rest.now _ c.loop-test.true c.if-code-ne0.false c.in_ok-rest.ensures.read (rw parts at c.loop.invariant.same);
+      same = head_more (level_by (inside c.args.depth)) c.args.w (length c.args.bytes.now) c.loop.counter c.in-Some.code.now c.in-Some.after.now c.in_ok-rest.rest.now _ c.loop-test.true
+          c.if-code-ne0.false c.in_ok-rest.ensures.read (rw parts at c.loop.invariant.same);
       shorter = omega (arith, c.in_ok-rest.ensures.rest, c.loop.invariant.shorter, ap length parts);
       end_is = refl;
     }
@@ -84,7 +90,8 @@ skip_head-returns-clause-read t c =
 
 pub skip_items-returns-then-is_still-clause-read : goal.skip_items-returns-then-is_still-clause-read
 skip_items-returns-then-is_still-clause-read t c =
-    stays (item_by (inside c.args.depth) c.args.constructor) c.args.w c.args.count c.args.bytes.now (still_item (inside c.args.depth) c.args.constructor c.args.w c.args.bytes.now (sym c.is_still.ensures ∙ c.if-is_still.true))
+    stays (item_by (inside c.args.depth) c.args.constructor) c.args.w c.args.count c.args.bytes.now (still_item (inside c.args.depth) c.args.constructor c.args.w c.args.bytes.now
+    (sym c.is_still.ensures ∙ c.if-is_still.true))
 
 pub skip_items-returns-in_err-rest-clause-read : goal.skip_items-returns-in_err-rest-clause-read
 skip_items-returns-in_err-rest-clause-read t c =
@@ -93,7 +100,8 @@ skip_items-returns-in_err-rest-clause-read t c =
 
 pub skip_items-loop-preserved : goal.skip_items-loop-preserved
 skip_items-loop-preserved t c = record {
-  same = goes_on (item_by (inside c.args.depth) c.args.constructor) c.args.w c.args.count c.loop.counter c.loop.rest.now c.in_ok-rest.rest.now _ c.loop-test.true c.in_ok-rest.ensures.read c.loop.invariant.same;
+  same = goes_on (item_by (inside c.args.depth) c.args.constructor) c.args.w c.args.count c.loop.counter c.loop.rest.now c.in_ok-rest.rest.now _ c.loop-test.true c.in_ok-rest.ensures.read
+      c.loop.invariant.same;
   shorter = omega (arith, c.in_ok-rest.ensures.rest, c.loop.invariant.shorter);
 }
 
@@ -108,7 +116,8 @@ skip_values-returns-in_err-rest-clause-read t c =
 
 pub skip_values-loop-preserved : goal.skip_values-loop-preserved
 skip_values-loop-preserved t c = record {
-  same = goes_on (λ within. value_by (inside c.args.depth) within 0) c.args.w c.args.count c.loop.counter c.loop.rest.now c.in_ok-rest.rest.now _ c.loop-test.true c.in_ok-rest.ensures.read c.loop.invariant.same;
+  same = goes_on (λ within. value_by (inside c.args.depth) within 0) c.args.w c.args.count c.loop.counter c.loop.rest.now c.in_ok-rest.rest.now _ c.loop-test.true c.in_ok-rest.ensures.read
+      c.loop.invariant.same;
   shorter = omega (arith, c.in_ok-rest.ensures.rest, c.loop.invariant.shorter);
 }
 

@@ -46,6 +46,7 @@ invariant-skip_items-loop l = record {
 
 abbrev pub invariant-skip_values-loop : goal.invariant-skip_values-loop
 invariant-skip_values-loop l = record {
-  same : after (trees_at (λ within. value_by (inside l.depth) within 0) (l.count - l.counter) l.w None l.rest) ≡ after (trees_at (λ within. value_by (inside l.depth) within 0) l.count l.w None l.bytes);
+  same : after (trees_at (λ within. value_by (inside l.depth) within 0) (l.count - l.counter) l.w None l.rest) ≡ after
+      (trees_at (λ within. value_by (inside l.depth) within 0) l.count l.w None l.bytes);
   shorter : length l.rest ≤ length l.bytes;
 }

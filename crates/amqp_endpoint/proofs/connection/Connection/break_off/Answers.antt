@@ -9,6 +9,7 @@ use Rattle.amqp_endpoint.proofs.connection.Connection.break_off.Goals as goal
 
 pub returns-clause-new : goal.returns-clause-new
 returns-clause-new g c =
-    ap (connection_of c.self.inside.config phase.Dead true c.self.inside.closed) (with_items_is c.self.inside.places c.free_all.new.places (omega (arith, c.free_all.auto.places, c.deref_mut.ensures.len)))
+    ap (connection_of c.self.inside.config phase.Dead true c.self.inside.closed) (with_items_is c.self.inside.places c.free_all.new.places
+    (omega (arith, c.free_all.auto.places, c.deref_mut.ensures.len)))
     ∙ after_is c.self.inside.config c.self.inside.phase c.self.inside.failed c.self.inside.closed c.self.inside.places.items c.args.self.now c.self.view_is event.Broken c.free_all.new.places
     (all_gone 0 c.self.inside.places.items ∙ ap (map (λ x. Free)) (sym c.deref_mut.ensures.value) ∙ sym c.free_all.ensures)

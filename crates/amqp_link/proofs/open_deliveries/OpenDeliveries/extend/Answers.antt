@@ -23,20 +23,26 @@ pub returns-in_err-extend-clause-err : goal.returns-in_err-extend-clause-err
 returns-in_err-extend-clause-err g c =
     let p = err_from_is_err_and c.from_residual.result c.from_residual.ensures.1 in
     let same = c.in_err-extend.ensures.err ∙ sym (ap delivery_in c.index_mut.ensures.value) in
-    let whole : Some (delivery_of c.extend.new.self) ≡ option_map (at_key c.self.inside.slab) c.self.inside.unfinished = ap Some same ∙ sym (ap (option_map (at_key c.self.inside.slab)) c.in-Some.is) in
+    let whole : Some (delivery_of c.extend.new.self) ≡ option_map (at_key c.self.inside.slab) c.self.inside.unfinished = ap Some same
+    ∙ sym (ap (option_map (at_key c.self.inside.slab)) c.in-Some.is) in
     rw (p.1, ← c.self.view_is)
-    ((changes_at c.self.inside.slab _ _ _ c.in-Some.key c.extend.new.self c.self.inside.bytes c.self.inside.bytes 0 c.self.inside.order.cap c.in-Some.is c.self.invariant (ap delivery_bytes same ∙ omega arith) (omega arith)).is
+    ((changes_at c.self.inside.slab _ _ _ c.in-Some.key c.extend.new.self c.self.inside.bytes c.self.inside.bytes 0 c.self.inside.order.cap c.in-Some.is c.self.invariant
+    (ap delivery_bytes same ∙ omega arith) (omega arith)).is
     ∙ ap (λ (p : Option Delivery). record (set_at c.self.inside.slab c.self.inside.order.items c.self.inside.handed_up c.self.inside.unfinished) { unfinished = p }) whole)
 
 pub invariant_of-self-in-Some : goal.invariant_of-self-in-Some
 invariant_of-self-in-Some g c =
-    let long = ap delivery_bytes c.in_ok-extend.ensures.ok ∙ longer (delivery_of c.index_mut.result.now) c.args.settled c.args.payload.now ∙ ap (λ s. delivery_bytes (delivery_in s) + length c.args.payload.now) (sym c.index_mut.ensures.value) in
+    let long = ap delivery_bytes c.in_ok-extend.ensures.ok ∙ longer (delivery_of c.index_mut.result.now) c.args.settled c.args.payload.now
+    ∙ ap (λ s. delivery_bytes (delivery_in s) + length c.args.payload.now) (sym c.index_mut.ensures.value) in
     (changes_at c.self.inside.slab _ _ _ c.in-Some.key c.extend.new.self _ _ _ _ c.in-Some.is c.self.invariant long refl).kept
 
 pub returns-in_ok-extend-clause-ok : goal.returns-in_ok-extend-clause-ok
 returns-in_ok-extend-clause-ok g c =
-    let long = ap delivery_bytes c.in_ok-extend.ensures.ok ∙ longer (delivery_of c.index_mut.result.now) c.args.settled c.args.payload.now ∙ ap (λ s. delivery_bytes (delivery_in s) + length c.args.payload.now) (sym c.index_mut.ensures.value) in
+    let long = ap delivery_bytes c.in_ok-extend.ensures.ok ∙ longer (delivery_of c.index_mut.result.now) c.args.settled c.args.payload.now
+    ∙ ap (λ s. delivery_bytes (delivery_in s) + length c.args.payload.now) (sym c.index_mut.ensures.value) in
     rw (← c.self.view_is) (λ d e.
-    let same : d ≡ delivery_of c.index_mut.result.now = same_delivery _ _ (sym e ∙ ap (option_map (at_key c.self.inside.slab)) c.in-Some.is ∙ ap (λ s. Some (delivery_in s)) c.index_mut.ensures.value) in
+    let same : d ≡ delivery_of c.index_mut.result.now = same_delivery _ _ (sym e ∙ ap (option_map (at_key c.self.inside.slab)) c.in-Some.is
+    ∙ ap (λ s. Some (delivery_in s)) c.index_mut.ensures.value) in
     (changes_at c.self.inside.slab _ _ _ c.in-Some.key c.extend.new.self _ _ _ c.self.inside.order.cap c.in-Some.is c.self.invariant long refl).is
-    ∙ ap (λ (x : Delivery). record (set_at c.self.inside.slab c.self.inside.order.items c.self.inside.handed_up c.self.inside.unfinished) { unfinished = Some x }) (c.in_ok-extend.ensures.ok ∙ ap (λ (x : Delivery). record x { settled = x.settled || c.args.settled; message = x.message ++ c.args.payload.now }) (sym same)))
+    ∙ ap (λ (x : Delivery). record (set_at c.self.inside.slab c.self.inside.order.items c.self.inside.handed_up c.self.inside.unfinished) { unfinished = Some x })
+    (c.in_ok-extend.ensures.ok ∙ ap (λ (x : Delivery). record x { settled = x.settled || c.args.settled; message = x.message ++ c.args.payload.now }) (sym same)))

@@ -5,4 +5,5 @@ use Rattle.amqp_link.proofs.KeptSettles.{ready_keys}
 use Rattle.amqp_link.proofs.open_deliveries.OpenDeliveries.find_ready.Goals as goal
 
 pub find-requires : goal.find-requires
-find-requires g c = all_there c.self.inside.slab _ (rw c.deref.ensures.value (ready_keys c.self.inside.slab c.self.inside.order.items _ c.self.inside.handed_up _ _ _ c.self.invariant (to_the_end (length c.self.inside.order.items) c.self.inside.handed_up c.self.inside.order.items refl)))
+find-requires g c = all_there c.self.inside.slab _ (rw c.deref.ensures.value (ready_keys c.self.inside.slab c.self.inside.order.items _ c.self.inside.handed_up _ _ _ c.self.invariant
+    (to_the_end (length c.self.inside.order.items) c.self.inside.handed_up c.self.inside.order.items refl)))

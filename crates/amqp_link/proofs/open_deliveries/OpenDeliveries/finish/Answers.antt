@@ -13,5 +13,10 @@ pub returns-in-Some : goal.returns-in-Some
 returns-in-Some g c =
     rw (← c.self.view_is) (λ d e.
     let same : d ≡ at_key c.self.inside.slab c.in-Some.key = same_delivery _ _ (sym e ∙ ap (option_map (at_key c.self.inside.slab)) c.in-Some.is) in
-    (finishes_at c.self.inside.slab _ _ _ _ c.in-Some.key _ c.self.inside.order.cap c.push_reserved.new.self.cap c.in-Some.is c.self.invariant c.push_reserved.ensures.items (omega (arith, c.push_reserved.ensures.capacity))).is
-    ∙ ap (λ (x : Delivery). record (set_at c.self.inside.slab c.self.inside.order.items c.self.inside.handed_up c.self.inside.unfinished) { ready = (set_at c.self.inside.slab c.self.inside.order.items c.self.inside.handed_up c.self.inside.unfinished).ready ++ x ∷ []; unfinished = None }) (sym same))
+    (finishes_at c.self.inside.slab _ _ _ _ c.in-Some.key _ c.self.inside.order.cap c.push_reserved.new.self.cap c.in-Some.is c.self.invariant c.push_reserved.ensures.items
+    (omega (arith, c.push_reserved.ensures.capacity))).is
+    ∙ ap (λ (x : Delivery). record (set_at c.self.inside.slab c.self.inside.order.items c.self.inside.handed_up c.self.inside.unfinished) {
+      ready =
+          (set_at c.self.inside.slab c.self.inside.order.items c.self.inside.handed_up c.self.inside.unfinished).ready ++ x ∷ [];
+      unfinished = None;
+    }) (sym same))

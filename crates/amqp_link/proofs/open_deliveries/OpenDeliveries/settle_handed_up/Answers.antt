@@ -14,15 +14,21 @@ settle-settled-requires-clause-keys g c =
 pub invariant_of-self : goal.invariant_of-self
 invariant_of-self g c =
     let before = c.slice_mut-handed_up.ensures.value ∙ from_the_start c.self.inside.handed_up c.self.inside.order.items in
-    let a = awaiting_settled c.args.settling c.self.inside.slab c.settle-settled.new.slab c.self.inside.order.items _ c.settle-settled.new.places c.self.inside.handed_up _ _ _ _ c.self.inside.order.cap c.self.invariant before c.settle-settled.ensures in
-    rw (front_written c.self.inside.order.len c.self.inside.handed_up c.self.inside.order.items c.settle-settled.new.places c.self.inside.order.ok.0 (c.settle-settled.ensures.long ∙ ap length before ∙ length-take-le c.self.inside.handed_up c.self.inside.order.items c.self.invariant.split) (omega (arith, c.self.invariant.split, c.self.inside.order.ok.0)))
+    let a = awaiting_settled c.args.settling c.self.inside.slab c.settle-settled.new.slab c.self.inside.order.items _ c.settle-settled.new.places c.self.inside.handed_up _ _ _ _
+    c.self.inside.order.cap c.self.invariant before c.settle-settled.ensures in
+    rw (front_written c.self.inside.order.len c.self.inside.handed_up c.self.inside.order.items c.settle-settled.new.places c.self.inside.order.ok.0
+    (c.settle-settled.ensures.long ∙ ap length before ∙ length-take-le c.self.inside.handed_up c.self.inside.order.items c.self.invariant.split)
+    (omega (arith, c.self.invariant.split, c.self.inside.order.ok.0)))
     (a.kept)
 
 pub returns-clause-new : goal.returns-clause-new
 returns-clause-new g c =
     let before = c.slice_mut-handed_up.ensures.value ∙ from_the_start c.self.inside.handed_up c.self.inside.order.items in
-    let a = awaiting_settled c.args.settling c.self.inside.slab c.settle-settled.new.slab c.self.inside.order.items _ c.settle-settled.new.places c.self.inside.handed_up _ _ _ _ c.self.inside.order.cap c.self.invariant before c.settle-settled.ensures in
-    rw (front_written c.self.inside.order.len c.self.inside.handed_up c.self.inside.order.items c.settle-settled.new.places c.self.inside.order.ok.0 (c.settle-settled.ensures.long ∙ ap length before ∙ length-take-le c.self.inside.handed_up c.self.inside.order.items c.self.invariant.split) (omega (arith, c.self.invariant.split, c.self.inside.order.ok.0)))
+    let a = awaiting_settled c.args.settling c.self.inside.slab c.settle-settled.new.slab c.self.inside.order.items _ c.settle-settled.new.places c.self.inside.handed_up _ _ _ _
+    c.self.inside.order.cap c.self.invariant before c.settle-settled.ensures in
+    rw (front_written c.self.inside.order.len c.self.inside.handed_up c.self.inside.order.items c.settle-settled.new.places c.self.inside.order.ok.0
+    (c.settle-settled.ensures.long ∙ ap length before ∙ length-take-le c.self.inside.handed_up c.self.inside.order.items c.self.invariant.split)
+    (omega (arith, c.self.invariant.split, c.self.inside.order.ok.0)))
     (a.is ∙ ap (λ (o : OpenSet). record o { awaiting = settled_list c.args.settling o.awaiting }) c.self.view_is)
 
 pub returns-clause-fits : goal.returns-clause-fits

@@ -10,12 +10,14 @@ use Rattle.amqp_link.proofs.open_deliveries.OpenDeliveries.take.Goals as goal
 pub index-requires : goal.index-requires
 index-requires g c =
     first_at c.self.inside.slab _ _ _ c.in_ok-key.key _ _ c.self.invariant
-    (next_of c.self.inside.handed_up c.self.inside.order.items c.deref.result.now c.in_ok-get.field-0.now c.in_ok-key.key c.deref.ensures.value c.in_ok-get.ensures.lookup.3.0 (c.in_ok-get.ensures.lookup.3.1 None) c.in_ok-key.was)
+    (next_of c.self.inside.handed_up c.self.inside.order.items c.deref.result.now c.in_ok-get.field-0.now c.in_ok-key.key c.deref.ensures.value c.in_ok-get.ensures.lookup.3.0
+    (c.in_ok-get.ensures.lookup.3.1 None) c.in_ok-key.was)
 
 pub invariant_of-self : goal.invariant_of-self
 invariant_of-self g c =
     (leaves_at c.self.inside.slab c.remove-delivery.new.self _ _ _ c.in_ok-key.key c.remove-delivery.result _ _ _
-    (next_of c.self.inside.handed_up c.self.inside.order.items c.deref.result.now c.in_ok-get.field-0.now c.in_ok-key.key c.deref.ensures.value c.in_ok-get.ensures.lookup.3.0 (c.in_ok-get.ensures.lookup.3.1 None) c.in_ok-key.was)
+    (next_of c.self.inside.handed_up c.self.inside.order.items c.deref.result.now c.in_ok-get.field-0.now c.in_ok-key.key c.deref.ensures.value c.in_ok-get.ensures.lookup.3.0
+    (c.in_ok-get.ensures.lookup.3.1 None) c.in_ok-key.was)
     c.self.invariant c.remove-delivery.ensures.value
     (ap (λ d. d.settled) (same_value c.self.inside.slab c.in_ok-key.key c.remove-delivery.result c.index.result.now c.remove-delivery.ensures.value c.index.ensures) ∙ c.if-index.true)
     c.remove-delivery.ensures.updates c.remove-delivery.ensures.len (ap (λ (n : ℕ). c.self.inside.bytes - n) c.bytes.ensures)).kept
@@ -24,7 +26,8 @@ pub returns-then-index-clause-some : goal.returns-then-index-clause-some
 returns-then-index-clause-some g c =
     rw (← c.self.view_is)
     ((leaves_at c.self.inside.slab c.remove-delivery.new.self _ _ _ c.in_ok-key.key c.remove-delivery.result _ (c.self.inside.bytes - c.bytes.result) c.self.inside.order.cap
-    (next_of c.self.inside.handed_up c.self.inside.order.items c.deref.result.now c.in_ok-get.field-0.now c.in_ok-key.key c.deref.ensures.value c.in_ok-get.ensures.lookup.3.0 (c.in_ok-get.ensures.lookup.3.1 None) c.in_ok-key.was)
+    (next_of c.self.inside.handed_up c.self.inside.order.items c.deref.result.now c.in_ok-get.field-0.now c.in_ok-key.key c.deref.ensures.value c.in_ok-get.ensures.lookup.3.0
+    (c.in_ok-get.ensures.lookup.3.1 None) c.in_ok-key.was)
     c.self.invariant c.remove-delivery.ensures.value
     (ap (λ d. d.settled) (same_value c.self.inside.slab c.in_ok-key.key c.remove-delivery.result c.index.result.now c.remove-delivery.ensures.value c.index.ensures) ∙ c.if-index.true)
     c.remove-delivery.ensures.updates c.remove-delivery.ensures.len (ap (λ (n : ℕ). c.self.inside.bytes - n) c.bytes.ensures)).is)
@@ -33,7 +36,8 @@ pub invariant_of-self-2 : goal.invariant_of-self-2
 invariant_of-self-2 g c =
     let same = same_value c.self.inside.slab c.in_ok-key.key c.index_mut-2.result.now c.index.result.now c.index_mut-2.ensures.value c.index.ensures in
     (moves_at c.self.inside.slab _ _ _ c.in_ok-key.key c.index_mut-2.result.now c.hand_up-delivery.new.self _ _ _ _
-    (next_of c.self.inside.handed_up c.self.inside.order.items c.deref.result.now c.in_ok-get.field-0.now c.in_ok-key.key c.deref.ensures.value c.in_ok-get.ensures.lookup.3.0 (c.in_ok-get.ensures.lookup.3.1 None) c.in_ok-key.was)
+    (next_of c.self.inside.handed_up c.self.inside.order.items c.deref.result.now c.in_ok-get.field-0.now c.in_ok-key.key c.deref.ensures.value c.in_ok-get.ensures.lookup.3.0
+    (c.in_ok-get.ensures.lookup.3.1 None) c.in_ok-key.was)
     c.self.invariant c.index_mut-2.ensures.value (ap (λ d. d.settled) same ∙ c.if-index.false) c.hand_up-delivery.ensures.left
     (c.len.ensures ∙ c.hand_up-delivery.result.message.ok.0 ∙ ap (λ (d : Delivery). length d.message) c.hand_up-delivery.ensures.result) refl).kept
 
@@ -42,7 +46,13 @@ returns-clause-some g c =
     let same = same_value c.self.inside.slab c.in_ok-key.key c.index_mut-2.result.now c.index.result.now c.index_mut-2.ensures.value c.index.ensures in
     rw (← c.self.view_is)
     ((moves_at c.self.inside.slab _ _ _ c.in_ok-key.key c.index_mut-2.result.now c.hand_up-delivery.new.self _ (c.self.inside.bytes - c.len.result) _ c.self.inside.order.cap
-    (next_of c.self.inside.handed_up c.self.inside.order.items c.deref.result.now c.in_ok-get.field-0.now c.in_ok-key.key c.deref.ensures.value c.in_ok-get.ensures.lookup.3.0 (c.in_ok-get.ensures.lookup.3.1 None) c.in_ok-key.was)
+    (next_of c.self.inside.handed_up c.self.inside.order.items c.deref.result.now c.in_ok-get.field-0.now c.in_ok-key.key c.deref.ensures.value c.in_ok-get.ensures.lookup.3.0
+    (c.in_ok-get.ensures.lookup.3.1 None) c.in_ok-key.was)
     c.self.invariant c.index_mut-2.ensures.value (ap (λ d. d.settled) same ∙ c.if-index.false) c.hand_up-delivery.ensures.left
     (c.len.ensures ∙ c.hand_up-delivery.result.message.ok.0 ∙ ap (λ (d : Delivery). length d.message) c.hand_up-delivery.ensures.result) refl).is
-    ∙ ap (λ (d : Delivery). record (set_at c.self.inside.slab c.self.inside.order.items c.self.inside.handed_up c.self.inside.unfinished) { awaiting = (set_at c.self.inside.slab c.self.inside.order.items c.self.inside.handed_up c.self.inside.unfinished).awaiting ++ left_open d; ready = drop 1 (set_at c.self.inside.slab c.self.inside.order.items c.self.inside.handed_up c.self.inside.unfinished).ready }) (sym c.hand_up-delivery.ensures.result))
+    ∙ ap (λ (d : Delivery). record (set_at c.self.inside.slab c.self.inside.order.items c.self.inside.handed_up c.self.inside.unfinished) {
+      awaiting =
+          (set_at c.self.inside.slab c.self.inside.order.items c.self.inside.handed_up c.self.inside.unfinished).awaiting ++ left_open d;
+      ready =
+          drop 1 (set_at c.self.inside.slab c.self.inside.order.items c.self.inside.handed_up c.self.inside.unfinished).ready;
+    }) (sym c.hand_up-delivery.ensures.result))

@@ -10,11 +10,20 @@ use Rattle.amqp_session.proofs.session.Session.attach.Goals as goal
 
 pub invariant_of-self-2 : goal.invariant_of-self-2
 invariant_of-self-2 g c =
-    apart_after c.open_ids_grow_by_heads.ensures c.self.inside.state c.attach.new.self (event_of c.self.inside.state (Attaches (attaching c.args.attach.now))) c.self.invariant (frame_ok c.self.inside.state (Attaches (attaching c.args.attach.now)) c.is_long.ensures (subst (λ (t : SessionState). c.args.attach.now.handle ≤ t.terms.handle_max) (sym c.self.view_is) c.requires, c.is_counted.ensures) c.in_ok-news.ensures.accepted) (c.in_ok-news.ensures.new)
+    apart_after c.open_ids_grow_by_heads.ensures c.self.inside.state c.attach.new.self (event_of c.self.inside.state (Attaches (attaching c.args.attach.now))) c.self.invariant
+    (frame_ok c.self.inside.state (Attaches (attaching c.args.attach.now)) c.is_long.ensures (
+      subst (λ (t : SessionState). c.args.attach.now.handle ≤ t.terms.handle_max)
+          (sym c.self.view_is) c.requires,
+      c.is_counted.ensures,
+    ) c.in_ok-news.ensures.accepted) (c.in_ok-news.ensures.new)
 
 pub returns-clause-may : goal.returns-clause-may
 returns-clause-may g c =
-    subst (λ (t : SessionState). SessionMay t (event_of t (Attaches (attaching c.args.attach.now)))) c.self.view_is (frame_ok c.self.inside.state (Attaches (attaching c.args.attach.now)) c.is_long.ensures (subst (λ (t : SessionState). c.args.attach.now.handle ≤ t.terms.handle_max) (sym c.self.view_is) c.requires, c.is_counted.ensures) c.in_ok-news.ensures.accepted)
+    subst (λ (t : SessionState). SessionMay t (event_of t (Attaches (attaching c.args.attach.now)))) c.self.view_is (frame_ok c.self.inside.state
+    (Attaches (attaching c.args.attach.now)) c.is_long.ensures (
+      subst (λ (t : SessionState). c.args.attach.now.handle ≤ t.terms.handle_max) (sym c.self.view_is) c.requires,
+      c.is_counted.ensures,
+    ) c.in_ok-news.ensures.accepted)
 
 pub returns-clause-new : goal.returns-clause-new
 returns-clause-new g c =
@@ -26,4 +35,6 @@ returns-clause-news g c =
 
 pub returns-clause-answer : goal.returns-clause-answer
 returns-clause-answer g c =
-    attach_answered c.args.self.now.terms (attaching c.args.attach.now) c.attach_done.result.answer (refusal c.args.self.now.terms (attaching c.args.attach.now)) (subst (λ m. IsAttachAnswer m c.attach_done.result.answer) (subst (λ (t : SessionState). c.in_ok-news.news ≡ news_of t (Attaches (attaching c.args.attach.now))) c.self.view_is c.in_ok-news.ensures.news) c.attach_done.ensures.answer)
+    attach_answered c.args.self.now.terms (attaching c.args.attach.now) c.attach_done.result.answer (refusal c.args.self.now.terms (attaching c.args.attach.now))
+    (subst (λ m. IsAttachAnswer m c.attach_done.result.answer) (subst (λ (t : SessionState). c.in_ok-news.news ≡ news_of t (Attaches (attaching c.args.attach.now))) c.self.view_is
+    c.in_ok-news.ensures.news) c.attach_done.ensures.answer)

@@ -11,19 +11,25 @@ use Rattle.amqp_session.proofs.session.Session.detached.Goals as goal
 
 pub invariant_of-self-2 : goal.invariant_of-self-2
 invariant_of-self-2 g c =
-    apart_after c.open_ids_grow_by_heads.ensures c.self.inside.state c.detached.new.self (event_of c.self.inside.state (Detaches c.args.detach.now.handle c.args.detach.now.closed)) c.self.invariant (frame_ok c.self.inside.state (Detaches c.args.detach.now.handle c.args.detach.now.closed) c.is_long.ensures tt (c.in_ok-detached.ensures.accepted c.args.detach.now.closed)) (c.in_ok-detached.ensures.new c.args.detach.now.closed)
+    apart_after c.open_ids_grow_by_heads.ensures c.self.inside.state c.detached.new.self (event_of c.self.inside.state (Detaches c.args.detach.now.handle c.args.detach.now.closed)) c.self.invariant
+    (frame_ok c.self.inside.state (Detaches c.args.detach.now.handle c.args.detach.now.closed) c.is_long.ensures tt (c.in_ok-detached.ensures.accepted c.args.detach.now.closed))
+    (c.in_ok-detached.ensures.new c.args.detach.now.closed)
 
 pub returns-clause-may : goal.returns-clause-may
 returns-clause-may g c =
-    subst (λ (t : SessionState). SessionMay t (event_of t (Detaches c.args.detach.now.handle c.args.detach.now.closed))) c.self.view_is (frame_ok c.self.inside.state (Detaches c.args.detach.now.handle c.args.detach.now.closed) c.is_long.ensures tt (c.in_ok-detached.ensures.accepted c.args.detach.now.closed))
+    subst (λ (t : SessionState). SessionMay t (event_of t (Detaches c.args.detach.now.handle c.args.detach.now.closed))) c.self.view_is
+    (frame_ok c.self.inside.state (Detaches c.args.detach.now.handle c.args.detach.now.closed) c.is_long.ensures tt (c.in_ok-detached.ensures.accepted c.args.detach.now.closed))
 
 pub returns-in_err-detached-clause-refused : goal.returns-in_err-detached-clause-refused
 returns-in_err-detached-clause-refused g c =
-    let p = err_from_is_err_and c.from_residual.result c.from_residual.ensures.1 in rw (p.1, p.2) (subst (λ (t : SessionState). IsRefusal t (Detaches c.args.detach.now.handle c.args.detach.now.closed) c.in_err-detached.field-0.0) c.self.view_is (c.in_err-detached.ensures.refused c.args.detach.now.closed))
+    let p = err_from_is_err_and c.from_residual.result c.from_residual.ensures.1 in rw (p.1, p.2)
+    (subst (λ (t : SessionState). IsRefusal t (Detaches c.args.detach.now.handle c.args.detach.now.closed) c.in_err-detached.field-0.0) c.self.view_is
+    (c.in_err-detached.ensures.refused c.args.detach.now.closed))
 
 pub returns-clause-new : goal.returns-clause-new
 returns-clause-new g c =
-    subst (λ (t : SessionState). c.detached.new.self ≡ session_after t (event_of t (Detaches c.args.detach.now.handle c.args.detach.now.closed))) c.self.view_is (c.in_ok-detached.ensures.new c.args.detach.now.closed)
+    subst (λ (t : SessionState). c.detached.new.self ≡ session_after t (event_of t (Detaches c.args.detach.now.handle c.args.detach.now.closed))) c.self.view_is
+    (c.in_ok-detached.ensures.new c.args.detach.now.closed)
 
 pub returns-clause-accepted : goal.returns-clause-accepted
 returns-clause-accepted g c =

@@ -11,15 +11,19 @@ use Rattle.amqp_session.proofs.session.Session.settle.Goals as goal
 
 pub invariant_of-self-2 : goal.invariant_of-self-2
 invariant_of-self-2 g c =
-    apart_after c.open_ids_grow_by_heads.ensures c.self.inside.state c.settle.new.self (call_event c.self.inside.state (call.Settle c.args.id c.args.outcome)) c.self.invariant (call_ok c.self.inside.state (call.Settle c.args.id c.args.outcome) c.self.invariant c.ranges.id.fits (c.in_ok-settled.ensures.accepted c.args.outcome)) (c.in_ok-settled.ensures.new c.args.outcome)
+    apart_after c.open_ids_grow_by_heads.ensures c.self.inside.state c.settle.new.self (call_event c.self.inside.state (call.Settle c.args.id c.args.outcome)) c.self.invariant
+    (call_ok c.self.inside.state (call.Settle c.args.id c.args.outcome) c.self.invariant c.ranges.id.fits (c.in_ok-settled.ensures.accepted c.args.outcome))
+    (c.in_ok-settled.ensures.new c.args.outcome)
 
 pub returns-clause-may : goal.returns-clause-may
 returns-clause-may g c =
-    subst (λ (t : SessionState). SessionMay t (call_event t (call.Settle c.args.id c.args.outcome))) c.self.view_is (call_ok c.self.inside.state (call.Settle c.args.id c.args.outcome) c.self.invariant c.ranges.id.fits (c.in_ok-settled.ensures.accepted c.args.outcome))
+    subst (λ (t : SessionState). SessionMay t (call_event t (call.Settle c.args.id c.args.outcome))) c.self.view_is (call_ok c.self.inside.state
+    (call.Settle c.args.id c.args.outcome) c.self.invariant c.ranges.id.fits (c.in_ok-settled.ensures.accepted c.args.outcome))
 
 pub returns-in_err-settled-clause-refused : goal.returns-in_err-settled-clause-refused
 returns-in_err-settled-clause-refused g c =
-    let p = err_from_is_err_and c.from_residual.result c.from_residual.ensures.1 in rw (p.1, p.2) (subst (λ (t : SessionState). call_fault t (call.Settle c.args.id c.args.outcome) ≡ Some c.in_err-settled.field-0.0) c.self.view_is (c.in_err-settled.ensures.refused c.args.outcome))
+    let p = err_from_is_err_and c.from_residual.result c.from_residual.ensures.1 in rw (p.1, p.2)
+    (subst (λ (t : SessionState). call_fault t (call.Settle c.args.id c.args.outcome) ≡ Some c.in_err-settled.field-0.0) c.self.view_is (c.in_err-settled.ensures.refused c.args.outcome))
 
 pub returns-clause-new : goal.returns-clause-new
 returns-clause-new g c =

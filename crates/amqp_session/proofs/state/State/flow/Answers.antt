@@ -5,4 +5,5 @@ use Rattle.amqp_session.proofs.state.State.flow.Goals as goal
 
 pub returns-in-None-clause-new : goal.returns-in-None-clause-new
 returns-in-None-clause-new g c =
-    flowed c.self.inside.terms c.self.inside.window c.self.inside.next_incoming_id c.self.inside.table.items c.args.self.now c.self.view_is c.self.invariant (flowing c.args.flow.now) c.in-None.is (omega arith)
+    flowed c.self.inside.terms c.self.inside.window c.self.inside.next_incoming_id c.self.inside.table.items c.args.self.now c.self.view_is c.self.invariant (flowing c.args.flow.now) c.in-None.is
+    (omega arith)

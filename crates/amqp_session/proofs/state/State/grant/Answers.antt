@@ -12,16 +12,22 @@ returns-then-place-len-clause-refused g c =
 
 pub returns-in_err-stated-clause-refused : goal.returns-in_err-stated-clause-refused
 returns-in_err-stated-clause-refused g c =
-    let p = err_from_is_err_and c.from_residual.result c.from_residual.ensures.1 in rw (p.1, p.2) (rw (slot_is c.self.inside.terms c.self.inside.window c.self.inside.next_incoming_id c.self.inside.table.items c.args.self.now c.self.view_is c.self.invariant c.args.handle c.index_mut.result.now c.index_mut.ensures.value (omega arith)) c.in_err-stated.ensures.refused)
+    let p = err_from_is_err_and c.from_residual.result c.from_residual.ensures.1 in rw (p.1, p.2)
+    (rw (slot_is c.self.inside.terms c.self.inside.window c.self.inside.next_incoming_id c.self.inside.table.items c.args.self.now c.self.view_is c.self.invariant c.args.handle
+    c.index_mut.result.now c.index_mut.ensures.value (omega arith)) c.in_err-stated.ensures.refused)
 
 pub returns-clause-new : goal.returns-clause-new
 returns-clause-new g c =
-    called c.self.inside.terms c.self.inside.window c.self.inside.next_incoming_id c.self.inside.table.items c.args.self.now c.self.view_is c.self.invariant c.args.handle (Granted c.args.n) c.index_mut.result.now c.grant.new.slot c.self.ranges.1.1.1.0.1 c.index_mut.ensures.value (omega arith) c.in_ok-stated.ensures.new
+    called c.self.inside.terms c.self.inside.window c.self.inside.next_incoming_id c.self.inside.table.items c.args.self.now c.self.view_is c.self.invariant c.args.handle
+    (Granted c.args.n) c.index_mut.result.now c.grant.new.slot c.self.ranges.1.1.1.0.1 c.index_mut.ensures.value (omega arith) c.in_ok-stated.ensures.new
 
 pub returns-clause-accepted : goal.returns-clause-accepted
 returns-clause-accepted g c =
-    rw (slot_is c.self.inside.terms c.self.inside.window c.self.inside.next_incoming_id c.self.inside.table.items c.args.self.now c.self.view_is c.self.invariant c.args.handle c.index_mut.result.now c.index_mut.ensures.value (omega arith)) c.in_ok-stated.ensures.accepted
+    rw (slot_is c.self.inside.terms c.self.inside.window c.self.inside.next_incoming_id c.self.inside.table.items c.args.self.now c.self.view_is c.self.invariant c.args.handle c.index_mut.result.now
+    c.index_mut.ensures.value (omega arith)) c.in_ok-stated.ensures.accepted
 
 pub returns-clause-answer : goal.returns-clause-answer
 returns-clause-answer g c =
-    flow_is (session_of c.self.inside.terms c.self.inside.window c.self.inside.next_incoming_id (slice_set c.self.inside.table.items c.args.handle c.grant.new.slot)) c.args.handle c.grant.new.slot c.in_ok-stated.stated _ (slot_put c.self.inside.terms c.self.inside.window c.self.inside.next_incoming_id c.self.inside.table.items c.args.handle c.grant.new.slot c.self.invariant (omega arith)) c.in_ok-stated.ensures.stated c.flow_stating.ensures
+    flow_is (session_of c.self.inside.terms c.self.inside.window c.self.inside.next_incoming_id (slice_set c.self.inside.table.items c.args.handle c.grant.new.slot)) c.args.handle c.grant.new.slot
+    c.in_ok-stated.stated _ (slot_put c.self.inside.terms c.self.inside.window c.self.inside.next_incoming_id c.self.inside.table.items c.args.handle c.grant.new.slot c.self.invariant
+    (omega arith)) c.in_ok-stated.ensures.stated c.flow_stating.ensures

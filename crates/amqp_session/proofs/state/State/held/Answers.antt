@@ -6,4 +6,5 @@ use Rattle.amqp_session.proofs.state.State.held.Goals as goal
 
 pub returns-clause-value : goal.returns-clause-value
 returns-clause-value g c =
-    ap (λ m. 64 + m) (c.held.ensures.value ∙ ap (sum_by slot_bytes) c.deref.ensures.value ∙ sym (sum_is c.self.inside.terms c.self.inside.window c.self.inside.next_incoming_id c.self.inside.table.items c.args.self.now c.self.view_is c.self.invariant slot_bytes refl))
+    ap (λ m. 64 + m) (c.held.ensures.value ∙ ap (sum_by slot_bytes) c.deref.ensures.value ∙ sym
+    (sum_is c.self.inside.terms c.self.inside.window c.self.inside.next_incoming_id c.self.inside.table.items c.args.self.now c.self.view_is c.self.invariant slot_bytes refl))

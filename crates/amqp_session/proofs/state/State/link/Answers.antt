@@ -8,4 +8,5 @@ returns-then-place-len g c =
 
 pub returns : goal.returns
 returns g c =
-    rw (slot_is c.self.inside.terms c.self.inside.window c.self.inside.next_incoming_id c.self.inside.table.items c.args.self.now c.self.view_is c.self.invariant c.args.handle c.index.result.now c.index.ensures (omega arith)) c.view.ensures
+    rw (slot_is c.self.inside.terms c.self.inside.window c.self.inside.next_incoming_id c.self.inside.table.items c.args.self.now c.self.view_is c.self.invariant c.args.handle c.index.result.now
+    c.index.ensures (omega arith)) c.view.ensures

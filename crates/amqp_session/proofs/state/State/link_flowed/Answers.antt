@@ -10,36 +10,62 @@ use Rattle.amqp_session.proofs.state.State.link_flowed.Goals as goal
 
 pub returns-then-place-len-clause-refused : goal.returns-then-place-len-clause-refused
 returns-then-place-len-clause-refused g c =
-    flow_refused c.self.inside.terms c.self.inside.window c.self.inside.next_incoming_id c.self.inside.table.items c.args.self.now c.self.view_is c.self.invariant (flowing c.args.flow.now) c.args.handle Free c.requires (slot_past c.self.inside.terms c.self.inside.window c.self.inside.next_incoming_id c.self.inside.table.items c.args.self.now c.self.view_is c.self.invariant c.args.handle (omega arith)) refl
+    flow_refused c.self.inside.terms c.self.inside.window c.self.inside.next_incoming_id c.self.inside.table.items c.args.self.now c.self.view_is c.self.invariant
+    (flowing c.args.flow.now) c.args.handle Free c.requires (slot_past c.self.inside.terms c.self.inside.window c.self.inside.next_incoming_id c.self.inside.table.items c.args.self.now
+    c.self.view_is c.self.invariant c.args.handle (omega arith)) refl
 
 pub returns-in_err-flow-clause-refused : goal.returns-in_err-flow-clause-refused
 returns-in_err-flow-clause-refused g c =
-    let p = err_from_is_err_and c.from_residual.result c.from_residual.ensures.1 in rw (p.1, p.2, c.in_err-flow.ensures.refused.0) (flow_refused c.self.inside.terms c.self.inside.window c.self.inside.next_incoming_id c.self.inside.table.items c.args.self.now c.self.view_is c.self.invariant (flowing c.args.flow.now) c.args.handle c.index_mut.result.now c.requires (slot_is c.self.inside.terms c.self.inside.window c.self.inside.next_incoming_id c.self.inside.table.items c.args.self.now c.self.view_is c.self.invariant c.args.handle c.index_mut.result.now c.index_mut.ensures.value (omega arith)) c.in_err-flow.ensures.refused.1)
+    let p = err_from_is_err_and c.from_residual.result c.from_residual.ensures.1 in rw (p.1, p.2, c.in_err-flow.ensures.refused.0)
+    (flow_refused c.self.inside.terms c.self.inside.window c.self.inside.next_incoming_id c.self.inside.table.items c.args.self.now c.self.view_is c.self.invariant
+    (flowing c.args.flow.now) c.args.handle c.index_mut.result.now c.requires (slot_is c.self.inside.terms c.self.inside.window c.self.inside.next_incoming_id c.self.inside.table.items
+    c.args.self.now c.self.view_is c.self.invariant c.args.handle c.index_mut.result.now c.index_mut.ensures.value (omega arith)) c.in_err-flow.ensures.refused.1)
 
 pub returns-in_err-flow-clause-err : goal.returns-in_err-flow-clause-err
 returns-in_err-flow-clause-err g c =
-    let p = err_from_is_err_and c.from_residual.result c.from_residual.ensures.1 in rw p.1 (flow_kept c.self.inside.terms c.self.inside.window c.self.inside.next_incoming_id c.self.inside.table.items c.args.self.now c.self.view_is c.self.invariant c.args.handle c.index_mut.result.now c.flow.new.slot c.index_mut.ensures.value (omega arith) (c.flow.ensures.new ∙ free_kept (flowing c.args.flow.now) c.index_mut.result.now c.in_err-flow.ensures.refused.1))
+    let p = err_from_is_err_and c.from_residual.result c.from_residual.ensures.1 in rw p.1
+    (flow_kept c.self.inside.terms c.self.inside.window c.self.inside.next_incoming_id c.self.inside.table.items c.args.self.now c.self.view_is c.self.invariant c.args.handle
+    c.index_mut.result.now c.flow.new.slot c.index_mut.ensures.value (omega arith)
+    (c.flow.ensures.new ∙ free_kept (flowing c.args.flow.now) c.index_mut.result.now c.in_err-flow.ensures.refused.1))
 
 pub returns-in-None-clause-new : goal.returns-in-None-clause-new
 returns-in-None-clause-new g c =
-    flow_dropped c.self.inside.terms c.self.inside.window c.self.inside.next_incoming_id c.self.inside.table.items c.args.self.now c.self.view_is c.self.invariant (flowing c.args.flow.now) c.args.handle c.index_mut.result.now c.flow.new.slot c.requires c.self.ranges.1.1.1.0.1 c.index_mut.ensures.value (omega arith) (told_none c.args.handle (flowing c.args.flow.now) c.index_mut.result.now (subst (λ o. IsFlowTold c.args.handle (flowing c.args.flow.now) c.index_mut.result.now o) c.in-None.is c.in_ok-flow.ensures.news)) c.flow.ensures.new
+    flow_dropped c.self.inside.terms c.self.inside.window c.self.inside.next_incoming_id c.self.inside.table.items c.args.self.now c.self.view_is c.self.invariant
+    (flowing c.args.flow.now) c.args.handle c.index_mut.result.now c.flow.new.slot c.requires c.self.ranges.1.1.1.0.1 c.index_mut.ensures.value (omega arith)
+    (told_none c.args.handle (flowing c.args.flow.now) c.index_mut.result.now (subst (λ o. IsFlowTold c.args.handle (flowing c.args.flow.now) c.index_mut.result.now o) c.in-None.is
+    c.in_ok-flow.ensures.news)) c.flow.ensures.new
 
 pub returns-in-None-clause-accepted : goal.returns-in-None-clause-accepted
 returns-in-None-clause-accepted g c =
-    flow_accepted c.self.inside.terms c.self.inside.window c.self.inside.next_incoming_id c.self.inside.table.items c.args.self.now c.self.view_is c.self.invariant (flowing c.args.flow.now) c.args.handle c.index_mut.result.now c.requires c.index_mut.ensures.value (omega arith) (ap is_free (told_none c.args.handle (flowing c.args.flow.now) c.index_mut.result.now (subst (λ o. IsFlowTold c.args.handle (flowing c.args.flow.now) c.index_mut.result.now o) c.in-None.is c.in_ok-flow.ensures.news)))
+    flow_accepted c.self.inside.terms c.self.inside.window c.self.inside.next_incoming_id c.self.inside.table.items c.args.self.now c.self.view_is c.self.invariant
+    (flowing c.args.flow.now) c.args.handle c.index_mut.result.now c.requires c.index_mut.ensures.value (omega arith) (ap is_free
+    (told_none c.args.handle (flowing c.args.flow.now) c.index_mut.result.now (subst (λ o. IsFlowTold c.args.handle (flowing c.args.flow.now) c.index_mut.result.now o) c.in-None.is
+    c.in_ok-flow.ensures.news)))
 
 pub returns-in-None-clause-news : goal.returns-in-None-clause-news
 returns-in-None-clause-news g c =
-    flow_told c.self.inside.terms c.self.inside.window c.self.inside.next_incoming_id c.self.inside.table.items c.args.self.now c.self.view_is c.self.invariant (flowing c.args.flow.now) c.args.handle c.index_mut.result.now news.Nothing c.requires c.index_mut.ensures.value (omega arith) (sym (ap (flow_news c.args.handle (flowing c.args.flow.now)) (told_none c.args.handle (flowing c.args.flow.now) c.index_mut.result.now (subst (λ o. IsFlowTold c.args.handle (flowing c.args.flow.now) c.index_mut.result.now o) c.in-None.is c.in_ok-flow.ensures.news))))
+    flow_told c.self.inside.terms c.self.inside.window c.self.inside.next_incoming_id c.self.inside.table.items c.args.self.now c.self.view_is c.self.invariant
+    (flowing c.args.flow.now) c.args.handle c.index_mut.result.now news.Nothing c.requires c.index_mut.ensures.value (omega arith)
+    (sym (ap (flow_news c.args.handle (flowing c.args.flow.now)) (told_none c.args.handle (flowing c.args.flow.now) c.index_mut.result.now
+    (subst (λ o. IsFlowTold c.args.handle (flowing c.args.flow.now) c.index_mut.result.now o) c.in-None.is c.in_ok-flow.ensures.news))))
 
 pub returns-in-Some-clause-new : goal.returns-in-Some-clause-new
 returns-in-Some-clause-new g c =
-    link_flowed c.self.inside.terms c.self.inside.window c.self.inside.next_incoming_id c.self.inside.table.items c.args.self.now c.self.view_is c.self.invariant (flowing c.args.flow.now) c.args.handle c.index_mut.result.now c.flow.new.slot c.requires (omega arith) c.index_mut.ensures.value (omega arith) (told_some c.args.handle (flowing c.args.flow.now) c.index_mut.result.now c.in-Some.news (subst (λ o. IsFlowTold c.args.handle (flowing c.args.flow.now) c.index_mut.result.now o) c.in-Some.is c.in_ok-flow.ensures.news)).0 c.flow.ensures.new
+    link_flowed c.self.inside.terms c.self.inside.window c.self.inside.next_incoming_id c.self.inside.table.items c.args.self.now c.self.view_is c.self.invariant
+    (flowing c.args.flow.now) c.args.handle c.index_mut.result.now c.flow.new.slot c.requires (omega arith) c.index_mut.ensures.value (omega arith)
+    (told_some c.args.handle (flowing c.args.flow.now) c.index_mut.result.now c.in-Some.news
+    (subst (λ o. IsFlowTold c.args.handle (flowing c.args.flow.now) c.index_mut.result.now o) c.in-Some.is c.in_ok-flow.ensures.news)).0 c.flow.ensures.new
 
 pub returns-in-Some-clause-accepted : goal.returns-in-Some-clause-accepted
 returns-in-Some-clause-accepted g c =
-    flow_accepted c.self.inside.terms c.self.inside.window c.self.inside.next_incoming_id c.self.inside.table.items c.args.self.now c.self.view_is c.self.invariant (flowing c.args.flow.now) c.args.handle c.index_mut.result.now c.requires c.index_mut.ensures.value (omega arith) (live_used c.index_mut.result.now (told_some c.args.handle (flowing c.args.flow.now) c.index_mut.result.now c.in-Some.news (subst (λ o. IsFlowTold c.args.handle (flowing c.args.flow.now) c.index_mut.result.now o) c.in-Some.is c.in_ok-flow.ensures.news)).0)
+    flow_accepted c.self.inside.terms c.self.inside.window c.self.inside.next_incoming_id c.self.inside.table.items c.args.self.now c.self.view_is c.self.invariant
+    (flowing c.args.flow.now) c.args.handle c.index_mut.result.now c.requires c.index_mut.ensures.value (omega arith) (live_used c.index_mut.result.now
+    (told_some c.args.handle (flowing c.args.flow.now) c.index_mut.result.now c.in-Some.news
+    (subst (λ o. IsFlowTold c.args.handle (flowing c.args.flow.now) c.index_mut.result.now o) c.in-Some.is c.in_ok-flow.ensures.news)).0)
 
 pub returns-in-Some-clause-news : goal.returns-in-Some-clause-news
 returns-in-Some-clause-news g c =
-    flow_told c.self.inside.terms c.self.inside.window c.self.inside.next_incoming_id c.self.inside.table.items c.args.self.now c.self.view_is c.self.invariant (flowing c.args.flow.now) c.args.handle c.index_mut.result.now c.in-Some.news c.requires c.index_mut.ensures.value (omega arith) (told_some c.args.handle (flowing c.args.flow.now) c.index_mut.result.now c.in-Some.news (subst (λ o. IsFlowTold c.args.handle (flowing c.args.flow.now) c.index_mut.result.now o) c.in-Some.is c.in_ok-flow.ensures.news)).1
+    flow_told c.self.inside.terms c.self.inside.window c.self.inside.next_incoming_id c.self.inside.table.items c.args.self.now c.self.view_is c.self.invariant
+    (flowing c.args.flow.now) c.args.handle c.index_mut.result.now c.in-Some.news c.requires c.index_mut.ensures.value (omega arith)
+    (told_some c.args.handle (flowing c.args.flow.now) c.index_mut.result.now c.in-Some.news
+    (subst (λ o. IsFlowTold c.args.handle (flowing c.args.flow.now) c.index_mut.result.now o) c.in-Some.is c.in_ok-flow.ensures.news)).1

@@ -8,20 +8,33 @@ use Rattle.amqp_session.proofs.state.State.transfer.Goals as goal
 
 pub returns-then-place-len-clause-refused : goal.returns-then-place-len-clause-refused
 returns-then-place-len-clause-refused g c =
-    by_handle c.self.inside.terms c.self.inside.window c.self.inside.next_incoming_id c.self.inside.table.items c.args.self.now c.self.view_is c.self.invariant (sent_of c.args.transfer.now c.args.payload.now) c.args.transfer.now.handle (omega arith) ∙ handle_free c.self.inside.terms c.self.inside.window c.self.inside.next_incoming_id c.self.inside.table.items c.args.self.now c.self.view_is c.self.invariant c.args.transfer.now.handle Free (slot_past c.self.inside.terms c.self.inside.window c.self.inside.next_incoming_id c.self.inside.table.items c.args.self.now c.self.view_is c.self.invariant c.args.transfer.now.handle (omega arith)) refl
+    by_handle c.self.inside.terms c.self.inside.window c.self.inside.next_incoming_id c.self.inside.table.items c.args.self.now c.self.view_is c.self.invariant
+    (sent_of c.args.transfer.now c.args.payload.now) c.args.transfer.now.handle (omega arith)
+    ∙ handle_free c.self.inside.terms c.self.inside.window c.self.inside.next_incoming_id c.self.inside.table.items c.args.self.now c.self.view_is c.self.invariant c.args.transfer.now.handle
+    Free (slot_past c.self.inside.terms c.self.inside.window c.self.inside.next_incoming_id c.self.inside.table.items c.args.self.now c.self.view_is c.self.invariant
+    c.args.transfer.now.handle (omega arith)) refl
 
 pub returns-in_err-news-clause-refused : goal.returns-in_err-news-clause-refused
 returns-in_err-news-clause-refused g c =
-    let p = err_from_is_err_and c.from_residual.result c.from_residual.ensures.1 in rw (p.1, p.2) (came_refused c.self.inside.terms c.self.inside.window c.self.inside.next_incoming_id c.self.inside.table.items c.args.self.now c.self.view_is c.self.invariant (sent_of c.args.transfer.now c.args.payload.now) c.args.transfer.now.handle c.index_mut.result.now c.is_reused-reused.result _ (omega arith) c.index_mut.ensures.value (omega arith) (c.is_reused-reused.ensures ∙ ap (λ ls. slot_reused ls c.args.transfer.now.delivery_id (at_place ls c.args.transfer.now.handle)) c.deref.ensures.value) c.in_err-news.ensures.refused)
+    let p = err_from_is_err_and c.from_residual.result c.from_residual.ensures.1 in rw (p.1, p.2)
+    (came_refused c.self.inside.terms c.self.inside.window c.self.inside.next_incoming_id c.self.inside.table.items c.args.self.now c.self.view_is c.self.invariant
+    (sent_of c.args.transfer.now c.args.payload.now) c.args.transfer.now.handle c.index_mut.result.now c.is_reused-reused.result _ (omega arith) c.index_mut.ensures.value (omega arith)
+    (c.is_reused-reused.ensures ∙ ap (λ ls. slot_reused ls c.args.transfer.now.delivery_id (at_place ls c.args.transfer.now.handle)) c.deref.ensures.value) c.in_err-news.ensures.refused)
 
 pub returns-clause-new : goal.returns-clause-new
 returns-clause-new g c =
-    came c.self.inside.terms c.self.inside.window c.self.inside.next_incoming_id c.self.inside.table.items c.args.self.now c.self.view_is c.self.invariant (sent_of c.args.transfer.now c.args.payload.now) c.args.transfer.now.handle c.index_mut.result.now c.transfer.new.slot c.is_reused-reused.result c.self.ranges.1.1.1.0.1 (omega arith) c.index_mut.ensures.value (omega arith) c.in_ok-news.ensures.used (c.is_reused-reused.ensures ∙ ap (λ ls. slot_reused ls c.args.transfer.now.delivery_id (at_place ls c.args.transfer.now.handle)) c.deref.ensures.value) c.in_ok-news.ensures.new
+    came c.self.inside.terms c.self.inside.window c.self.inside.next_incoming_id c.self.inside.table.items c.args.self.now c.self.view_is c.self.invariant
+    (sent_of c.args.transfer.now c.args.payload.now) c.args.transfer.now.handle c.index_mut.result.now c.transfer.new.slot c.is_reused-reused.result c.self.ranges.1.1.1.0.1
+    (omega arith) c.index_mut.ensures.value (omega arith) c.in_ok-news.ensures.used
+    (c.is_reused-reused.ensures ∙ ap (λ ls. slot_reused ls c.args.transfer.now.delivery_id (at_place ls c.args.transfer.now.handle)) c.deref.ensures.value) c.in_ok-news.ensures.new
 
 pub returns-clause-accepted : goal.returns-clause-accepted
 returns-clause-accepted g c =
-    came_accepted c.self.inside.terms c.self.inside.window c.self.inside.next_incoming_id c.self.inside.table.items c.args.self.now c.self.view_is c.self.invariant (sent_of c.args.transfer.now c.args.payload.now) c.args.transfer.now.handle c.index_mut.result.now (omega arith) c.index_mut.ensures.value (omega arith) c.in_ok-news.ensures.used
+    came_accepted c.self.inside.terms c.self.inside.window c.self.inside.next_incoming_id c.self.inside.table.items c.args.self.now c.self.view_is c.self.invariant
+    (sent_of c.args.transfer.now c.args.payload.now) c.args.transfer.now.handle c.index_mut.result.now (omega arith) c.index_mut.ensures.value (omega arith) c.in_ok-news.ensures.used
 
 pub returns-clause-news : goal.returns-clause-news
 returns-clause-news g c =
-    came_told c.self.inside.terms c.self.inside.window c.self.inside.next_incoming_id c.self.inside.table.items c.args.self.now c.self.view_is c.self.invariant (sent_of c.args.transfer.now c.args.payload.now) c.args.transfer.now.handle c.index_mut.result.now c.is_reused-reused.result _ c.index_mut.ensures.value (omega arith) (c.is_reused-reused.ensures ∙ ap (λ ls. slot_reused ls c.args.transfer.now.delivery_id (at_place ls c.args.transfer.now.handle)) c.deref.ensures.value) c.in_ok-news.ensures.news
+    came_told c.self.inside.terms c.self.inside.window c.self.inside.next_incoming_id c.self.inside.table.items c.args.self.now c.self.view_is c.self.invariant
+    (sent_of c.args.transfer.now c.args.payload.now) c.args.transfer.now.handle c.index_mut.result.now c.is_reused-reused.result _ c.index_mut.ensures.value (omega arith)
+    (c.is_reused-reused.ensures ∙ ap (λ ls. slot_reused ls c.args.transfer.now.delivery_id (at_place ls c.args.transfer.now.handle)) c.deref.ensures.value) c.in_ok-news.ensures.news

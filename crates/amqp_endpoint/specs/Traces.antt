@@ -1,0 +1,181 @@
+-- What holds after every list of calls of a new endpoint: its state, the bytes that it took and gave, and what it told, each against one history of units and accepted calls.
+use Rattle.std.specs.Prelude.{◌≡◌, ℕ, suc, ◌<◌, ◌≤◌, Bool, true, false, if◌then◌else◌, List, [], ◌∷◌, ◌++◌, length, take, drop, map, slice_index, Option, Some, None}
+use Rattle.std.specs.List.{flat_map}
+use Rattle.amqp_frame.specs.Splits.{IsHeld}
+use Rattle.amqp_frame.specs.Units.{bytes_of, AreUnits, due_behind}
+use Rattle.amqp_frame.specs.declared.units.Stage.TheVariants as due
+use Rattle.amqp_session.specs.Calls as session
+use Rattle.amqp_session.specs.Calls.{Take}
+use Rattle.amqp_session.specs.declared.slot.Slot.TheVariants.{Live}
+use Rattle.amqp_session.specs.Laws.{IsCallInRange}
+use Rattle.amqp_session.specs.Sessions.{LiveLink, SessionState}
+use Rattle.amqp_perform.specs.declared.condition.Condition.{Condition}
+use Rattle.amqp_endpoint.specs.declared.event.Event.{Event}
+use Rattle.amqp_endpoint.specs.declared.event.Event.TheVariants as told
+use Rattle.amqp_endpoint.specs.declared.event.Scope.{Scope}
+use Rattle.amqp_endpoint.specs.declared.event.Outcome.{Outcome}
+use Rattle.amqp_endpoint.specs.declared.event.Outcome.TheVariants as outcome
+use Rattle.amqp_endpoint.specs.Configs.{Configured}
+use Rattle.amqp_endpoint.specs.Credits.{granted_since}
+use Rattle.amqp_endpoint.specs.Connections.{ConnectionState, slot_at, connection_ready}
+use Rattle.amqp_endpoint.specs.Held.{HoldsWithin}
+use Rattle.amqp_endpoint.specs.Histories.{part, state_of, Sound}
+use Rattle.amqp_endpoint.specs.Lines.{line_of, told_on}
+use Rattle.amqp_endpoint.specs.Runs.{Call, Feed, InSession, Close, Heartbeat, Finish, Handed, Answer, Fed, Accepted, Dropped, HandedUp, Refused, MovedOut, accepted_answer}
+use Rattle.amqp_endpoint.specs.Runs.{Happened, Acted, Called, Closed, Beat, Over, events, written, units_of, Run, IsStart}
+use Rattle.amqp_endpoint.specs.Steps.{EndpointState}
+use Rattle.amqp_endpoint.specs.Takings.{Taking, lives, takings, taken_in, link_part, link_at, HasItsPart}
+use Rattle.amqp_endpoint.specs.Windows.{HasItsWindow}
+
+-- What is asked of calls. -------------------------------------------------------------------------------------------
+
+-- a piece is of bytes, and a delivery-id has 32 bits
+abbrev pub IsInRange : Call → Type 0
+IsInRange (Feed piece) = (i : ℕ) → slice_index piece i < 256
+IsInRange (InSession channel c) = IsCallInRange c
+IsInRange c = Unit {0}
+
+abbrev pub AreInRange : List Call → Type 0
+AreInRange [] = Unit {0}
+AreInRange (c ∷ calls) = IsInRange c × AreInRange calls
+
+-- What calls and answers say. ---------------------------------------------------------------------------------------
+
+-- the bytes that a feed took: the first ones of its piece
+abbrev pub taken_by : Call → Answer → List ℕ
+taken_by (Feed piece) (Fed used outcome) = take used piece
+taken_by c a = []
+
+-- the bytes that an output moved out
+abbrev pub moved_by : Answer → List ℕ
+moved_by (MovedOut bytes) = bytes
+moved_by a = []
+
+-- What an answer tells: an event, that a call was accepted and answered so, or that the input ended.
+pub data Told : Type 0 where
+  Tells : Event → Told
+  Done : Call → Answer → Told
+  Ends : Told
+
+abbrev pub event_in : Outcome → List Told
+event_in (outcome.Event e) = Tells e ∷ []
+event_in o = []
+
+-- a refused call tells nothing, nor do a feed without an event, an output, and the question for what is held
+abbrev pub told_by : Call → Answer → List Told
+told_by (Feed piece) (Fed used outcome) = event_in outcome
+told_by (InSession channel c) (Refused fault) = []
+told_by (InSession channel c) a = Done (InSession channel c) a ∷ []
+told_by Close (Refused fault) = []
+told_by Close a = Done Close a ∷ []
+told_by Heartbeat (Refused fault) = []
+told_by Heartbeat a = Done Heartbeat a ∷ []
+told_by Finish a = Ends ∷ []
+told_by c a = []
+
+-- all bytes that were taken, in order
+abbrev pub taken : List Call → List Answer → List ℕ
+taken (c ∷ calls) (a ∷ answers) = taken_by c a ++ taken calls answers
+taken calls answers = []
+
+-- all that was told, in order
+abbrev pub heard : List Call → List Answer → List Told
+heard (c ∷ calls) (a ∷ answers) = told_by c a ++ heard calls answers
+heard calls answers = []
+
+-- What a history says. ----------------------------------------------------------------------------------------------
+
+-- the input ended, that is, finish was called; a connection that is over by a unit is dead
+abbrev pub has_finished : List Happened → Bool
+has_finished [] = false
+has_finished (Over ∷ h) = true
+has_finished (x ∷ h) = has_finished h
+
+-- What is told of a unit is its event, a failure exactly where its line names a fault. An accepted call is answered by what the history before it gives: a take by the first message that is ready.
+abbrev pub tells : Option Event → List Told
+tells None = []
+tells (Some e) = Tells e ∷ []
+
+abbrev pub told_of : ConnectionState → Happened → List Told
+told_of s (Acted u) = tells (told_on s (line_of s u))
+told_of s (Called channel c) = Done (InSession channel c) (accepted_answer (slot_at s channel) c) ∷ []
+told_of s Closed = Done Close (Dropped (connection_ready s)) ∷ []
+told_of s Beat = Done Heartbeat Accepted ∷ []
+told_of s Over = Ends ∷ []
+
+abbrev pub tellings : Configured → List Happened → List Told
+tellings config [] = []
+tellings config (x ∷ h) = tellings config h ++ told_of (state_of config (events config h)) x
+
+-- what ends by an event, and with which error
+abbrev pub failure_in : Option Event → Option (Scope × Condition)
+failure_in (Some (told.Failed scope condition dropped)) = Some (scope, condition)
+failure_in e = None
+
+-- a message that an answer hands up, with the channel and the handle of its link
+abbrev pub handed_to : ℕ → session.Call → Handed → List (ℕ × ℕ × Handed)
+handed_to channel (Take handle) d = (channel, handle, d) ∷ []
+handed_to channel c d = []  -- no other call hands anything up
+
+abbrev pub message_in : Told → List (ℕ × ℕ × Handed)
+message_in (Done (InSession channel c) (HandedUp d)) = handed_to channel c d
+message_in t = []
+
+abbrev pub placed : Taking → ℕ × ℕ × Handed
+placed t = (t.channel, t.handle, t.handed)
+
+-- The theorem. ------------------------------------------------------------------------------------------------------
+
+-- An endpoint after some calls, of which these bytes were taken, these moved out, and this told, with its history, newest first.
+pub record IsTraced (config : Configured) (took moved : List ℕ) (told : List Told) (h : List Happened) (s : EndpointState) : Type 0 where
+  -- every field of the connection is what selections over the whole history give
+  pub state : s.connection ≡ state_of config (events config h)
+  pub sound : Sound config (events config h)
+  -- the bytes that were taken are the units of the history, each where it may stand, and then a rest: less than a unit, or one that waits
+  pub rest : List ℕ
+  pub units : took ≡ flat_map bytes_of (units_of h) ++ rest
+  pub each : AreUnits config.max_frame due.Header (units_of h)
+  pub held : IsHeld config.max_frame (due_behind due.Header (units_of h)) rest
+  -- the rest is in the buffer, until the input ends: then the buffer is empty
+  pub buffer : s.input.filled ≡ (if has_finished h then [] else rest)
+  pub limit : s.input.limit ≡ config.max_frame
+  pub stage : has_finished h ≡ false → s.input.stage ≡ due_behind due.Header (units_of h)
+  -- all bytes that were written were moved out, or stand in the output
+  pub output : written config h ≡ moved ++ s.unsent
+  -- the events that were told are those of the units, the calls that were accepted are those of the history, answered so, and nothing else was told
+  pub telling : told ≡ tellings config h
+
+-- A new endpoint comes to this by these calls and answers: there is a history of it.
+pub record HasHistory (config : Configured) (calls : List Call) (answers : List Answer) (last : EndpointState) : Type 0 where
+  pub history : List Happened
+  -- its state, the bytes that it took and gave, and what it told are those of the history
+  pub traced : IsTraced config (taken calls answers) (flat_map moved_by answers) (heard calls answers) history last
+  -- what it holds is counted and bounded
+  pub within : HoldsWithin config (events config history) last
+  -- the messages that were handed up are those that the history hands up, in order
+  pub messages : flat_map message_in (heard calls answers) ≡ map placed (takings (events config history))
+  -- each session that lives has the window that its part of the history gives
+  pub windows : (channel : ℕ) (s : SessionState) → slot_at last.connection channel ≡ Live s → HasItsWindow config (part channel (events config history)) s
+  -- each link that lives, with the messages that were taken in its life, is what its part of the history gives
+  pub links : (channel handle : ℕ) (l : LiveLink) → link_at last.connection channel handle ≡ Live l →
+      HasItsPart config (link_part channel handle (events config history)) (granted_since channel handle (events config history))
+      (taken_in channel handle (lives channel handle (events config history)) (events config history)) l
+
+-- So many of the calls are made: where the endpoint stands then, the run goes on to its end, and there is a history, behind what happened later in the whole one.
+pub record HasMoment (config : Configured) (start : EndpointState) (calls : List Call) (answers : List Answer) (last : EndpointState) (whole : List Happened) (n : ℕ) : Type 0 where
+  pub now : EndpointState
+  pub so_far : Run start (take n calls) (take n answers) now
+  pub goes_on : Run now (drop n calls) (drop n answers) last
+  pub past : HasHistory config (take n calls) (take n answers) now
+  pub later : List Happened
+  pub grown : whole ≡ later ++ past.history
+
+-- A whole run of a new endpoint: it has a history at its end, the history after each of its calls is where that one had come to, and each call adds one thing to it at most.
+pub record IsWholeRun (config : Configured) (calls : List Call) (answers : List Answer) (last : EndpointState) : Type 0 where
+  pub start : EndpointState
+  pub new : IsStart config start
+  pub run : Run start calls answers last
+  pub past : HasHistory config calls answers last
+  pub each : (n : ℕ) → n ≤ length calls → HasMoment config start calls answers last past.history n
+  pub grows : (n : ℕ) (before : n ≤ length calls) (after : suc n ≤ length calls) →
+      (added : List Happened) × (length added ≤ 1) × ((each (suc n) after).past.history ≡ added ++ (each n before).past.history)
