@@ -1,6 +1,6 @@
 -- What was handed up of each link, life by life: what its own history says.
 use Rattle.std.proofs.Common.{arith, ◌≡◌, ℕ, suc, ◌<◌, ◌⊎◌, inl, inr, Bool, true, false, List, [], ◌∷◌, ◌++◌, map, refl, sym, ap, ◌∙◌, subst, Option, Some, None}
-use Rattle.std.specs.Prelude.{if◌then◌else◌, ◌&&◌, nat_eq, filter, option_map}
+use Rattle.std.specs.Prelude.{if◌then◌else◌, ◌&&◌, nat_eq, filter, option_map, slice_get, unwrap_or}
 use Rattle.std.proofs.lemmas.Bool.{eqb-true, eq-eqb}
 use Rattle.std.proofs.lemmas.Bool.Decides.{eqb_tells}
 use Rattle.std.proofs.lemmas.List.{append-nil, map-append}
@@ -13,12 +13,12 @@ use Rattle.amqp_session.specs.declared.terms.SessionTerms.{SessionTerms}
 use Rattle.amqp_session.specs.Histories as session
 use Rattle.amqp_session.specs.Places.{Life, slot_map, lived_on, life_after}
 use Rattle.amqp_session.specs.Sessions as of_session
-use Rattle.amqp_session.specs.Sessions.{Attached, SessionEvent}
+use Rattle.amqp_session.specs.Sessions.{Attached, LiveLink, SessionState, SessionEvent, SessionMay}
 use Rattle.amqp_endpoint.specs.Connections as event
-use Rattle.amqp_endpoint.specs.Connections.{ConnectionEvent, happens}
+use Rattle.amqp_endpoint.specs.Connections.{ConnectionState, ConnectionEvent, ConnectionMay, slot_at, happens}
 use Rattle.amqp_endpoint.specs.Histories.{part}
 use Rattle.amqp_endpoint.specs.Runs.{Handed, handed_of}
-use Rattle.amqp_endpoint.specs.Takings.{Taking, attaches_at, attaches_on, lives, handed_up_in, taking_on, takings, is_of, taken_in, part_in, link_part}
+use Rattle.amqp_endpoint.specs.Takings.{Taking, attaches_at, attaches_on, lives, handed_up_in, taking_on, takings, is_of, taken_in, part_in, link_part, link_in, link_at}
 
 -- One event at one handle. ----------------------------------------------------------------------------------------------
 
@@ -258,3 +258,63 @@ module _ (channel handle : ℕ) where
       taken_in channel handle (lives channel handle h) h ≡ map handed_of (handed_up past)
   unfolding of_these
   taken_by_part h a past e = (counted h).now a past e
+
+-- Where no link lives nothing is taken. ---------------------------------------------------------------------------------
+
+where_none : {T : Type 0} (b : Bool) (o : Option T) → (b ≡ true → o ≡ None) → (if b then o else None) ≡ None
+where_none true o h = h refl
+where_none false o h = refl
+
+none_at : (t : SessionState) (handle : ℕ) (e : SessionEvent) → SessionMay t e → ((l : LiveLink) → of_session.slot_at t handle ≡ Live l → ⊥) → at_handle handle (handed_up_in e) ≡ None
+none_at t handle (of_session.Called place x) may none =
+    sym (at_place handle place (handed_up_by x)) ∙ where_none (nat_eq place handle) (handed_up_by x)
+    (λ same. absurd (none may.2.0 (ap (λ (k : ℕ). unwrap_or (slice_get t.links k) Free) (sym (eqb-true place handle same)) ∙ ap (λ (o : Option (Slot LiveLink)). unwrap_or o Free) may.2.1)))
+none_at t handle (of_session.LinkAttached place a) may none = refl
+none_at t handle (of_session.LinkRefused place) may none = refl
+none_at t handle (of_session.TransferCame place x) may none = refl
+none_at t handle (of_session.TransferEnded place) may none = refl
+none_at t handle (of_session.LinkFlowCame place next_id count) may none = refl
+none_at t handle (of_session.LinkFlowEnded place next_id) may none = refl
+none_at t handle (of_session.PeerSettled first last) may none = refl
+none_at t handle (of_session.Settled first last) may none = refl
+none_at t handle (of_session.PeerDetached place) may none = refl
+none_at t handle (of_session.Detached place) may none = refl
+none_at t handle (of_session.Widened n) may none = refl
+none_at t handle (of_session.TransferDropped place) may none = refl
+none_at t handle (of_session.FlowCame next_id) may none = refl
+none_at t handle of_session.Ignored may none = refl
+
+none_given : (s : ConnectionState) (channel handle : ℕ) (e : ConnectionEvent) → ConnectionMay s e → ((l : LiveLink) → link_at s channel handle ≡ Live l → ⊥) → given_at channel handle e ≡ None
+none_given s channel handle (event.InSession place e) may none =
+    where_none (nat_eq place channel) (at_handle handle (handed_up_in e)) (λ same.
+    let here : slot_at s channel ≡ Live may.2.0 = ap (λ (k : ℕ). unwrap_or (slice_get s.sessions k) Free) (sym (eqb-true place channel same))
+    ∙ ap (λ (o : Option (Slot SessionState)). unwrap_or o Free) may.2.1 in
+    none_at may.2.0 handle e may.2.2 (λ l at. none l (ap (λ (x : Slot SessionState). link_in handle x) here ∙ at)))
+none_given s channel handle event.HeaderCame may none = refl
+none_given s channel handle event.HeaderRefused may none = refl
+none_given s channel handle (event.Opened m c) may none = refl
+none_given s channel handle event.Broken may none = refl
+none_given s channel handle event.Failed may none = refl
+none_given s channel handle event.CloseAsked may none = refl
+none_given s channel handle event.PeerClosed may none = refl
+none_given s channel handle event.Lost may none = refl
+none_given s channel handle (event.Begun place terms) may none = refl
+none_given s channel handle (event.SessionFailed place) may none = refl
+none_given s channel handle (event.SessionEnded place) may none = refl
+none_given s channel handle event.Ignored may none = refl
+none_given s channel handle event.Finished may none = refl
+
+no_messages : (b : Bool) (o : Option Delivery) → (b ≡ true → o ≡ None) → (if b then messages o else []) ≡ []
+no_messages true o h = ap (λ (x : Option Delivery). messages x) (h refl)
+no_messages false o h = refl
+
+-- in a life that has ended, or is to come, nothing more is taken
+pub still_taken : (s : ConnectionState) (h : List ConnectionEvent) (e : ConnectionEvent) (channel handle life : ℕ) → ConnectionMay s e →
+    ((l : LiveLink) → link_at s channel handle ≡ Live l → lives channel handle h ≡ life → ⊥) → taken_in channel handle life (e ∷ h) ≡ taken_in channel handle life h
+unfolding of_these
+still_taken s h e channel handle life may none =
+    taken_more channel handle life e h
+    ∙ ap (λ (l : List Handed). of_these channel handle life (takings h) ++ l)
+    (no_messages (nat_eq (lives channel handle h) life) (given_at channel handle e)
+    (λ same. none_given s channel handle e may (λ l at. none l at (eqb-true (lives channel handle h) life same))))
+    ∙ append-nil (of_these channel handle life (takings h))

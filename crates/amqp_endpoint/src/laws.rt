@@ -140,9 +140,11 @@ pub fn runs_have_a_history()
 }
 
 /// What was handed up in the life of a link, over the history of a whole connection, is what the part that this link
-/// has of the history hands up. Links follow one another at a handle: each attach there begins the next life [2.6.2].
+/// has of the history hands up. Links follow one another at a handle: each attach there begins the next life [2.6.2]. In
+/// a life that has ended, or is to come, nothing more is handed up.
 pub fn each_life_has_its_own_messages()
-    ensures { (channel handle : ℕ) (h : List ConnectionEvent) (a : Attached) (past : List LinkEvent) → link_part channel handle h ≡ Live (a, past) → taken_in channel handle (lives channel handle h) h ≡ map handed_of (handed_up past) }
+    ensures stays { (config : Configured) (h : List ConnectionEvent) (e : ConnectionEvent) (channel handle life : ℕ) → ConnectionMay (state_of config h) e → ((l : LiveLink) → link_at (state_of config h) channel handle ≡ Live l → lives channel handle h ≡ life → ⊥) → taken_in channel handle life (e ∷ h) ≡ taken_in channel handle life h }
+    ensures part { (channel handle : ℕ) (h : List ConnectionEvent) (a : Attached) (past : List LinkEvent) → link_part channel handle h ≡ Live (a, past) → taken_in channel handle (lives channel handle h) h ≡ map handed_of (handed_up past) }
 {}
 
 /// A take is refused with `NothingReady` exactly where its link lives and no delivery of it is ready: each whole one

@@ -1,5 +1,9 @@
-use Rattle.amqp_endpoint.proofs.Takings.{taken_by_part}
+use Rattle.amqp_endpoint.specs.Histories.{state_of}
+use Rattle.amqp_endpoint.proofs.Takings.{taken_by_part, still_taken}
 use Rattle.amqp_endpoint.proofs.laws.each_life_has_its_own_messages.Goals as goal
 
-pub returns : goal.returns
-returns c = taken_by_part
+pub returns-clause-part : goal.returns-clause-part
+returns-clause-part c = taken_by_part
+
+pub returns-clause-stays : goal.returns-clause-stays
+returns-clause-stays c = λ config h. still_taken (state_of config h) h
