@@ -80,6 +80,12 @@ pub record IsSound (max : ℕ) (stage : Stage) (bytes : List ℕ) (reserved : �
   pub held : IsHeld max stage bytes
   pub judged : IsJudged max stage bytes progress
 
+-- What a splitter holds once so many bytes of a piece came behind what it held.
+pub record IsFilled (max : ℕ) (stage : Stage) (old piece : List ℕ) (count : ℕ) (new : List ℕ) (reserved : ℕ) (progress : Progress) : Type 0 where
+  pub bound : count ≤ length piece
+  pub bytes : new ≡ old ++ take count piece
+  pub sound : IsSound max stage new reserved progress
+
 -- this unit waits
 abbrev pub Waits : SplitterState → StreamUnit → Type 0
 Waits s u = Stands s.limit s.stage s.filled u

@@ -1,7 +1,7 @@
 //! Cutting a stream into its units.
 ghost use Rattle.std.specs.Prelude.{◌≡◌, ℕ, ◌+◌, ◌*◌, ◌⊎◌, ◌<◌, ◌≤◌, ◌++◌, [], ◌∷◌, List, length, take, IfOk, IfSome, IfNone, IsTrue, ◌↔◌, vec_capacity};
 ghost use Rattle.amqp_frame.specs.Units.{StreamUnit, HeaderUnit, IsRest, due_after, offset_of, channel_of, body_of};
-ghost use Rattle.amqp_frame.specs.Splits.{IsHeld, IsJudged, IsSound, IsWanted, IsWholeIn, IsOver, TakesNothing, IsOne, Waits, IsUnchanged, IsEmptied, IsFrameAnswer, IsNext, WentBy};
+ghost use Rattle.amqp_frame.specs.Splits.{IsHeld, IsJudged, IsSound, IsFilled, IsWanted, IsWholeIn, IsOver, TakesNothing, IsOne, Waits, IsUnchanged, IsEmptied, IsFrameAnswer, IsNext, WentBy};
 
 use crate::units::{Frame, FrameFault, HEADER, Progress, Stage, progress_of, whole_size};
 use byteorder::{BigEndian, ByteOrder};
@@ -194,9 +194,7 @@ fn fill_once<A: Allocator>(
     piece: &[u8],
 ) -> usize
     requires { IsSound max stage bytes.old.items (vec_capacity bytes.old) progress.old }
-    ensures bound { result ≤ length piece.now }
-    ensures filled { bytes.new.items ≡ bytes.old.items ++ take result piece.now }
-    ensures sound { IsSound max stage bytes.new.items (vec_capacity bytes.new) progress.new }
+    ensures filled { IsFilled max stage bytes.old.items piece.now result bytes.new.items (vec_capacity bytes.new) progress.new }
     ensures full { result ≡ 0 → 0 < length piece.now → IsOne max stage bytes.new.items ⊎ IsOver stage }
 {
     let count = wanted(max, stage, *progress, bytes.as_slice()).min(piece.len());
@@ -217,9 +215,7 @@ fn fill_by_steps<A: Allocator>(
     piece: &[u8],
 ) -> usize
     requires { IsSound max stage bytes.old.items (vec_capacity bytes.old) progress.old }
-    ensures bound { result ≤ length piece.now }
-    ensures filled { bytes.new.items ≡ bytes.old.items ++ take result piece.now }
-    ensures sound { IsSound max stage bytes.new.items (vec_capacity bytes.new) progress.new }
+    ensures filled { IsFilled max stage bytes.old.items piece.now result bytes.new.items (vec_capacity bytes.new) progress.new }
     ensures all { result < length piece.now → IsOne max stage bytes.new.items ⊎ IsOver stage }
 {
     let mut taken = 0;
@@ -243,9 +239,7 @@ fn fill<A: Allocator>(
     piece: &[u8],
 ) -> usize
     requires { IsSound max stage bytes.old.items (vec_capacity bytes.old) progress.old }
-    ensures bound { result ≤ length piece.now }
-    ensures filled { bytes.new.items ≡ bytes.old.items ++ take result piece.now }
-    ensures sound { IsSound max stage bytes.new.items (vec_capacity bytes.new) progress.new }
+    ensures filled { IsFilled max stage bytes.old.items piece.now result bytes.new.items (vec_capacity bytes.new) progress.new }
     ensures all { result < length piece.now → IsOne max stage bytes.new.items ⊎ IsOver stage }
 {
     match whole_in(max, stage, bytes.as_slice(), piece) {

@@ -3,10 +3,10 @@ use Rattle.amqp_frame.proofs.Fronts.{taken_more, length_rest}
 use Rattle.amqp_frame.proofs.split.fill_by_steps.Goals as goal
 
 pub loop-taken-preserved : goal.loop-taken-preserved
-loop-taken-preserved g c = record {
-  bound = let l = c.fill_once-count.ensures.bound in omega (arith, length_rest c.args.piece.now c.loop-taken.taken);
-  filled =
-      taken_more c.args.bytes.now.items c.loop-taken.bytes.items c.fill_once-count.new.bytes.items c.args.piece.now c.loop-taken.taken c.fill_once-count.result
-      c.loop-taken.invariant.filled c.fill_once-count.ensures.filled;
-  sound = c.fill_once-count.ensures.sound;
-}
+loop-taken-preserved g c =
+    let once = c.fill_once-count.ensures.filled in record {
+      bound = omega (arith, once.bound, length_rest c.args.piece.now c.loop-taken.taken);
+      bytes =
+          taken_more c.args.bytes.now.items c.loop-taken.bytes.items c.fill_once-count.new.bytes.items c.args.piece.now c.loop-taken.taken c.fill_once-count.result c.loop-taken.invariant.bytes once.bytes;
+      sound = once.sound;
+    }

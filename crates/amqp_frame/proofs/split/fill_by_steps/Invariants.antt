@@ -1,13 +1,9 @@
-use Rattle.std.proofs.Common.{◌≡◌, ◌-◌, ◌≤◌, ◌++◌, length, take, vec_capacity}
-use Rattle.amqp_frame.specs.Splits.{IsSound}
+use Rattle.std.proofs.Common.{◌-◌, length, vec_capacity}
+use Rattle.amqp_frame.specs.Splits.{IsFilled}
 use Rattle.amqp_frame.proofs.split.fill_by_steps.Given as goal
 
 abbrev pub invariant-loop-taken : goal.invariant-loop-taken
-invariant-loop-taken g l = record {
-  bound : l.taken ≤ length l.piece;
-  filled : l.bytes.items ≡ l.fn.bytes.items ++ take l.taken l.piece;
-  sound : IsSound l.max l.stage l.bytes.items (vec_capacity l.bytes) l.progress;
-}
+invariant-loop-taken g l = IsFilled l.max l.stage l.fn.bytes.items l.piece l.taken l.bytes.items (vec_capacity l.bytes) l.progress
 
 abbrev pub decreases-loop-taken : goal.decreases-loop-taken
 decreases-loop-taken g l = length l.piece - l.taken
