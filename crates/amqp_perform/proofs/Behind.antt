@@ -79,7 +79,7 @@ boolean_byte w bytes = tested (big_at w 1 bytes) ∙ ap (checked (λ (n : ℕ ×
     tested (Ok n) = unless_not (ltb n.0 2) (BadBoolean (place w bytes)) n
     tested (Err e) = refl
 
--- ---- octets behind their size
+-- Octets behind their size. -------------------------------------------------------------------------------------------
 
 abbrev pub are_of : Kind → List ℕ → Bool
 are_of kind.String octets = is_utf8 octets
@@ -116,7 +116,7 @@ sized_is w k s bytes = from_size (big_at w (size_len s) bytes) ∙ widths s
     widths size.One = ap (λ (o : Option (ℕ × List ℕ)). checked (λ (x : List ℕ × List ℕ). are_of k x.0) (behind_size o)) (byte_is w bytes)
     widths size.Four = ap (λ (o : Option (ℕ × List ℕ)). checked (λ (x : List ℕ × List ℕ). are_of k x.0) (behind_size o)) (big_is w 4 bytes)
 
--- ---- blocks
+-- Blocks. -------------------------------------------------------------------------------------------------------------
 
 abbrev pub counts_read : Read ℕ → Read ℕ
 counts_read read = read >>= λ count. Ok count

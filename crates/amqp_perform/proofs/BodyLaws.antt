@@ -88,7 +88,7 @@ body_only bytes d cells payload (fields, items, text, table, parts, spelled, dee
     ap (fields_at fields (length items)) (sym (append-nil (text_of items))) ∙ fields_again fields items cells [] list.spelled (omega (arith, deep)) are in
     rw (parts, list.head, list.list, table, read) refl
 
--- ---- faults
+-- Faults. -------------------------------------------------------------------------------------------------------------
 
 pub faults : (bytes : List ℕ) → IsBytes bytes → body_at bytes ≡ None → IsFaultOf bytes (fault_of bytes)
 unfolding fault_of
@@ -103,7 +103,7 @@ faults bytes fits none = by (value_of 32 None bytes) refl
         }
     by (Err e) is = value_misread 32 (outermost bytes) 1 None bytes e fits is
 
--- ---- what read_body answers
+-- What read_body answers. ---------------------------------------------------------------------------------------------
 
 -- the payload is the end of the bytes
 pub payload_behind : (bytes : List ℕ) (d : Descriptor) (cells : List Cell) (payload : List ℕ) → IsBytes bytes → body_at bytes ≡ Some (d, cells, payload)

@@ -33,7 +33,7 @@ named read = read >>= λ s. by_symbol s.0 >>= λ d. Some (d, s.1)
 abbrev pub descriptor_rows : List (RowOf (Descriptor × List ℕ))
 descriptor_rows = (0x53, λ rest. coded (byte_at rest)) ∷ (0x80, λ rest. coded (eight_at rest)) ∷ (0xa3, λ rest. named (short_at rest)) ∷ (0xb3, λ rest. named (long_at rest)) ∷ []
 
--- ---- no symbol beyond ASCII describes a type
+-- No symbol beyond ASCII describes a type. ----------------------------------------------------------------------------
 
 abbrev are_plain : List Descriptor → Bool
 are_plain [] = true
@@ -67,7 +67,7 @@ named_checked (Some x) = tested (are_of kind.Symbol x.0) refl
     tested true e = refl
     tested false e = rw (unnamed x.0 e) refl
 
--- ---- the rows
+-- The rows. -----------------------------------------------------------------------------------------------------------
 
 abbrev described_behind : ℕ → List ℕ → Option (Descriptor × List ℕ)
 described_behind code rest = descriptor_from (value_of 31 None (code ∷ rest))
@@ -100,7 +100,7 @@ zero_row : (rest : List ℕ) → described_behind 0x44 rest ≡ None
 unfolding value_by item_by number_at form_at by_code
 zero_row rest = refl
 
--- ---- the other codes
+-- The other codes. ----------------------------------------------------------------------------------------------------
 
 describes : Kind → Bool
 describes kind.Ulong = true

@@ -11,7 +11,7 @@ use Rattle.amqp_perform.specs.Tables.{Field}
 use Rattle.amqp_perform.proofs.Steps.{bind_some, triple_is}
 use Rattle.amqp_perform.proofs.ItemLaws.{BeginsWith, item_found, item_again}
 
--- ---- one field
+-- One field. ----------------------------------------------------------------------------------------------------------
 
 abbrev Given : Type 0
 Given = Cell × ℕ × List ℕ
@@ -50,7 +50,7 @@ field_found f n bytes x fits e =
       sym (typed.1 ∙ kept.1),
     )
 
--- ---- all of them
+-- All of them. --------------------------------------------------------------------------------------------------------
 
 -- the bytes begin with so many items, which are these cells by the table
 pub record AreItems (fs : List Field) (left : ℕ) (bytes : List ℕ) (cells : List Cell) (rest : List ℕ) : Type 0 where

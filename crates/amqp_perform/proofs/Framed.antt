@@ -19,7 +19,7 @@ use Rattle.amqp_perform.specs.declared.performative.Performative.{Performative}
 use Rattle.amqp_perform.specs.Frames.{trimmed, list_text, list_head, head_text, frame_text, described_text, list_frame, frame_of, field_spelling, field_spellings, Writes, FitsFrame, IsWritten}
 use Rattle.amqp_perform.proofs.Writings.{writes-writes}
 
--- ---- the parts
+-- The parts. ----------------------------------------------------------------------------------------------------------
 
 -- a descriptor is spelled as a small ulong [1.6.5]
 code_text : (d : Descriptor) → canonical (Number kind.Ulong (code_of d)) ≡ 0x53 ∷ code_of d ∷ []
@@ -160,7 +160,7 @@ pub same_performative : (channel : ℕ) (p q : Performative) (payload : List ℕ
     → IsWritten (frame_of channel q payload) r old new → IsWritten (frame_of channel p payload) r old new
 same_performative channel p q payload r old new same w = subst (λ (x : Performative). IsWritten (frame_of channel x payload) r old new) (sym same) w
 
--- ---- one frame of the stream
+-- One frame of the stream. --------------------------------------------------------------------------------------------
 
 pub one_frame : (max channel : ℕ) (body : List ℕ) → channel < 2 ^ 16 → length (frame_text channel body) < 2 ^ 32 → length (frame_text channel body) ≤ max
     → IsFrame max (frame_text channel body) × (channel_of (frame_text channel body) ≡ channel) × (body_of (frame_text channel body) ≡ body)

@@ -16,7 +16,7 @@ use Rattle.amqp_perform.specs.Items.{Item}
 use Rattle.amqp_perform.specs.Reading.{item_from, item_at, descriptor_from, descriptor_at}
 use Rattle.amqp_perform.proofs.Steps.{bind_some}
 
--- ---- items
+-- Items. --------------------------------------------------------------------------------------------------------------
 
 front_is : (bytes text rest : List ℕ) → bytes ≡ text ++ rest → take (length bytes - length rest) bytes ≡ text
 front_is bytes text rest e =
@@ -53,7 +53,7 @@ item_again tree text rest spelled deep =
     ap (item_from bytes) (value_again tree 30 (outermost bytes) 1 None text rest spelled deep tt (λ c. absurd c))
     ∙ ap (λ (t : List ℕ). Some (record { tree = tree; text = t }, rest)) (front_is bytes text rest refl)
 
--- ---- descriptors
+-- Descriptors. --------------------------------------------------------------------------------------------------------
 
 -- 00 and what describes a list as one of the type
 pub record DescribesAs (bytes : List ℕ) (d : Descriptor) (rest : List ℕ) : Type 0 where

@@ -26,7 +26,7 @@ frame_parts channel s payload = frame_len channel s.type (said_texts s) (trimmed
 pub frame_payload : (channel : ℕ) (s : Said) (payload : List ℕ) → length (said_frame channel s payload) ≡ length (said_frame channel s []) + length payload
 frame_payload channel s payload = omega (arith, frame_parts channel s payload, frame_parts channel s [])
 
--- ---- the texts without the nulls at the end
+-- The texts without the nulls at the end. -----------------------------------------------------------------------------
 
 trim_one : (text : List ℕ) (texts : List (List ℕ)) → length (concat (before_nulls text texts)) ≤ length text + length (concat texts)
 trim_one text texts =
@@ -39,7 +39,7 @@ trimmed_short : (texts : List (List ℕ)) → length (concat (trimmed texts)) �
 trimmed_short [] = omega arith
 trimmed_short (text ∷ texts) = omega (arith, trim_one text (trimmed texts), trimmed_short texts, length-append text (concat texts))
 
--- ---- the list
+-- The list. -----------------------------------------------------------------------------------------------------------
 
 block_short : (s : SizeWidth) (n : ℕ) (content : List ℕ) → length (block s n content) ≤ 8 + length content
 block_short size.One n content = omega (arith, length-append (big_bytes 1 (1 + length content)) (big_bytes 1 n ++ content), length-append (big_bytes 1 n) content)
@@ -57,7 +57,7 @@ frame_most channel s payload =
     let t = trimmed (said_texts s) in
     omega (arith, frame_parts channel s payload, list_short (length t) (concat t), trimmed_short (said_texts s))
 
--- ---- fewer items of fewer bytes
+-- Fewer items of fewer bytes. -----------------------------------------------------------------------------------------
 
 record IsLess (a b : List (List ℕ)) : Type 0 where
   count : length a ≤ length b
@@ -145,7 +145,7 @@ null_adds_no_more channel d before behind text payload some =
       list_grows (trimmed null) (trimmed other) (less before behind text some),
     )
 
--- ---- the fields
+-- The fields. ---------------------------------------------------------------------------------------------------------
 
 pub octets_short : (type : FieldType) (octets : List ℕ) → length (cell_text type (Bytes octets)) ≤ 5 + length octets
 octets_short type octets = by (ltb (length octets) 256)

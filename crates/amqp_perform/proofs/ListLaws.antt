@@ -96,7 +96,7 @@ items_spelled : (xs : List Item) (text : List ℕ) → SpellsList xs text → Ar
 items_spelled xs text (inl h) = rw h.3 tt
 items_spelled xs text (inr h) = h.6
 
--- ---- described lists
+-- Described lists. ----------------------------------------------------------------------------------------------------
 
 -- the items of a list that is read
 abbrev pub list_of_items : List Item → List ℕ → ListAt

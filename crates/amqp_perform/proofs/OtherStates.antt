@@ -27,6 +27,21 @@ not_zero code c found zero = let e : find_code 0 ≡ Some c = ap find_code (sym 
 undescribed : (code : ℕ) (c : Constructor) (text behind rest : List ℕ) → find_code code ≡ Some c → text ≡ code ∷ behind → descriptor_at (text ++ rest) ≡ None
 undescribed code c text behind rest found joined = ap (λ (b : List ℕ). descriptor_at (b ++ rest)) joined ∙ no_descriptor (code ∷ (behind ++ rest)) (behind ++ rest) code refl (not_zero code c found)
 
+abbrev IsNotDescribed : Tree → Type 0
+IsNotDescribed (Described d t) = ⊥
+IsNotDescribed t = Unit {0}
+
+-- no descriptor is read of a value that is not described
+not_described : (t : Tree) (text rest : List ℕ) → Spells t text → IsNotDescribed t → descriptor_at (text ++ rest) ≡ None
+unfolding Spells
+not_described (Number k n) text rest h other = undescribed h.0 _ text h.2 rest h.3 h.4
+not_described (Octets k octets) text rest h other = undescribed h.0 _ text h.2 rest h.3 h.4
+not_described (ListOf ts) text rest (inl h) other = undescribed h.0 _ text [] rest h.1 h.2
+not_described (ListOf ts) text rest (inr h) other = undescribed h.0 _ text h.3 rest h.4 h.5
+not_described (MapOf ps) text rest h other = undescribed h.0 _ text h.3 rest h.4 h.5
+not_described (ArrayOf ds k ts) text rest h other = undescribed h.0 _ text h.6 rest h.7 h.8
+not_described (Described d t) text rest h other = absurd other
+
 -- the type, and what is left
 abbrev with_rest : Option Descriptor → List ℕ → Option (Descriptor × List ℕ)
 with_rest o rest = o >>= λ k. Some (k, rest)
@@ -53,7 +68,7 @@ no_list (MapOf ps) text rest h other = rw (h.5, h.4) refl
 no_list (ArrayOf ds k ts) text rest h other = rw (h.8, h.7) refl
 no_list (Described d t) text rest h other = rw h.2 refl
 
--- ---- conditions
+-- Conditions. ---------------------------------------------------------------------------------------------------------
 
 abbrev first_condition : Option (Descriptor × ListAt) → Rattle.amqp_perform.specs.declared.condition.Condition.Condition
 first_condition read = unwrap_or (read >>= λ x. error_items x.0 x.1 >>= λ list. typed_at symbol list.count list.items >>= λ read. Some (cell_condition read.0)) condition.Other
@@ -73,18 +88,13 @@ of_list (Some k) second other = of_another k (list_at second) other
 
 pub no_condition : (t : Tree) (text rest : List ℕ) → Spells t text → depth_of t ≤ 32 → is_error t ≡ false → condition_of (text ++ rest) ≡ condition.Other
 unfolding condition_of described_at Spells
-no_condition (Number k n) text rest h deep other = rw (undescribed h.0 _ text h.2 rest h.3 h.4) refl
-no_condition (Octets k octets) text rest h deep other = rw (undescribed h.0 _ text h.2 rest h.3 h.4) refl
-no_condition (ListOf ts) text rest (inl h) deep other = rw (undescribed h.0 _ text [] rest h.1 h.2) refl
-no_condition (ListOf ts) text rest (inr h) deep other = rw (undescribed h.0 _ text h.3 rest h.4 h.5) refl
-no_condition (MapOf ps) text rest h deep other = rw (undescribed h.0 _ text h.3 rest h.4 h.5) refl
-no_condition (ArrayOf ds k ts) text rest h deep other = rw (undescribed h.0 _ text h.6 rest h.7 h.8) refl
 no_condition (Described d (ListOf ts)) text rest h deep other =
     rw (described_parts text h.0 h.1 rest h.2, described_head d h.0 (h.1 ++ rest) h.3 (omega (arith, deep))) (of_list (described_by d) (h.1 ++ rest) other)
 no_condition (Described d t) text rest h deep other =
     rw (described_parts text h.0 h.1 rest h.2, described_head d h.0 (h.1 ++ rest) h.3 (omega (arith, deep))) (of_no_list (described_by d) (h.1 ++ rest) (no_list t h.1 rest h.4 tt))
+no_condition t text rest h deep other = rw (not_described t text rest h tt) refl
 
--- ---- outcomes
+-- Outcomes. -----------------------------------------------------------------------------------------------------------
 
 of_no_state : (o : Option Descriptor) (second : List ℕ) → is_state_type o ≡ false → (with_rest o second >>= λ x. outcome_by x.0 x.1) ≡ None
 of_no_state None second other = refl
@@ -96,11 +106,6 @@ of_no_state (Some _) second other = refl
 
 pub no_outcome : (t : Tree) (text rest : List ℕ) → Spells t text → depth_of t ≤ 32 → is_state t ≡ false → outcome_of (text ++ rest) ≡ None
 unfolding outcome_of Spells
-no_outcome (Number k n) text rest h deep other = rw (undescribed h.0 _ text h.2 rest h.3 h.4) refl
-no_outcome (Octets k octets) text rest h deep other = rw (undescribed h.0 _ text h.2 rest h.3 h.4) refl
-no_outcome (ListOf ts) text rest (inl h) deep other = rw (undescribed h.0 _ text [] rest h.1 h.2) refl
-no_outcome (ListOf ts) text rest (inr h) deep other = rw (undescribed h.0 _ text h.3 rest h.4 h.5) refl
-no_outcome (MapOf ps) text rest h deep other = rw (undescribed h.0 _ text h.3 rest h.4 h.5) refl
-no_outcome (ArrayOf ds k ts) text rest h deep other = rw (undescribed h.0 _ text h.6 rest h.7 h.8) refl
 no_outcome (Described d t) text rest h deep other =
     rw (described_parts text h.0 h.1 rest h.2, described_head d h.0 (h.1 ++ rest) h.3 (omega (arith, deep))) (of_no_state (described_by d) (h.1 ++ rest) other)
+no_outcome t text rest h deep other = rw (not_described t text rest h tt) refl

@@ -18,7 +18,7 @@ use Rattle.amqp_perform.proofs.Rows.{Row, typed_by, AreRead, null_read, read_by,
 abbrev null_row : Row
 null_row = (0x40, λ rest. Some (Absent, rest))
 
--- ---- numbers
+-- Numbers. ------------------------------------------------------------------------------------------------------------
 
 abbrev pub boolean_rows : List Row
 boolean_rows =
@@ -106,7 +106,7 @@ uint_read = (
 pub uint_is : (left : ℕ) (bytes : List ℕ) → typed_at uint left bytes ≡ (code_at left bytes >>= typed_by uint_rows)
 uint_is = read_by uint uint_rows uint_read refl refl
 
--- ---- octets
+-- Octets. -------------------------------------------------------------------------------------------------------------
 
 -- octets behind a size of one byte, and of four, where they pass
 abbrev pub octets_rows : ℕ → ℕ → (List ℕ → Bool) → List Row

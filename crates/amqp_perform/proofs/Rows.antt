@@ -38,7 +38,7 @@ by_rows (row ∷ rows) code rest = cond (eqb code row.0) (row.1 rest) (by_rows r
 abbrev pub typed_by : List Row → ℕ × ℕ × List ℕ → Option (Cell × ℕ × List ℕ)
 typed_by rows x = by_rows rows x.0 x.2 >>= with_left x.1
 
--- ---- a table of codes
+-- A table of codes. ---------------------------------------------------------------------------------------------------
 
 abbrev pub codes_of : {B : Type 0} → List (RowOf B) → List ℕ
 codes_of [] = []
@@ -67,7 +67,7 @@ module _ {B : Type 0} (read : ℕ → List ℕ → Option B) where
 abbrev pub AreRead : FieldType → List Row → Type 0
 AreRead type rows = AreRows (data_cell type) rows
 
--- ---- codes of other kinds
+-- Codes of other kinds. -----------------------------------------------------------------------------------------------
 
 -- the kinds that a field of the type reads
 abbrev pub accepts : FieldType → Kind → Bool
@@ -126,37 +126,19 @@ others_yield P accepted ks depth code rest all others described leaf =
 
 number_none : (type : FieldType) (k : Kind) (n : ℕ) (text : List ℕ) → accepts type k ≡ false → typed_cell type (record { tree = Number k n; text = text }) ≡ None
 number_none anything k n text e = absurd cc
-number_none boolean kind.Null n text e = absurd cc
+number_none type kind.Null n text e = absurd cc
 number_none boolean kind.Boolean n text e = absurd cc
-number_none boolean k n text e = refl
-number_none (ubyte_to most) kind.Null n text e = absurd cc
 number_none (ubyte_to most) kind.Ubyte n text e = absurd cc
-number_none (ubyte_to most) k n text e = refl
-number_none ushort kind.Null n text e = absurd cc
 number_none ushort kind.Ushort n text e = absurd cc
-number_none ushort k n text e = refl
-number_none (uint_from least) kind.Null n text e = absurd cc
 number_none (uint_from least) kind.Uint n text e = absurd cc
-number_none (uint_from least) k n text e = refl
-number_none binary kind.Null n text e = absurd cc
-number_none binary k n text e = refl
-number_none string kind.Null n text e = absurd cc
-number_none string k n text e = refl
-number_none symbol kind.Null n text e = absurd cc
-number_none symbol k n text e = refl
+number_none type k n text e = refl
 
 octets_none : (type : FieldType) (k : Kind) (octets text : List ℕ) → accepts type k ≡ false → typed_cell type (record { tree = Octets k octets; text = text }) ≡ None
 octets_none anything k octets text e = absurd cc
-octets_none boolean k octets text e = refl
-octets_none (ubyte_to most) k octets text e = refl
-octets_none ushort k octets text e = refl
-octets_none (uint_from least) k octets text e = refl
 octets_none binary kind.Binary octets text e = absurd cc
-octets_none binary k octets text e = refl
 octets_none string kind.String octets text e = absurd cc
-octets_none string k octets text e = refl
 octets_none symbol kind.Symbol octets text e = absurd cc
-octets_none symbol k octets text e = refl
+octets_none type k octets text e = refl
 
 abbrev is_leaf : Tree → Bool
 is_leaf (Number k n) = true
@@ -165,36 +147,15 @@ is_leaf t = false
 
 compound_none : (type : FieldType) (t : Tree) (text : List ℕ) → is_leaf t ≡ false → accepts type kind.List ≡ false → typed_cell type (record { tree = t; text = text }) ≡ None
 compound_none anything t text leaf any = absurd cc
-compound_none boolean (Number k n) text leaf any = absurd cc
-compound_none boolean (Octets k octets) text leaf any = absurd cc
-compound_none boolean t text leaf any = refl
-compound_none (ubyte_to most) (Number k n) text leaf any = absurd cc
-compound_none (ubyte_to most) (Octets k octets) text leaf any = absurd cc
-compound_none (ubyte_to most) t text leaf any = refl
-compound_none ushort (Number k n) text leaf any = absurd cc
-compound_none ushort (Octets k octets) text leaf any = absurd cc
-compound_none ushort t text leaf any = refl
-compound_none (uint_from least) (Number k n) text leaf any = absurd cc
-compound_none (uint_from least) (Octets k octets) text leaf any = absurd cc
-compound_none (uint_from least) t text leaf any = refl
-compound_none binary (Number k n) text leaf any = absurd cc
-compound_none binary (Octets k octets) text leaf any = absurd cc
-compound_none binary t text leaf any = refl
-compound_none string (Number k n) text leaf any = absurd cc
-compound_none string (Octets k octets) text leaf any = absurd cc
-compound_none string t text leaf any = refl
-compound_none symbol (Number k n) text leaf any = absurd cc
-compound_none symbol (Octets k octets) text leaf any = absurd cc
-compound_none symbol t text leaf any = refl
+compound_none type (Number k n) text leaf any = absurd cc
+compound_none type (Octets k octets) text leaf any = absurd cc
+compound_none type t text leaf any = refl
 
 tree_none : (type : FieldType) (t : Tree) (k : Kind) (text : List ℕ) → IsOfKind k t → accepts type k ≡ false → accepts type kind.List ≡ false →
     typed_cell type (record { tree = t; text = text }) ≡ None
 tree_none type (Number j n) k text is e any = number_none type j n text (subst (λ (x : Kind). accepts type x ≡ false) (sym is) e)
 tree_none type (Octets j octets) k text is e any = octets_none type j octets text (subst (λ (x : Kind). accepts type x ≡ false) (sym is) e)
-tree_none type (ListOf ts) k text is e any = compound_none type (ListOf ts) text refl any
-tree_none type (MapOf ps) k text is e any = compound_none type (MapOf ps) text refl any
-tree_none type (ArrayOf ds j ts) k text is e any = compound_none type (ArrayOf ds j ts) text refl any
-tree_none type (Described d t) k text is e any = compound_none type (Described d t) text refl any
+tree_none type t k text is e any = compound_none type t text refl any
 
 part_none : (type : FieldType) (bytes : List ℕ) (read : Part Tree) → Yields (λ t. (text : List ℕ) → typed_cell type (record { tree = t; text = text }) ≡ None) read
     → (item_from bytes read >>= λ x. typed_cell type x.0 >>= with_rest x.1) ≡ None
@@ -210,7 +171,7 @@ others_none type rows code rest all any others =
     (others_yield (λ t. (text : List ℕ) → typed_cell type (record { tree = t; text = text }) ≡ None) (accepts type) (codes_of rows) 30 code rest all others
     (λ d t text. compound_none type (Described d t) text refl any) (λ t k is e text. tree_none type t k text is e any))
 
--- ---- a field by a table
+-- A field by a table. -------------------------------------------------------------------------------------------------
 
 pub null_read : (type : FieldType) (rest : List ℕ) → data_cell type 0x40 rest ≡ Some (Absent, rest)
 unfolding value_by item_by number_at form_at
@@ -234,7 +195,7 @@ pub read_by : (type : FieldType) (rows : List Row) → AreRead type rows → cov
     → (left : ℕ) (bytes : List ℕ) → typed_at type left bytes ≡ (code_at left bytes >>= typed_by rows)
 read_by type rows all table any = typed_is type rows (λ code rest. rows_read (data_cell type) rows code rest all (others_none type rows code rest table any))
 
--- ---- the data of a row
+-- The data of a row. --------------------------------------------------------------------------------------------------
 
 number_read : (type : FieldType) (k : Kind) (cell : ℕ → Option Cell) (bytes : List ℕ) (read : Read ℕ)
     → ((n : ℕ) (text : List ℕ) → typed_cell type (record { tree = Number k n; text = text }) ≡ cell n)

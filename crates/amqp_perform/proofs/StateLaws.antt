@@ -26,7 +26,7 @@ given : (type : FieldType) (x : Item) (xs : List Item) → AreSpelled (x ∷ xs)
 unfolding typed_at
 given type x xs spelled deep = rw (item_again x.tree x.text (text_of xs) spelled.0 (omega (arith, deep))) refl
 
--- ---- conditions
+-- Conditions. ---------------------------------------------------------------------------------------------------------
 
 named : (x : Item) (n : ℕ) (rest : List ℕ) → unwrap_or ((typed_cell symbol x >>= λ c. Some (c, n, rest)) >>= λ (read : Cell × ℕ × List ℕ). Some (cell_condition read.0)) condition.Other ≡
     tree_condition x.tree
@@ -51,7 +51,7 @@ condition_found items text rest h deep =
     let d = described of_type.Error items text rest h in
     rw (d.head, d.list) (first_names items d.spelled (omega (arith, deep)))
 
--- ---- outcomes
+-- Outcomes. -----------------------------------------------------------------------------------------------------------
 
 truth : (x : Item) (n : ℕ) (rest : List ℕ) → is_true (typed_cell boolean x >>= λ c. Some (c, n, rest)) ≡ is_true_tree x.tree
 truth x n rest = by x.tree
@@ -94,7 +94,7 @@ outcome_found d items text rest h deep =
     let parts = described d items text rest h in
     rw parts.head (by_descriptor d items parts.second rest parts.list parts.spelled (omega (arith, deep)))
 
--- ---- what is written is read, by computation
+-- What is written is read, by computation. ----------------------------------------------------------------------------
 
 pub condition_again : (c : Condition) → condition_of (condition_span c) ≡ c
 unfolding condition_of condition_span found_by_name by_code described_at descriptor_at list_at typed_at value_by inside item_by number_at form_at sized_at block_at count_at

@@ -31,7 +31,7 @@ list_in s block = block >>= λ x. count_in s x.0 >>= list_of x.1
 abbrev pub with_both : ℕ → List ℕ → Cell → Option (Cell × ℕ × List ℕ)
 with_both left rest c = Some (c, left, rest)
 
--- ---- one step behind another
+-- One step behind another. --------------------------------------------------------------------------------------------
 
 pub bind_some : {A B : Type 0} (o : Option A) (f : A → Option B) (y : B) → (o >>= f) ≡ Some y → (x : A) × (o ≡ Some x) × (f x ≡ Some y)
 bind_some (Some x) f y e = (x, refl, e)

@@ -24,7 +24,7 @@ pub record AreCells (fs : List Field) (items : List Item) (cells : List Cell) : 
   pub deep : depth_of_all (trees_of items) ≤ 30
   pub cells_are : cells_of fs items ≡ Some cells
 
--- ---- nulls
+-- Nulls. --------------------------------------------------------------------------------------------------------------
 
 pub null_spelled : Spells (Number kind.Null 0) null_text
 unfolding Spells
@@ -37,7 +37,7 @@ null_is_absent f x c spelled text e =
     let null : is_null x.tree ≡ true = ap is_null tree in
     subst (λ (b : Bool). (cond b (Some Absent) (value_cell f.type x.tree x.text) >>= with_absence f.absence) ≡ Some c) null e
 
--- ---- what is left
+-- What is left. -------------------------------------------------------------------------------------------------------
 
 -- one more item before them
 one_more : (f : Field) (fs : List Field) (x : Item) (c : Cell) (cells : List Cell) → Spells x.tree x.text → depth_of x.tree ≤ 30 → field_cell f x ≡ Some c
@@ -62,7 +62,7 @@ trim (f ∷ fs) (x ∷ xs) cells are =
     let texts : texts_of all.0 ≡ trimmed (texts_of (x ∷ xs)) = subst (λ (ts : List (List ℕ)). texts_of all.0 ≡ before_nulls x.text ts) others.1 all.1 in
     (all.0, texts, subst (λ (cs : List Cell). AreCells (f ∷ fs) all.0 cs) (same_Some (a.0 ∷ b.0) cells b.2) all.2)
 
--- ---- lengths
+-- Lengths. ------------------------------------------------------------------------------------------------------------
 
 abbrev pub AreBelow : ℕ → List (List ℕ) → Type 0
 AreBelow n [] = Unit {0}

@@ -31,7 +31,7 @@ use Rattle.amqp_perform.proofs.Steps.{bind_some}
 use Rattle.amqp_perform.proofs.ItemLaws.{descriptor_found}
 use Rattle.amqp_perform.proofs.ListLaws.{list_of_items, list_found, described}
 
--- ---- bytes
+-- Bytes. --------------------------------------------------------------------------------------------------------------
 
 bytes_front : (xs ys : List ℕ) → IsBytes (xs ++ ys) → IsBytes xs
 bytes_front xs ys h = subst (λ (b : List ℕ). IsBytes b) (take_at xs ys (length xs) refl) (IsBytes-take (length xs) (xs ++ ys) h)
@@ -46,7 +46,7 @@ items_are_bytes d items text rest fits spelled =
     let behind = (descriptor_found (text ++ rest) (d, list.second) fits list.head).rest_fits in
     ((list_found list.second (list_of_items items rest) behind list.list).items_fit, list.spelled)
 
--- ---- values that are spelled are ranged
+-- Values that are spelled are ranged. ---------------------------------------------------------------------------------
 
 below_power : (w n : ℕ) → 1 ≤ w → n < 256 → n < 256 ^ w
 below_power w n some lt = omega (arith, pow_of_one w some)
@@ -75,7 +75,7 @@ octets_ranged k octets text is fits (code, s, data_, found, joined, sized, of_ki
     let all : text ≡ (code ∷ big_bytes (size_len s) (length octets)) ++ octets = joined ∙ ap (λ (b : List ℕ). code ∷ b) sized.1 in
     (is, bytes_behind (code ∷ big_bytes (size_len s) (length octets)) octets (subst (λ (b : List ℕ). IsBytes b) all fits), of_kind)
 
--- ---- one field
+-- One field. ----------------------------------------------------------------------------------------------------------
 
 -- what is not absent in a field of the type
 abbrev IsOfType : FieldType → Cell → Type 0
@@ -149,7 +149,7 @@ item_of_field f x c h spelled fits deep e = by (is_null x.tree) refl e
         let a = bind_some (value_cell f.type x.tree x.text) (with_absence f.absence) c e in
         with_absence_of f a.0 c (value_of_type f.type x.tree x.text a.0 spelled fits deep null a.1) a.2
 
--- ---- all of them
+-- All of them. --------------------------------------------------------------------------------------------------------
 
 abbrev all_suit : List Field → Bool
 all_suit [] = true
@@ -175,7 +175,7 @@ all_of_fields (f ∷ fs) (x ∷ xs) cells h spelled fits deep e =
     let one = item_of_field f x a.0 own.0 spelled.0 (bytes_front x.text (text_of xs) fits) (omega (arith, deep)) a.1 in
     some_of_fields f fs a.0 b.0 cells one (all_of_fields fs xs b.0 own.1 spelled.1 (bytes_behind x.text (text_of xs) fits) (omega (arith, deep)) b.1) b.2
 
--- ---- the tables
+-- The tables. ---------------------------------------------------------------------------------------------------------
 
 -- each default in the tables is a number of its field's type
 defaults : (d : Descriptor) (fs : List Field) → fields_of d ≡ Some fs → all_suit fs ≡ true
@@ -197,7 +197,7 @@ read_of_fields bytes d fields cells payload fits (fs, items, text, table, parts,
     subst (λ (table : List Field). AreOfFields table cells) (same_Some fs fields (sym table ∙ same))
     (all_of_fields fs items cells (defaults d fs table) all.1 all.0 (omega (arith, deep)) are)
 
--- ---- what is written of a performative
+-- What is written of a performative. ----------------------------------------------------------------------------------
 
 -- a last that is the first is left out, and may be
 last_of_field : (f : Field) (first : ℕ) (last : Option ℕ) → f.absence ≡ optional → IsOfField f (optional_whole last) → IsOfField f (last_written first last)

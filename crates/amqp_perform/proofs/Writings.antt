@@ -44,7 +44,7 @@ four_writes a b c d old s1 s2 s3 new fits w1 w2 w3 w4 =
     let behind = writes-writes (0 + length a) b (c ++ d) s1 s2 new (omega (arith, n1, length-append c d)) w2 last in
     writes-writes 0 a (b ++ (c ++ d)) old s1 new (omega (arith, length-append b (c ++ d), length-append c d)) w1 behind
 
--- ---- the spellings of values
+-- The spellings of values. --------------------------------------------------------------------------------------------
 
 abbrev pub joined : List FieldText → List ℕ
 joined values = concat (field_spellings values)

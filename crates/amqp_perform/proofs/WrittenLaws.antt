@@ -34,7 +34,7 @@ use Rattle.amqp_perform.specs.Tables.{attach_fields, flow_fields, transfer_field
 use Rattle.amqp_perform.proofs.Steps.{bind_some}
 use Rattle.amqp_perform.proofs.TrimLaws.{texts_of, AreCells, null_spelled, trim, AreBelow, below}
 
--- ---- one field
+-- One field. ----------------------------------------------------------------------------------------------------------
 
 -- an item that is written for the cell
 record IsWritten (f : Field) (c : Cell) (text : List ℕ) : Type 0 where
@@ -127,7 +127,7 @@ field_written f (Bytes octets) h lt =
 field_written f (Span text) h lt =
     rw (no_default f.type f.absence (Span text) (λ n e. absurd cc)) (record { tree = h.1; spelled = h.2; deep = h.3; cell = span_cell f h.1 text h.0 h.4 })
 
--- ---- all of them
+-- All of them. --------------------------------------------------------------------------------------------------------
 
 fields_written : (fs : List Field) (cells : List Cell) → AreOfFields fs cells → AreBelow (2 ^ 32) (field_texts fs cells) → (xs : List Item) ×
     (texts_of xs ≡ field_texts fs cells) × AreCells fs xs cells
@@ -143,7 +143,7 @@ fields_written (f ∷ fs) (c ∷ cells) h lt =
       record { spelled = (one.spelled, others.2.spelled); deep = omega (arith, one.deep, others.2.deep); cells_are = rw (one.cell, others.2.cells_are) refl },
     )
 
--- ---- the list
+-- The list. -----------------------------------------------------------------------------------------------------------
 
 text_of_texts : (xs : List Item) → concat (texts_of xs) ≡ text_of xs
 text_of_texts xs = concat_is (texts_of xs) ∙ flat_map-map (λ (b : List ℕ). b) (λ (x : Item). x.text) xs
@@ -188,7 +188,7 @@ list_spelled (x ∷ xs) all few lt =
         let l = block_long size.Four n content in
         inr (full_code size.Four kind.List, size.Four, block size.Four n content, refl, refl, (omega arith, omega arith, refl), all)
 
--- ---- the performative
+-- The performative. ---------------------------------------------------------------------------------------------------
 
 -- what is to be known of a type
 record IsKnown (d : Descriptor) (fs : List Field) : Type 0 where
