@@ -6,7 +6,7 @@ use Rattle.std.proofs.lemmas.List.Sums.{sum_by-set, sum_by-append}
 use Rattle.slab.specs.Slab.{Slab, get, ContainsKey, Updates, with_value, slab_len}
 use Rattle.slab.proofs.SlabLemmas.{ContainsKey-within}
 use Rattle.amqp_link.specs.declared.open_delivery.OpenDelivery.{OpenDelivery}
-use Rattle.amqp_link.specs.Links.{Delivery, OpenSet, set_bytes, delivery_bytes}
+use Rattle.amqp_link.specs.Links.{OpenSet, set_bytes, delivery_bytes}
 use Rattle.amqp_link.specs.Keeping.{delivery_of, at_key, AreKeys}
 
 -- no key of the list is this one
@@ -26,9 +26,6 @@ bit b = cond b 1 0
 none_some : {T : Type 0} (o : Option T) → o ≡ None → IsSome o → ⊥
 none_some None e s = grind (arith, s)
 none_some (Some x) e s = grind (arith, e)
-
-pub same_delivery : (x y : Delivery) → Some x ≡ Some y → x ≡ y
-same_delivery x y e = cc
 
 -- what bytes count, by the three lists
 pub total_is : (o : OpenSet) → set_bytes o ≡ sum_by delivery_bytes o.awaiting + sum_by delivery_bytes o.ready + sum_by delivery_bytes (option_to_list o.unfinished)

@@ -2,7 +2,7 @@
 use Rattle.std.proofs.Common.{arith, ◌≡◌, ℕ, ◌+◌, ◌-◌, ◌<◌, ◌≤◌, get_or, List, [], ◌∷◌, ◌++◌, length, take, drop, Option, Some, None, refl, sym, ap, ◌∙◌}
 use Rattle.std.specs.Prelude.{option_map, filter, find, is_some, IsSome, Bool, true, false, cond, ◌||◌}
 use Rattle.std.specs.List.{AllByRecursion, list_any}
-use Rattle.std.proofs.lemmas.List.{append-nil, take-append-drop, take-append-le, take_all, drop_all, drop_more, length-append, length-drop}
+use Rattle.std.proofs.lemmas.List.{append-nil, take-append-drop, take-append-le, take_all, drop_all, drop_more, length-append, length-drop, length-take-le}
 use Rattle.std.proofs.lemmas.List.Folds.{list_any-append}
 use Rattle.amqp_link.specs.Keeping.{keys_of}
 
@@ -56,11 +56,12 @@ to_the_end len n xs e = take_all (len - n) (drop n xs) (omega (arith, e, length-
 pub from_the_start : (n : ℕ) (xs : List (Option ℕ)) → take (n - 0) xs ≡ take n xs
 from_the_start n xs = ap (λ (k : ℕ). take k xs) (omega arith)
 
--- the front written anew
-pub front_written : (len n : ℕ) (xs ys : List (Option ℕ)) → len ≡ length xs → length ys ≡ n → n ≤ len →
+-- the front, which was taken from the start, written anew
+pub front_written : (len n : ℕ) (xs front ys : List (Option ℕ)) → len ≡ length xs → front ≡ take n xs → length ys ≡ length front → n ≤ length xs →
     take len (ys ++ drop (length ys) xs ++ drop (length (ys ++ drop (length ys) xs)) xs) ≡ ys ++ drop n xs
-front_written len n xs ys e long lt =
-    let whole : length (ys ++ drop (length ys) xs) ≡ length xs = omega (arith, length-append ys (drop (length ys) xs), length-drop (length ys) xs) in
+front_written len n xs front ys e is same low =
+    let long : length ys ≡ n = same ∙ ap length is ∙ length-take-le n xs low in
+    let whole : length (ys ++ drop (length ys) xs) ≡ length xs = omega (arith, low, length-append ys (drop (length ys) xs), length-drop (length ys) xs) in
     take-append-le len (ys ++ drop (length ys) xs) (drop (length (ys ++ drop (length ys) xs)) xs) (omega arith)
     ∙ take_all len (ys ++ drop (length ys) xs) (omega arith)
     ∙ ap (λ (k : ℕ). ys ++ drop k xs) long

@@ -15,7 +15,7 @@ use Rattle.amqp_link.specs.Links.{ReceiverSettled, SenderSettled, link_after, Li
 use Rattle.amqp_link.specs.Links.{is_formed, advance_by, advanced, is_beyond, is_drained, receiver_settles, told_by, is_covered, sender_settled_by}
 use Rattle.amqp_link.specs.declared.transfer.LinkFault.TheVariants.{TransferLimit, MessageSize, InvalidField, NotImplemented}
 use Rattle.amqp_link.specs.Histories.{Group, groups, message_of, is_whole, is_unfinished, wholes, takes, handed_up_groups, heads, one_if, grants, advances, credit, delivery_count}
-use Rattle.amqp_link.specs.Histories.{draining, shown, state_of, Content, content, content_of, handed_up, Sound, after_all, Accepted, granted_by}
+use Rattle.amqp_link.specs.Histories.{draining, shown, state_of, Content, content, content_of, transfer_of, handed_up_by, handed_up, Sound, after_all, Accepted, granted_by}
 use Rattle.amqp_link.proofs.Groups.{runs, target, all_more, all_found, IfAny, message_more, same_either}
 use Rattle.amqp_link.proofs.Settlements.{named_state, covered_state}
 use Rattle.amqp_link.proofs.Transfers.{groups_came, begun_more, target_of, wholes_came, cost_is, heads_came, stated, stated_same, shown_one, came_state}
@@ -72,7 +72,8 @@ known_drained s l = ap (λ (d : ℕ). s.draining && nat_eq (s.credit - d) 0) (ze
 
 -- A history stays sound. ---------------------------------------------------------------------------------------------
 
-skip_some : (b : Bool) (x : LinkFault) (o : Option LinkFault) → cond b (Some x) o ≡ None → (b ≡ false) × (o ≡ None)
+-- the test of a first fault does not hold where there is none, nor is there a later one
+pub skip_some : (b : Bool) (x : LinkFault) (o : Option LinkFault) → cond b (Some x) o ≡ None → (b ≡ false) × (o ≡ None)
 skip_some true x o e = absurd (grind (arith, e))
 skip_some false x o e = (refl, e)
 
@@ -192,36 +193,30 @@ within_state : (terms : Terms) (h : List LinkEvent) (e : LinkEvent) → Sound te
     credit terms (e ∷ h) + open_count (state_of terms (e ∷ h)) ≤ terms.bounds.allowed
 within_state terms h e sound may same = subst (λ (s : LinkState). s.credit + open_count s ≤ terms.bounds.allowed) same (within_after (state_of terms h) e may sound.within)
 
+-- an event that is no transfer and hands nothing up leaves the deliveries as they were
+still : (terms : Terms) (h : List LinkEvent) (e : LinkEvent) → Sound terms h → transfer_of e ≡ None → handed_up_by e ≡ None → heads (e ∷ h) + advances terms (e ∷ h) ≤ grants (e ∷ h) →
+    credit terms (e ∷ h) + open_count (state_of terms (e ∷ h)) ≤ terms.bounds.allowed → Sound terms (e ∷ h)
+still terms h (Transferred t) sound none given spent within = absurd (grind (arith, none))
+still terms h (HandedUp d) sound none given spent within = absurd (grind (arith, given))
+still terms h e sound none given spent within = record {
+  spent = spent;
+  begun = sound.begun;
+  front = sound.front;
+  stood = sound.stood;
+  came = sound.came;
+  within = within;
+  small = sound.small;
+  tagged = sound.tagged;
+}
+
 granted : (terms : Terms) (h : List LinkEvent) (n : ℕ) → Sound terms h → LinkMay (state_of terms h) (Granted n) → Goes terms h (Granted n)
 granted terms h n sound may =
-    let same = grant_state terms h n sound.spent in (
-      same,
-      record {
-        spent = rw (sum_by-cons granted_by (Granted n) h) (omega (arith, sound.spent));
-        begun = sound.begun;
-        front = sound.front;
-        stood = sound.stood;
-        came = sound.came;
-        within = within_state terms h (Granted n) sound may same;
-        small = sound.small;
-        tagged = sound.tagged;
-      },
-    )
+    let same = grant_state terms h n sound.spent in
+    let spent : heads h + advances terms h ≤ grants (Granted n ∷ h) = rw (sum_by-cons granted_by (Granted n) h) (omega (arith, sound.spent)) in
+    (same, still terms h (Granted n) sound refl refl spent (within_state terms h (Granted n) sound may same))
 
 drains : (terms : Terms) (h : List LinkEvent) → Sound terms h → Goes terms h DrainAsked
-drains terms h sound = (
-  refl,
-  record {
-    spent = sound.spent;
-    begun = sound.begun;
-    front = sound.front;
-    stood = sound.stood;
-    came = sound.came;
-    within = sound.within;
-    small = sound.small;
-    tagged = sound.tagged;
-  },
-)
+drains terms h sound = (refl, still terms h DrainAsked sound refl refl sound.spent sound.within)
 
 came : (terms : Terms) (h : List LinkEvent) (t : Sent) → Sound terms h → fault_of (state_of terms h) t ≡ None → Goes terms h (Transferred t)
 came terms h t sound may =
@@ -245,19 +240,9 @@ came terms h t sound may =
 counts : (terms : Terms) (h : List LinkEvent) (n : Option ℕ) → Sound terms h → LinkMay (state_of terms h) (FlowStated n) → Goes terms h (FlowStated n)
 counts terms h n sound may =
     let same = count_state terms h n in
-    let l = advance_within (delivery_count terms h) (credit terms h) n in (
-      same,
-      record {
-        spent = omega (arith, sound.spent, l);
-        begun = sound.begun;
-        front = sound.front;
-        stood = sound.stood;
-        came = sound.came;
-        within = within_state terms h (FlowStated n) sound may same;
-        small = sound.small;
-        tagged = sound.tagged;
-      },
-    )
+    let l = advance_within (delivery_count terms h) (credit terms h) n in
+    let spent : heads h + advances terms (FlowStated n ∷ h) ≤ grants h = omega (arith, sound.spent, l) in
+    (same, still terms h (FlowStated n) sound refl refl spent (within_state terms h (FlowStated n) sound may same))
 
 took : (terms : Terms) (h : List LinkEvent) (d : Delivery) → Sound terms h → LinkMay (state_of terms h) (HandedUp d) → Goes terms h (HandedUp d)
 took terms h d sound may =
@@ -281,35 +266,13 @@ took terms h d sound may =
 
 named : (terms : Terms) (h : List LinkEvent) (first last : ℕ) → Sound terms h → LinkMay (state_of terms h) (ReceiverSettled first last) → Goes terms h (ReceiverSettled first last)
 named terms h first last sound may =
-    let same = named_state terms h first last in (
-      same,
-      record {
-        spent = sound.spent;
-        begun = sound.begun;
-        front = sound.front;
-        stood = sound.stood;
-        came = sound.came;
-        within = within_state terms h (ReceiverSettled first last) sound may same;
-        small = sound.small;
-        tagged = sound.tagged;
-      },
-    )
+    let same = named_state terms h first last in
+    (same, still terms h (ReceiverSettled first last) sound refl refl sound.spent (within_state terms h (ReceiverSettled first last) sound may same))
 
 covered : (terms : Terms) (h : List LinkEvent) (first last : ℕ) → Sound terms h → LinkMay (state_of terms h) (SenderSettled first last) → Goes terms h (SenderSettled first last)
 covered terms h first last sound may =
-    let same = covered_state terms h first last in (
-      same,
-      record {
-        spent = sound.spent;
-        begun = sound.begun;
-        front = sound.front;
-        stood = sound.stood;
-        came = sound.came;
-        within = within_state terms h (SenderSettled first last) sound may same;
-        small = sound.small;
-        tagged = sound.tagged;
-      },
-    )
+    let same = covered_state terms h first last in
+    (same, still terms h (SenderSettled first last) sound refl refl sound.spent (within_state terms h (SenderSettled first last) sound may same))
 
 pub goes_on_sound : (terms : Terms) (h : List LinkEvent) (e : LinkEvent) → Sound terms h → LinkMay (state_of terms h) e → Goes terms h e
 goes_on_sound terms h (Granted n) sound may = granted terms h n sound may

@@ -7,6 +7,7 @@ use Rattle.amqp_link.specs.declared.terms.Terms.{Terms}
 use Rattle.amqp_link.specs.Links.{Delivery, LinkEvent, HandedUp, link_after, LinkMay, left_open}
 use Rattle.amqp_link.specs.Histories.{Group, wholes, takes, handed_up_groups, ready_groups, is_settled, shown, shown_awaiting, state_of, handed_up, given}
 use Rattle.amqp_link.proofs.Transfers.{stated, stated_same}
+use Rattle.std.proofs.lemmas.Option.{same_Some}
 
 -- Handing up. -----------------------------------------------------------------------------------------------------
 
@@ -19,10 +20,7 @@ pub record First (terms : Terms) (h : List LinkEvent) (d : Delivery) : Type 0 wh
 
 first_of_map : (terms : Terms) (h : List LinkEvent) (d : Delivery) (gs : List Group) → slice_get (map (shown terms h) gs) 0 ≡ Some d → ready_groups h ≡ gs → First terms h d
 first_of_map terms h d [] e r = absurd (grind (arith, e))
-first_of_map terms h d (g ∷ gs) e r = record { group = g; later = gs; rest = r; is = sym (one_same _ _ e) }
-  where
-    one_same : (x y : Delivery) → Some x ≡ Some y → x ≡ y
-    one_same x y e = cc
+first_of_map terms h d (g ∷ gs) e r = record { group = g; later = gs; rest = r; is = sym (same_Some _ _ e) }
 
 pub first_ready : (terms : Terms) (h : List LinkEvent) (d : Delivery) → LinkMay (state_of terms h) (HandedUp d) → First terms h d
 first_ready terms h d may = first_of_map terms h d (ready_groups h) may refl

@@ -4,7 +4,7 @@ use Rattle.amqp_link.specs.Links.{Delivery, delivery_bytes}
 use Rattle.std.specs.Prelude.{option_map}
 use Rattle.std.proofs.lemmas.List.{length-append}
 use Rattle.amqp_link.specs.Keeping.{delivery_of, delivery_in, at_key, set_at}
-use Rattle.amqp_link.proofs.Keys.{same_delivery}
+use Rattle.std.proofs.lemmas.Option.{same_Some}
 use Rattle.amqp_link.proofs.KeptPlaces.{changes_at, here_of}
 use Rattle.amqp_link.proofs.open_deliveries.OpenDeliveries.extend.Goals as goal
 
@@ -41,7 +41,7 @@ returns-in_ok-extend-clause-ok g c =
     let long = ap delivery_bytes c.in_ok-extend.ensures.ok ∙ longer (delivery_of c.index_mut.result.now) c.args.settled c.args.payload.now
     ∙ ap (λ s. delivery_bytes (delivery_in s) + length c.args.payload.now) (sym c.index_mut.ensures.value) in
     rw (← c.self.view_is) (λ d e.
-    let same : d ≡ delivery_of c.index_mut.result.now = same_delivery _ _ (sym e ∙ ap (option_map (at_key c.self.inside.slab)) c.in-Some.is
+    let same : d ≡ delivery_of c.index_mut.result.now = same_Some _ _ (sym e ∙ ap (option_map (at_key c.self.inside.slab)) c.in-Some.is
     ∙ ap (λ s. Some (delivery_in s)) c.index_mut.ensures.value) in
     (changes_at c.self.inside.slab _ _ _ c.in-Some.key c.extend.new.self _ _ _ c.self.inside.order.cap c.in-Some.is c.self.invariant long refl).is
     ∙ ap (λ (x : Delivery). record (set_at c.self.inside.slab c.self.inside.order.items c.self.inside.handed_up c.self.inside.unfinished) { unfinished = Some x })
