@@ -11,7 +11,7 @@ use Rattle.amqp_types.specs.declared.kind.Kind.{Kind}
 use Rattle.amqp_types.specs.declared.kind.Kind.TheVariants as kind
 use Rattle.amqp_types.specs.declared.code.Form.TheVariants as form
 use Rattle.amqp_types.specs.declared.code.SizeWidth.TheVariants as size
-use Rattle.amqp_types.specs.Trees.{Tree, Number, Octets, ListOf, MapOf, ArrayOf, Described, IsOfKind}
+use Rattle.amqp_types.specs.Trees.{Tree, Number, Octets, IsOfKind}
 use Rattle.amqp_types.specs.Reading.{Read, Part, outermost, uncharged, number_at, form_at, sized_at, item_by, value_by, value_of, is_beyond_ascii}
 use Rattle.amqp_perform.specs.declared.descriptor.Descriptor.{Descriptor}
 use Rattle.amqp_perform.specs.Cells.{◌>>=◌, where_so}
@@ -110,13 +110,8 @@ describes k = false
 leaf_none : (t : Tree) (k : Kind) → IsOfKind k t → describes k ≡ false → described_by t ≡ None
 unfolding describes
 leaf_none (Number kind.Ulong n) k is e = absurd (let f : describes kind.Ulong ≡ false = subst (λ (j : Kind). describes j ≡ false) (sym is) e in cc)
-leaf_none (Number j n) k is e = refl
 leaf_none (Octets kind.Symbol octets) k is e = absurd (let f : describes kind.Symbol ≡ false = subst (λ (j : Kind). describes j ≡ false) (sym is) e in cc)
-leaf_none (Octets j octets) k is e = refl
-leaf_none (ListOf ts) k is e = refl
-leaf_none (MapOf ps) k is e = refl
-leaf_none (ArrayOf ds j ts) k is e = refl
-leaf_none (Described d t) k is e = refl
+leaf_none t k is e = refl
 
 part_none : (read : Part Tree) → Yields (λ t. described_by t ≡ None) read → descriptor_from read ≡ None
 part_none (Ok x) h = rw h refl

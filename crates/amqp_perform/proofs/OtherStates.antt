@@ -1,5 +1,5 @@
 -- Values that are no errors, and no states that are outcomes, are found as such.
-use Rattle.std.proofs.Common.{◌≡◌, ℕ, ◌≤◌, Bool, true, false, List, [], ◌∷◌, ◌++◌, Option, Some, None, refl, ap, sym, ◌∙◌, arith, inl, inr}
+use Rattle.std.proofs.Common.{◌≡◌, ℕ, ◌≤◌, false, List, [], ◌∷◌, ◌++◌, Option, Some, None, refl, ap, sym, ◌∙◌, arith, inl, inr}
 use Rattle.std.specs.Option.{unwrap_or}
 use Rattle.amqp_types.specs.declared.code.Constructor.{Constructor}
 use Rattle.amqp_types.specs.Codes.{find_code}
@@ -10,7 +10,6 @@ use Rattle.amqp_types.proofs.Again.{value_again}
 use Rattle.amqp_perform.specs.declared.condition.Condition.TheVariants as condition
 use Rattle.amqp_perform.specs.declared.descriptor.Descriptor.{Descriptor}
 use Rattle.amqp_perform.specs.declared.descriptor.Descriptor.TheVariants as of_type
-use Rattle.amqp_perform.specs.declared.outcome.Outcome.{Outcome}
 use Rattle.amqp_perform.specs.Cells.{◌>>=◌}
 use Rattle.amqp_perform.specs.Conditions.{condition_of, cell_condition, error_items, is_error_type, is_error}
 use Rattle.amqp_perform.specs.Descriptors.{described_by}

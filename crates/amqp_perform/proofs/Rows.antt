@@ -10,7 +10,7 @@ use Rattle.amqp_types.specs.declared.code.Form.{Form}
 use Rattle.amqp_types.specs.declared.code.SizeWidth.{SizeWidth}
 use Rattle.amqp_types.specs.declared.code.Constructor.{Constructor}
 use Rattle.amqp_types.specs.Codes.{constructors, kind_of}
-use Rattle.amqp_types.specs.Trees.{Tree, Number, Octets, ListOf, MapOf, ArrayOf, Described, IsOfKind}
+use Rattle.amqp_types.specs.Trees.{Tree, Number, Octets, Described, IsOfKind}
 use Rattle.amqp_types.specs.Reading.{Read, Part, outermost, uncharged, number_at, form_at, sized_at, inside, item_by, value_by, value_of}
 use Rattle.amqp_perform.specs.Cells.{Cell, Absent, Bytes, ◌>>=◌, typed_cell}
 use Rattle.amqp_perform.specs.Items.{Item}

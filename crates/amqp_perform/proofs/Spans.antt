@@ -12,7 +12,7 @@ use Rattle.amqp_types.specs.declared.kind.Kind.{Kind}
 use Rattle.amqp_types.specs.declared.kind.Kind.TheVariants as kind
 use Rattle.amqp_types.specs.declared.fault.ReadFault.{ReadFault}
 use Rattle.amqp_types.specs.Spelling.{Spells}
-use Rattle.amqp_types.specs.Trees.{Tree, Number, Octets, ListOf, MapOf, ArrayOf, Described, IsOfKind, depth_of}
+use Rattle.amqp_types.specs.Trees.{Tree, Number, IsOfKind, depth_of}
 use Rattle.amqp_types.specs.Reading.{Is, Part, after, number_at, form_at, item_by, value_by, value_of}
 use Rattle.amqp_types.proofs.Calls.{ok_rest}
 use Rattle.amqp_types.proofs.Peeks.{never_empty}
@@ -30,12 +30,7 @@ null_kind k = false
 leaf_is : (t : Tree) (k : Kind) → IsOfKind k t → null_kind k ≡ false → is_null t ≡ false
 unfolding null_kind
 leaf_is (Number kind.Null n) k is e = absurd (let f : null_kind kind.Null ≡ false = subst (λ (j : Kind). null_kind j ≡ false) (sym is) e in cc)
-leaf_is (Number j n) k is e = refl
-leaf_is (Octets j octets) k is e = refl
-leaf_is (ListOf ts) k is e = refl
-leaf_is (MapOf ps) k is e = refl
-leaf_is (ArrayOf ds j ts) k is e = refl
-leaf_is (Described d t) k is e = refl
+leaf_is t k is e = refl
 
 -- no code but one makes a null
 no_null : (code : ℕ) (rest : List ℕ) → eqb code 0x40 ≡ false → Yields (λ t. is_null t ≡ false) (value_of 30 None (code ∷ rest))
