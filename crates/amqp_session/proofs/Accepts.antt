@@ -1,5 +1,5 @@
 -- A frame without fault, and a call that is not refused, is an event that the session accepts.
-use Rattle.std.proofs.Common.{arith, ◌≡◌, ℕ, zero, suc, ◌+◌, ◌^◌, ◌<◌, ◌≤◌, subst, Bool, true, false, not, ◌&&◌, ◌||◌, List, [], ◌∷◌, length, refl, sym, ap, ◌∙◌, ltb-false, Option, Some, None}
+use Rattle.std.proofs.Common.{arith, ◌≡◌, ℕ, ◌+◌, ◌^◌, ◌<◌, ◌≤◌, subst, Bool, true, false, not, ◌&&◌, ◌||◌, List, [], length, refl, sym, ap, ◌∙◌, ltb-false, Option, Some, None}
 use Rattle.std.specs.Prelude.{is_none, unwrap_or, slice_get, nat_eq, nat_lt, nat_le, if◌then◌else◌}
 use Rattle.std.specs.Option.{option_map_or}
 use Rattle.std.proofs.lemmas.Bool.{leb-false, eqb-false}
@@ -17,10 +17,10 @@ use Rattle.amqp_session.specs.declared.fault.CallFault.TheVariants as refused
 use Rattle.amqp_session.specs.declared.slot.Slot.{Slot}
 use Rattle.amqp_session.specs.declared.slot.Slot.TheVariants.{Free, Live, Waits}
 use Rattle.amqp_session.specs.declared.terms.SessionTerms.{SessionTerms}
-use Rattle.amqp_session.specs.Places.{IsInUse, live_in, tabulate, life_state}
+use Rattle.amqp_session.specs.Places.{IsInUse, live_in, life_state}
 use Rattle.amqp_perform.specs.Said.{said_frame}
 use Rattle.amqp_session.specs.Frames.{Attaching, Flowing, Frame, Attaches, Flows, Transfers, Disposes, Detaches, IsInRange, is_coordinator, attach_said}
-use Rattle.amqp_session.specs.Sessions.{LiveLink, SessionState, SessionEvent, SessionMay, IsNew, IsApart, live_may, slot_at, is_reused, handles}
+use Rattle.amqp_session.specs.Sessions.{LiveLink, SessionState, SessionEvent, SessionMay, IsApart, live_may, slot_at, is_reused, handles}
 use Rattle.amqp_session.specs.Histories.{state_of, Sound, part, live_state}
 use Rattle.amqp_session.specs.Faults.{or_else, where_so, is_free, attach_fault, handle_fault, named_fault, session_fault, refusal, transfer_fault, attached, attach_event, transfer_event}
 use Rattle.amqp_session.specs.Faults.{flow_event, named_event, is_settling, event_of}
@@ -28,31 +28,12 @@ use Rattle.amqp_session.specs.Calls.{Call, Widen, Grant, Drain, Take, Settle, De
 use Rattle.amqp_session.specs.Laws.{IsCallInRange}
 use Rattle.amqp_session.proofs.Standings.{settles_everywhere}
 use Rattle.amqp_session.specs.Sessions as event
-
--- Tests that do not hold. --------------------------------------------------------------------------------------------------
-
-neither : {A : Type 0} (a b : Option A) → or_else a b ≡ None → (a ≡ None) × (b ≡ None)
-neither None b e = (refl, e)
-neither (Some a) b e = absurd (grind (arith, e))
-
-not_so : {A : Type 0} (b : Bool) (a : A) → where_so b a ≡ None → b ≡ false
-not_so true a e = absurd (grind (arith, e))
-not_so false a e = refl
-
-skipped : (b : Bool) (x : LinkFault) (o : Option LinkFault) → (if b then Some x else o) ≡ None → (b ≡ false) × (o ≡ None)
-skipped true x o e = absurd (grind (arith, e))
-skipped false x o e = (refl, e)
+use Rattle.amqp_link.proofs.Steps.{skip_some}
+use Rattle.amqp_session.proofs.Firsts.{neither, not_so}
+use Rattle.amqp_session.proofs.Places.{tabulate_long}
+use Rattle.amqp_session.proofs.Tables.{present, found}
 
 -- What stands at a handle. ---------------------------------------------------------------------------------------------------
-
-found : (o : Option (Slot LiveLink)) (x : Slot LiveLink) → unwrap_or o Free ≡ x → IsInUse x → o ≡ Some x
-found None x e used = absurd (subst (λ (s : Slot LiveLink). IsInUse s) (sym e) used)
-found (Some s) x e used = ap (λ (t : Slot LiveLink). Some t) e
-
-present : (slots : List (Slot LiveLink)) (i : ℕ) → i < length slots → slice_get slots i ≡ Some (unwrap_or (slice_get slots i) Free)
-present [] i l = absurd (omega (arith, l))
-present (s ∷ slots) zero l = refl
-present (s ∷ slots) (suc i) l = present slots i (omega (arith, l))
 
 used_of : (x : Slot LiveLink) → is_free x ≡ false → IsInUse x
 used_of Free e = absurd (grind (arith, e))
@@ -114,11 +95,11 @@ attach_ok s a t range none = by_refusal (refusal s.terms a) refl
 no_resume : (l : LinkState) (t : Sent) → fault_of l t ≡ None → t.resume ≡ false
 no_resume l t e =
     let last = if lacks_credit l then Some link_fault.TransferLimit else (if is_too_long l t then Some link_fault.MessageSize else None) in
-    (skipped t.resume link_fault.NotImplemented (if not (is_formed l.terms l.unfinished t) then Some link_fault.InvalidField else last) e).0
+    (skip_some t.resume link_fault.NotImplemented (if not (is_formed l.terms l.unfinished t) then Some link_fault.InvalidField else last) e).0
 
 fresh : (s : SessionState) (l : LinkState) (t : Sent) → transfer_fault s l t ≡ None → (is_reused s l t ≡ false) × (fault_of l t ≡ None)
 fresh s l t e =
-    let one = skipped (not t.resume && is_reused s l t) link_fault.InvalidField (fault_of l t) e in
+    let one = skip_some (not t.resume && is_reused s l t) link_fault.InvalidField (fault_of l t) e in
     let three = and_false t.resume (is_reused s l t) (no_resume l t one.1) one.0 in (three, one.1)
   where
     and_false : (a b : Bool) → a ≡ false → not a && b ≡ false → b ≡ false
@@ -222,10 +203,6 @@ call_ok s (Detach handle) apart range none =
     let live = at_live (slot_at s handle) (λ l. None) none in (tt, tt, (Live live.0, live_at s handle live.0 live.1, tt))
 
 -- Of a history. --------------------------------------------------------------------------------------------------------------
-
-tabulate_long : {A : Type 0} (k n : ℕ) (f : ℕ → A) → length (tabulate k n f) ≡ n
-tabulate_long k zero f = refl
-tabulate_long k (suc n) f = ap suc (tabulate_long (suc k) n f)
 
 pub frames_accepted : (terms : SessionTerms) (h : List SessionEvent) (f : Frame) → Sound terms h → IsInRange terms.handle_max f → session_fault (state_of terms h) f ≡ None →
     SessionMay (state_of terms h) (event_of (state_of terms h) f)

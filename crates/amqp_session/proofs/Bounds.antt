@@ -1,8 +1,6 @@
 -- What a session keeps, counted over its history, and how much that is at most.
-use Rattle.std.proofs.Common.{arith, ◌≡◌, ℕ, zero, suc, ◌+◌, ◌*◌, ◌<◌, ◌≤◌, not, List, ◌∷◌, length, filter, refl, ap, add-mul}
+use Rattle.std.proofs.Common.{arith, ◌≡◌, ℕ, ◌+◌, ◌*◌, ◌<◌, ◌≤◌, not, List, length, filter, refl, ap}
 use Rattle.std.specs.Prelude.{sum_by}
-use Rattle.std.specs.List.{count_by}
-use Rattle.std.proofs.lemmas.List.Sums.{sum_by-cons}
 use Rattle.amqp_link.specs.Bounds.{Bounds}
 use Rattle.amqp_link.specs.declared.terms.Terms.{Terms}
 use Rattle.amqp_link.specs.Links.{LinkEvent, link_bytes, open_set, newly_settled, named_count}
@@ -11,11 +9,12 @@ use Rattle.amqp_link.specs.Histories as link
 use Rattle.amqp_session.specs.declared.slot.Slot.{Slot}
 use Rattle.amqp_session.specs.declared.slot.Slot.TheVariants.{Free, Live, Waits}
 use Rattle.amqp_session.specs.declared.terms.SessionTerms.{SessionTerms}
-use Rattle.amqp_session.specs.Places.{Life, IfLive, tabulate, life_state}
+use Rattle.amqp_session.specs.Places.{Life, IfLive, life_state}
 use Rattle.amqp_session.specs.Sessions.{Attached, LiveLink, SessionEvent, handles, slot_bytes, session_bytes}
 use Rattle.amqp_session.specs.Histories.{part, live_state, state_of, IsSoundPart, Sound}
 use Rattle.amqp_session.specs.Faults.{is_free, slot_settled, settled_count}
 use Rattle.amqp_session.specs.Laws.{parts, used_count, part_bytes, part_settled, slot_named, named_total, part_named}
+use Rattle.amqp_session.proofs.Places.{sums_same, sums_within}
 
 -- what the links owe
 abbrev pub LinkBound : Type 0
@@ -34,26 +33,9 @@ LinkNames = (terms : Terms) (h : List LinkEvent) (first last : ℕ) →
 
 -- Sums over a table. --------------------------------------------------------------------------------------------------------
 
--- two sums over tables are one, where each place gives the same
-sums_same : {S T : Type 0} (p : S → ℕ) (q : T → ℕ) (f : ℕ → S) (g : ℕ → T) → ((k : ℕ) → p (f k) ≡ q (g k)) → (k n : ℕ) → sum_by p (tabulate k n f) ≡ sum_by q (tabulate k n g)
-sums_same p q f g same k zero = refl
-sums_same p q f g same k (suc n) =
-    omega (arith, sum_by-cons p (f k) (tabulate (suc k) n f), sum_by-cons q (g k) (tabulate (suc k) n g), same k, sums_same p q f g same (suc k) n)
-
 -- 1 for a handle in use
 abbrev used : Slot LiveLink → ℕ
 used x = link.one_if (not (is_free x))
-
-sum_within : (most : ℕ) (f : ℕ → Slot LiveLink) (k n : ℕ) → ((j : ℕ) → j < k + n → slot_bytes (f j) ≤ used (f j) * most) →
-    sum_by slot_bytes (tabulate k n f) ≤ count_by (λ x. not (is_free x)) (tabulate k n f) * most
-sum_within most f k zero each = omega arith
-sum_within most f k (suc n) each =
-    let rest = tabulate (suc k) n f in
-    let here = each k (omega arith) in
-    let later = sum_within most f (suc k) n (λ j l. each j (omega (arith, l))) in
-    let count : count_by (λ x. not (is_free x)) (f k ∷ rest) ≡ used (f k) + count_by (λ x. not (is_free x)) rest = sum_by-cons used (f k) rest in
-    let product : count_by (λ x. not (is_free x)) (f k ∷ rest) * most ≡ (used (f k) + count_by (λ x. not (is_free x)) rest) * most = ap (λ (n : ℕ). n * most) count in
-    omega (arith, here, later, sum_by-cons slot_bytes (f k) rest, product, add-mul (used (f k)) (count_by (λ x. not (is_free x)) rest) most)
 
 -- The session. --------------------------------------------------------------------------------------------------------------
 
@@ -72,7 +54,7 @@ pub held_within : LinkBound → (terms : SessionTerms) (h : List SessionEvent) �
     session_bytes (state_of terms h) ≤ 64 + used_count (state_of terms h) * (1407 + terms.bounds.allowed * (terms.bounds.max_message_size + 96))
 held_within bound terms h sound =
     let each = λ (j : ℕ) (l : j < handles terms). part_within bound terms (part j h) (sound.links j l) in
-    let all = sum_within (most_of terms.bounds) (λ handle. life_state live_state (part handle h)) 0 (handles terms) (λ j l. each j (omega (arith, l))) in omega (arith, all)
+    let all = sums_within slot_bytes used (most_of terms.bounds) (λ handle. life_state live_state (part handle h)) 0 (handles terms) (λ j l. each j (omega (arith, l))) in omega (arith, all)
 
 -- what the links show together is what their parts do, where it is so for each
 of_parts : (p : Slot LiveLink → ℕ) (q : Slot (Life Attached LinkEvent) → ℕ) (terms : SessionTerms) (h : List SessionEvent) →

@@ -3,7 +3,6 @@ use Rattle.std.proofs.Common.{arith, ◌≡◌, ℕ, zero, suc, ◌^◌, ◌<◌
 use Rattle.std.specs.Prelude.{slice_get, slice_set, unwrap_or}
 use Rattle.std.specs.List.{list_any, count_by}
 use Rattle.std.proofs.lemmas.Bool.{and_right, or_parts, false_from_ne_true, true≢false}
-use Rattle.std.proofs.lemmas.Option.{slice_get-get_or}
 use Rattle.amqp_link.specs.declared.settlement.Standing.{Standing}
 use Rattle.amqp_link.specs.declared.settlement.Standing.TheVariants.{Absent, Untaken, Told, Awaiting}
 use Rattle.amqp_link.specs.Links.{Delivery, ReceiverSettled, has_id, is_covered, is_first, receiver_settles, tells, told_by}
@@ -13,15 +12,13 @@ use Rattle.amqp_session.specs.Calls.{slot_standing, or_later, standing_in}
 use Rattle.amqp_session.specs.Sessions.{LiveLink, slot_count, table_count}
 use Rattle.amqp_session.specs.Slots.{at_place, slot_called}
 use Rattle.amqp_session.proofs.Ids.{table_cons}
+use Rattle.amqp_session.proofs.Tables.{there}
 use Rattle.amqp_session.proofs.Standings.{parts_count, none_has, AreSmall, first_small, rest_small, covered_id, count_cons, slot_within}
 
 -- The place. -----------------------------------------------------------------------------------------------------------
 
-here : (slots : List (Slot LiveLink)) (k : ℕ) (x : Slot LiveLink) → x ≡ get_or slots k x → k < length slots → slice_get slots k ≡ Some x
-here slots k x e l = slice_get-get_or slots k x l ∙ ap (λ (y : Slot LiveLink). Some y) (sym e)
-
 pub stands_there : (slots : List (Slot LiveLink)) (k : ℕ) (x : Slot LiveLink) → x ≡ get_or slots k x → k < length slots → at_place slots k ≡ x
-stands_there slots k x e l = ap (λ (o : Option (Slot LiveLink)). unwrap_or o Free) (here slots k x e l)
+stands_there slots k x e l = ap (λ (o : Option (Slot LiveLink)). unwrap_or o Free) (there slots k x e l)
 
 first : (a b : Standing) → (a ≡ Absent → ⊥) → or_later a b ≡ a
 first Absent b some = absurd (some refl)
@@ -42,7 +39,7 @@ pub found : (id : ℕ) (slots : List (Slot LiveLink)) (k : ℕ) (x : Slot LiveLi
 found id slots k x standing at low before is some = (
   low,
   ap (slot_standing id) (stands_there slots k x at low) ∙ sym is,
-  before ∙ from_there id slots k x (here slots k x at low) (λ e. some (is ∙ e)) ∙ sym is,
+  before ∙ from_there id slots k x (there slots k x at low) (λ e. some (is ∙ e)) ∙ sym is,
 )
 
 -- The others. ----------------------------------------------------------------------------------------------------------

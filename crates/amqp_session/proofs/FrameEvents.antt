@@ -1,5 +1,5 @@
 -- Which events frames are: those that use a place of the window, and those that state an id.
-use Rattle.std.proofs.Common.{arith, ◌≡◌, ℕ, Bool, true, false, refl, sym, ap, ◌∙◌, Option, Some, None}
+use Rattle.std.proofs.Common.{arith, ◌≡◌, ℕ, Bool, true, false, refl, ap, ◌∙◌, Option, Some, None}
 use Rattle.std.specs.Prelude.{nat_eq, is_none, if◌then◌else◌}
 use Rattle.amqp_link.specs.Links.{Sent, is_beyond}
 use Rattle.amqp_session.specs.declared.fault.SessionFault.TheVariants as fault
@@ -8,7 +8,7 @@ use Rattle.amqp_session.specs.declared.slot.Slot.TheVariants.{Free, Live, Waits}
 use Rattle.amqp_session.specs.Faults.{or_else, where_so, is_free, session_fault, event_of, refusal, attached, transfer_fault, transfer_event, flow_event, named_event, is_settling, last_of}
 use Rattle.amqp_session.specs.Frames.{Flowing, Frame, Attaches, Flows, Transfers, Disposes, Detaches}
 use Rattle.amqp_session.specs.Laws.{IsOfTransfer}
-use Rattle.amqp_session.specs.Sessions.{LiveLink, SessionState, slot_at, SessionEvent, is_transfer, stated_by}
+use Rattle.amqp_session.specs.Sessions.{Attached, LiveLink, SessionState, slot_at, SessionEvent, is_transfer, stated_by}
 use Rattle.amqp_session.specs.Sessions as event
 
 -- one of two events by a test has what both have
@@ -26,23 +26,60 @@ transfer_uses s handle t = by_slot (nat_eq s.window 0) (slot_at s handle)
     by_slot false (Live l) e = either is_transfer true (event.TransferCame handle t) (event.TransferEnded handle) refl refl (is_none (transfer_fault s l.link t))
     by_slot false Waits e = refl
 
+-- Each event that a flow can be is told the same of.
+pub record IsOfFlows {A : Type 0} (p : SessionEvent → A) (x : A) : Type 0 where
+  pub ignored : p event.Ignored ≡ x
+  pub of_session : (next_id : ℕ) → p (event.FlowCame next_id) ≡ x
+  pub of_link : (handle next_id : ℕ) (count : Option ℕ) → p (event.LinkFlowCame handle next_id count) ≡ x
+  pub ended : (handle next_id : ℕ) → p (event.LinkFlowEnded handle next_id) ≡ x
+
+-- and each that a frame can be
+pub record IsOfFrames {A : Type 0} (p : SessionEvent → A) (x : A) : Type 0 where
+  pub flows : IsOfFlows p x
+  pub attached : (handle : ℕ) (a : Attached) → p (event.LinkAttached handle a) ≡ x
+  pub refused : (handle : ℕ) → p (event.LinkRefused handle) ≡ x
+  pub came : (handle : ℕ) (t : Sent) → p (event.TransferCame handle t) ≡ x
+  pub ended : (handle : ℕ) → p (event.TransferEnded handle) ≡ x
+  pub dropped : (handle : ℕ) → p (event.TransferDropped handle) ≡ x
+  pub settled : (first last : ℕ) → p (event.PeerSettled first last) ≡ x
+  pub detached : (handle : ℕ) → p (event.PeerDetached handle) ≡ x
+
+module _ {A : Type 0} (p : SessionEvent → A) (x : A) where
+  -- it is told of the event of a flow
+  pub of_flow : IsOfFlows p x → (s : SessionState) (f : Flowing) (handle : Option ℕ) → p (named_event s f handle) ≡ x
+  of_flow each s f None = each.of_session f.next_outgoing_id
+  of_flow each s f (Some handle) = by_slot (slot_at s handle)
+    where
+      by_slot : (y : Slot LiveLink) → p (flow_event handle f y) ≡ x
+      by_slot Free = each.ignored
+      by_slot (Live l) =
+          either p x (event.LinkFlowEnded handle f.next_outgoing_id) (event.LinkFlowCame handle f.next_outgoing_id f.delivery_count) (each.ended handle f.next_outgoing_id)
+          (each.of_link handle f.next_outgoing_id f.delivery_count) (is_beyond l.link.delivery_count l.link.credit f.delivery_count)
+      by_slot Waits = each.ignored
+
+  -- and of that of any frame
+  pub of_frame : IsOfFrames p x → (s : SessionState) (f : Frame) → p (event_of s f) ≡ x
+  of_frame each s (Attaches a) =
+      either p x (event.LinkAttached a.handle (attached s.terms a)) (event.LinkRefused a.handle) (each.attached a.handle (attached s.terms a)) (each.refused a.handle) (is_none (refusal s.terms a))
+  of_frame each s (Flows f) = of_flow each.flows s f f.handle
+  of_frame each s (Transfers handle t) = by_slot (slot_at s handle)
+    where
+      by_slot : (y : Slot LiveLink) → p (transfer_event s handle t y) ≡ x
+      by_slot Free = each.flows.ignored
+      by_slot (Live l) = either p x (event.TransferCame handle t) (event.TransferEnded handle) (each.came handle t) (each.ended handle) (is_none (transfer_fault s l.link t))
+      by_slot Waits = each.dropped handle
+  of_frame each s (Disposes d) = either p x (event.PeerSettled d.first (last_of d)) event.Ignored (each.settled d.first (last_of d)) each.flows.ignored (is_settling d)
+  of_frame each s (Detaches handle closed) = each.detached handle
+
 -- a flow uses none
-flow_uses_none : (s : SessionState) (f : Flowing) (handle : Option ℕ) → is_transfer (named_event s f handle) ≡ false
-flow_uses_none s f None = refl
-flow_uses_none s f (Some handle) = by_slot (slot_at s handle)
-  where
-    by_slot : (x : Slot LiveLink) → is_transfer (flow_event handle f x) ≡ false
-    by_slot Free = refl
-    by_slot (Live l) =
-        either is_transfer false (event.LinkFlowEnded handle f.next_outgoing_id) (event.LinkFlowCame handle f.next_outgoing_id f.delivery_count) refl refl
-        (is_beyond l.link.delivery_count l.link.credit f.delivery_count)
-    by_slot Waits = refl
+flow_uses_none : (s : SessionState) (f : Flowing) → is_transfer (event_of s (Flows f)) ≡ false
+flow_uses_none s f = of_flow is_transfer false (record { ignored = refl; of_session = λ n. refl; of_link = λ k n c. refl; ended = λ k n. refl }) s f f.handle
 
 -- what uses a place is a transfer
 pub user_is_transfer : (s : SessionState) (f : Frame) → is_transfer (event_of s f) ≡ true → IsOfTransfer f
 user_is_transfer s (Attaches a) e =
     absurd (grind (arith, e, either is_transfer false (event.LinkAttached a.handle (attached s.terms a)) (event.LinkRefused a.handle) refl refl (is_none (refusal s.terms a))))
-user_is_transfer s (Flows f) e = absurd (grind (arith, e, flow_uses_none s f f.handle))
+user_is_transfer s (Flows f) e = absurd (grind (arith, e, flow_uses_none s f))
 user_is_transfer s (Transfers handle t) e = record {}
 user_is_transfer s (Disposes d) e = absurd (grind (arith, e, either is_transfer false (event.PeerSettled d.first (last_of d)) event.Ignored refl refl (is_settling d)))
 user_is_transfer s (Detaches handle closed) e = absurd (grind (arith, e))

@@ -3,10 +3,9 @@ use Rattle.std.proofs.Common.{arith, ◌≡◌, ℕ, zero, suc, ◌+◌, ◌^◌
 use Rattle.std.specs.Prelude.{is_none, is_some, unwrap_or, slice_get, nat_eq, nat_le, nat_lt, if◌then◌else◌}
 use Rattle.std.specs.List.{list_any, count_by}
 use Rattle.std.specs.Option.{option_map_or}
-use Rattle.std.proofs.lemmas.Bool.{eqb-true, leb-true, leb-false, lt-ltb, and_parts, or_parts}
+use Rattle.std.proofs.lemmas.Bool.{eqb-true, leb-true, leb-false, lt-ltb, not-false, and_parts, or_parts}
 use Rattle.std.proofs.lemmas.List.Sums.{sum_by-cons}
 use Rattle.amqp_link.specs.declared.terms.Terms.{Terms}
-use Rattle.amqp_link.specs.declared.transfer.LinkFault.{LinkFault}
 use Rattle.amqp_link.specs.declared.transfer.LinkFault.TheVariants as link_fault
 use Rattle.amqp_link.specs.Histories as link
 use Rattle.amqp_link.specs.Laws.{id_count, begun_with}
@@ -16,11 +15,12 @@ use Rattle.amqp_session.specs.declared.slot.Slot.{Slot}
 use Rattle.amqp_session.specs.declared.slot.Slot.TheVariants.{Free, Live, Waits}
 use Rattle.amqp_session.specs.declared.terms.SessionTerms.{SessionTerms}
 use Rattle.amqp_session.specs.Places.{Happens, slot_after, slot_map, places_from, live_in}
-use Rattle.amqp_session.specs.Sessions.{Attached, LiveLink, live_begins, live_after, SessionState, SessionEvent, SessionMay, IsNew, session_begins, session_after, slot_at, slot_has, is_open_id}
+use Rattle.amqp_session.specs.Sessions.{Attached, LiveLink, live_begins, live_after, SessionState, SessionEvent, SessionMay, session_begins, session_after, slot_at, slot_has, is_open_id}
 use Rattle.amqp_session.specs.Sessions.{is_reused, one_if, slot_count, table_count, IsApart}
 use Rattle.amqp_session.specs.Histories.{after_all, Accepted}
 use Rattle.amqp_session.specs.Sessions as event
 use Rattle.amqp_session.specs.Places as place
+use Rattle.amqp_link.proofs.Steps.{skip_some}
 
 -- what a link owes to its session: more of its open deliveries have an id only where a head begins one with it
 abbrev pub IdsGrow : Type 0
@@ -118,19 +118,11 @@ nothing_none id slots = no_more id place.Nothing slots (λ j i s g. omega arith)
 
 -- What a head needs. ---------------------------------------------------------------------------------------------------------
 
-not_true : (a : Bool) → not a ≡ false → a ≡ true
-not_true true e = refl
-not_true false e = absurd (grind (arith, e))
-
-skips : (b : Bool) (x : LinkFault) (o : Option LinkFault) → (if b then Some x else o) ≡ None → (b ≡ false) × (o ≡ None)
-skips true x o e = absurd (grind (arith, e))
-skips false x o e = (refl, e)
-
 formed : (l : LinkState) (t : Sent) → fault_of l t ≡ None → is_formed l.terms l.unfinished t ≡ true
 formed l t e =
     let rest = if lacks_credit l then Some link_fault.TransferLimit else (if is_too_long l t then Some link_fault.MessageSize else None) in
-    let one = skips t.resume link_fault.NotImplemented (if not (is_formed l.terms l.unfinished t) then Some link_fault.InvalidField else rest) e in
-    let two = skips (not (is_formed l.terms l.unfinished t)) link_fault.InvalidField rest one.1 in not_true (is_formed l.terms l.unfinished t) two.0
+    let one = skip_some t.resume link_fault.NotImplemented (if not (is_formed l.terms l.unfinished t) then Some link_fault.InvalidField else rest) e in
+    let two = skip_some (not (is_formed l.terms l.unfinished t)) link_fault.InvalidField rest one.1 in not-false (is_formed l.terms l.unfinished t) two.0
 
 -- a head states its id
 head_id : (terms : Terms) (p : Option Delivery) (t : Sent) → is_none p ≡ true → is_formed terms p t ≡ true → is_some t.delivery_id ≡ true

@@ -1,4 +1,6 @@
 pub mod Places
+pub mod Tables
+pub mod Firsts
 pub mod Ids
 pub mod Standings
 pub mod Founds

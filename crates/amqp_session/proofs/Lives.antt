@@ -1,7 +1,7 @@
 -- Each link of a session has its own life, and keeps within what it may.
-use Rattle.std.proofs.Common.{arith, ◌≡◌, ℕ, zero, suc, ◌+◌, ◌<◌, ◌≤◌, inl, inr, subst, Bool, true, false, List, [], ◌∷◌, refl, ap, ◌∙◌, Option, Some, None, ne_eqb}
+use Rattle.std.proofs.Common.{arith, ◌≡◌, ℕ, ◌+◌, ◌<◌, ◌≤◌, inl, inr, subst, Bool, true, false, List, [], ◌∷◌, refl, ap, ◌∙◌, Option, Some, None}
 use Rattle.std.specs.Prelude.{nat_eq, nat_lt, slice_get, option_map, unwrap_or, if◌then◌else◌}
-use Rattle.std.proofs.lemmas.Bool.{cases_Bool, eq-eqb, ltb-true, ltb-false}
+use Rattle.std.proofs.lemmas.Bool.{cases_Bool, ltb-true, ltb-false}
 use Rattle.amqp_link.specs.Bounds.{Bounds}
 use Rattle.amqp_link.specs.declared.terms.Terms.{Terms}
 use Rattle.amqp_link.specs.Links.{LinkEvent, Granted, open_count}
@@ -9,47 +9,20 @@ use Rattle.amqp_link.specs.Histories as link
 use Rattle.amqp_session.specs.declared.slot.Slot.{Slot}
 use Rattle.amqp_session.specs.declared.slot.Slot.TheVariants.{Free, Live, Waits}
 use Rattle.amqp_session.specs.declared.terms.SessionTerms.{SessionTerms}
-use Rattle.amqp_session.specs.Places.{Happens, Nothing, Begins, GoesOn, AllGoOn, Leaves, Gone, AllGone, Life, IfLive, slot_map, slot_after, places_from, new_life, lived_on, life_after}
-use Rattle.amqp_session.specs.Places.{life_state, tabulate}
+use Rattle.amqp_session.specs.Places.{Happens, Nothing, Begins, GoesOn, AllGoOn, Leaves, Gone, AllGone, Life, IfLive, slot_map, slot_after, new_life, lived_on, life_after}
+use Rattle.amqp_session.specs.Places.{life_state}
 use Rattle.amqp_session.specs.Sessions.{Attached, LiveLink, live_begins, live_after, SessionState, SessionEvent, LinkAttached, Called, happens, session_after, SessionMay, slot_at, handles}
 use Rattle.amqp_session.specs.Histories.{part, live_state, state_of, IsSoundPart, Sound}
 use Rattle.amqp_session.specs.Laws.{IsElsewhere, credit_in, credit_at, granted_in, granted_at}
 use Rattle.amqp_session.proofs.Accepts.{live_at}
-use Rattle.amqp_session.proofs.Places.{got, get_at}
-
-module _ {B E T : Type 0} (start : B → T) (next : T → E → T) where
-  missed : (b : Bool) (s t : Slot T) → b ≡ false → (if b then s else t) ≡ t
-  missed true s t e = absurd (grind (arith, e))
-  missed false s t e = refl
-
-  -- what happens elsewhere leaves a place as it was
-  elsewhere : (k : ℕ) (x : Happens B E) (s : Slot T) → IsElsewhere k x → slot_after start next k x s ≡ s
-  elsewhere k Nothing s away = refl
-  elsewhere k (Begins place begin) s away = missed (nat_eq place k) _ s (ne_eqb place k away)
-  elsewhere k (GoesOn place e) s away = missed (nat_eq place k) _ s (ne_eqb place k away)
-  elsewhere k (AllGoOn e) s away = absurd away
-  elsewhere k (Leaves place) s away = missed (nat_eq place k) _ s (ne_eqb place k away)
-  elsewhere k (Gone place) s away = missed (nat_eq place k) _ s (ne_eqb place k away)
-  elsewhere k AllGone s away = absurd away
-
-  hit : (k : ℕ) (s t : Slot T) → (if nat_eq k k then s else t) ≡ s
-  hit k s t = ap (λ (b : Bool). if b then s else t) (eq-eqb k k refl)
-
-  get_after : (k i : ℕ) (x : Happens B E) (slots : List (Slot T)) → slice_get (places_from start next k x slots) i ≡ option_map (slot_after start next (k + i) x) (slice_get slots i)
-  get_after k i x [] = refl
-  get_after k zero x (s ∷ slots) =
-      let same : k ≡ k + 0 = omega arith in ap (λ (j : ℕ). Some (slot_after start next j x s)) same
-  get_after k (suc i) x (s ∷ slots) =
-      let same : suc k + i ≡ k + suc i = omega arith in get_after (suc k) i x slots ∙ ap (λ (j : ℕ). option_map (slot_after start next j x) (slice_get slots i)) same
-
-  begun_here : (k : ℕ) (begin : B) (s : Slot T) → slot_after start next k (Begins k begin) s ≡ Live (start begin)
-  begun_here k begin s = hit k (Live (start begin)) s
+use Rattle.amqp_session.proofs.Places.{got, get_at, none_above}
+use Rattle.amqp_session.proofs.Tables.{elsewhere, hit, get_after}
 
 pub part_elsewhere : (handle : ℕ) (h : List SessionEvent) (e : SessionEvent) → IsElsewhere handle (happens e) → part handle (e ∷ h) ≡ part handle h
 part_elsewhere handle h e away = elsewhere new_life lived_on handle (happens e) (part handle h) away
 
 pub part_anew : (handle : ℕ) (a : Attached) (h : List SessionEvent) → part handle (LinkAttached handle a ∷ h) ≡ Live (a, [])
-part_anew handle a h = begun_here new_life lived_on handle a (part handle h)
+part_anew handle a h = hit new_life lived_on handle (Live (new_life a)) (part handle h)
 
 slot_get : (s : SessionState) (e : SessionEvent) (handle : ℕ) →
     slice_get (session_after s e).links handle ≡ option_map (slot_after live_begins live_after handle (happens e)) (slice_get s.links handle)
@@ -68,7 +41,7 @@ pub slot_anew : (s : SessionState) (handle : ℕ) (a : Attached) → SessionMay 
 slot_anew s handle a may =
     ap (λ (o : Option (Slot LiveLink)). unwrap_or o Free) (slot_get s (LinkAttached handle a) handle)
     ∙ ap (λ (o : Option (Slot LiveLink)). unwrap_or (option_map (slot_after live_begins live_after handle (Begins handle a)) o) Free) may.2.0
-    ∙ begun_here live_begins live_after handle a Free
+    ∙ hit live_begins live_after handle (Live (live_begins a)) Free
 
 -- Credit and open deliveries of each live link are within what is allowed.
 pub link_within : (terms : SessionTerms) (h : List SessionEvent) (handle : ℕ) (l : LiveLink) → Sound terms h → slot_at (state_of terms h) handle ≡ Live l →
@@ -141,11 +114,6 @@ part_most law k AllGone p = omega arith
 -- what stands at a handle is what its part gives, or nothing
 slot_of_part : (terms : SessionTerms) (h : List SessionEvent) (handle : ℕ) → handle < handles terms → slot_at (state_of terms h) handle ≡ life_state live_state (part handle h)
 slot_of_part terms h handle l = ap (λ (o : Option (Slot LiveLink)). unwrap_or o Free) (get_at (handles terms) (λ k. life_state live_state (part k h)) handle l)
-
-none_above : {A : Type 0} (k n : ℕ) (f : ℕ → A) (i : ℕ) → n ≤ i → slice_get (tabulate k n f) i ≡ None
-none_above k zero f i l = refl
-none_above k (suc n) f zero l = absurd (omega (arith, l))
-none_above k (suc n) f (suc i) l = none_above (suc k) n f i (omega (arith, l))
 
 slot_above : (terms : SessionTerms) (h : List SessionEvent) (handle : ℕ) → handles terms ≤ handle → slot_at (state_of terms h) handle ≡ Free
 slot_above terms h handle l = ap (λ (o : Option (Slot LiveLink)). unwrap_or o Free) (none_above 0 (handles terms) (λ k. life_state live_state (part k h)) handle l)

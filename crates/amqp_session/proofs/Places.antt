@@ -1,7 +1,8 @@
 -- A table of places, event by event: its states stay those of its lives.
-use Rattle.std.proofs.Common.{arith, ◌≡◌, ℕ, zero, suc, ◌+◌, ◌<◌, subst, Bool, true, false, List, [], ◌∷◌, refl, sym, ap, ◌∙◌, Some}
-use Rattle.std.specs.Prelude.{nat_eq, slice_get, if◌then◌else◌}
+use Rattle.std.proofs.Common.{arith, add-mul, ◌≡◌, ℕ, zero, suc, ◌+◌, ◌*◌, ◌<◌, ◌≤◌, subst, Bool, true, false, List, [], ◌∷◌, length, refl, sym, ap, ◌∙◌, Some, None}
+use Rattle.std.specs.Prelude.{nat_eq, slice_get, sum_by, if◌then◌else◌}
 use Rattle.std.proofs.lemmas.Bool.{eqb-true}
+use Rattle.std.proofs.lemmas.List.Sums.{sum_by-cons}
 use Rattle.amqp_session.specs.declared.slot.Slot.{Slot}
 use Rattle.amqp_session.specs.declared.slot.Slot.TheVariants.{Free, Live, Waits}
 use Rattle.amqp_session.specs.Places.{Happens, Nothing, Begins, GoesOn, AllGoOn, Leaves, Gone, AllGone, Life, slot_map, IfLive, slot_after, places_from, places_after, lived_on, life_after}
@@ -14,6 +15,33 @@ tabulate_same k zero f g same = refl
 tabulate_same {A} k (suc n) f g same =
     let rest = tabulate_same (suc k) n f g (λ j l. same j (omega (arith, l))) in
     ap (λ (a : A). a ∷ tabulate (suc k) n f) (same k (omega arith)) ∙ ap (λ (rest : List A). g k ∷ rest) rest
+
+-- a table has so many places
+pub tabulate_long : {A : Type 0} (k n : ℕ) (f : ℕ → A) → length (tabulate k n f) ≡ n
+tabulate_long k zero f = refl
+tabulate_long k (suc n) f = ap suc (tabulate_long (suc k) n f)
+
+-- nothing stands beyond them
+pub none_above : {A : Type 0} (k n : ℕ) (f : ℕ → A) (i : ℕ) → n ≤ i → slice_get (tabulate k n f) i ≡ None
+none_above k zero f i l = refl
+none_above k (suc n) f zero l = absurd (omega (arith, l))
+none_above k (suc n) f (suc i) l = none_above (suc k) n f i (omega (arith, l))
+
+-- two sums over tables are one, where each place gives the same
+pub sums_same : {S T : Type 0} (p : S → ℕ) (q : T → ℕ) (f : ℕ → S) (g : ℕ → T) → ((k : ℕ) → p (f k) ≡ q (g k)) → (k n : ℕ) → sum_by p (tabulate k n f) ≡ sum_by q (tabulate k n g)
+sums_same p q f g same k zero = refl
+sums_same p q f g same k (suc n) =
+    omega (arith, sum_by-cons p (f k) (tabulate (suc k) n f), sum_by-cons q (g k) (tabulate (suc k) n g), same k, sums_same p q f g same (suc k) n)
+
+-- a sum is at most so many times another, where each place is
+pub sums_within : {S : Type 0} (p q : S → ℕ) (most : ℕ) (f : ℕ → S) (k n : ℕ) → ((j : ℕ) → j < k + n → p (f j) ≤ q (f j) * most) → sum_by p (tabulate k n f) ≤ sum_by q (tabulate k n f) * most
+sums_within p q most f k zero each = omega arith
+sums_within p q most f k (suc n) each =
+    let rest = tabulate (suc k) n f in
+    let here = each k (omega arith) in
+    let later = sums_within p q most f (suc k) n (λ j l. each j (omega (arith, l))) in
+    let product : sum_by q (f k ∷ rest) * most ≡ (q (f k) + sum_by q rest) * most = ap (λ (n : ℕ). n * most) (sum_by-cons q (f k) rest) in
+    omega (arith, here, later, sum_by-cons p (f k) rest, product, add-mul (q (f k)) (sum_by q rest) most)
 
 -- what stands at a place of a table is the function's value there, and the place is in the table
 got_from : {A : Type 0} (k n : ℕ) (f : ℕ → A) (i : ℕ) (a : A) → slice_get (tabulate k n f) i ≡ Some a → (i < n) × (f (k + i) ≡ a)

@@ -3,7 +3,7 @@ use Rattle.std.proofs.Common.{arith, ◌≡◌, ℕ, ◌+◌, ◌-◌, ◌%◌, 
 use Rattle.std.specs.Prelude.{nat_eq, nat_lt, slice_get, slice_set, unwrap_or, sum_by, is_none, IsSomeAnd, if◌then◌else◌}
 use Rattle.std.specs.List.{list_any}
 use Rattle.std.specs.Option.{option_map_or}
-use Rattle.std.proofs.lemmas.Option.{slice_get-get_or, slice_get_past}
+use Rattle.std.proofs.lemmas.Option.{slice_get_past}
 use Rattle.std.proofs.lemmas.Bool.{ne_eqb, le-ltb, lt-ltb}
 use Rattle.std.proofs.lemmas.List.{get_or-set_same, length-set}
 use Rattle.amqp_perform.specs.declared.condition.Condition.{Condition}
@@ -24,22 +24,20 @@ use Rattle.amqp_session.specs.declared.terms.SessionTerms.{SessionTerms}
 use Rattle.amqp_session.specs.Places.{Begins, Leaves}
 use Rattle.amqp_perform.specs.Said.{Said}
 use Rattle.amqp_session.specs.Frames.{link_flow_said, Attaching, Flowing, Attaches, Flows, Transfers}
-use Rattle.amqp_session.specs.Sessions.{Attached, LiveLink, live_begins, live_after, SessionState, SessionEvent, handles, happens, is_transfer, one_if, widened_by, stated_by, session_after, slot_at}
-use Rattle.amqp_session.specs.Sessions.{slot_has, slot_count, table_count, is_open_id, is_reused, IsApart, session_begins}
+use Rattle.amqp_session.specs.Sessions.{LiveLink, live_begins, live_after, SessionState, SessionEvent, handles, happens, is_transfer, one_if, widened_by, stated_by, session_after, slot_at}
+use Rattle.amqp_session.specs.Sessions.{slot_has, slot_count, table_count, is_open_id, IsApart, session_begins}
 use Rattle.amqp_session.specs.Sessions as event
 use Rattle.amqp_session.specs.Faults.{is_free, handle_fault, session_fault, transfer_fault, attached, attach_event, transfer_event, flow_event, named_event, event_of, came_news, transfer_news}
 use Rattle.amqp_session.specs.Faults.{news_of, named_news, flow_news, IsRefusal, slot_may_grow, refusal, attach_fault, or_else, where_so, slot_flow, link_flow, named_fault, attach_news}
-use Rattle.amqp_session.specs.Calls.{Take, call_event, take_event, at_link, slot_standing, standing_in, standing_fault}
+use Rattle.amqp_session.specs.Calls.{Take, call_event, take_event, slot_standing, standing_in, standing_fault}
 use Rattle.amqp_session.specs.Slots.{padded, session_of, IsReached, is_live, came_fault, slot_reused, at_place, slot_came, slot_came_news, slot_grows, IsSlotRefusal, slot_flowed, slot_called, IsTaken}
 use Rattle.amqp_session.specs.Slots.{HandsUp, IsStated, IsFlowTold, IsSettling, stated_of}
 use Rattle.amqp_session.specs.declared.slots.LinkStated.{LinkStated}
 use Rattle.amqp_session.proofs.Standings.{settles_everywhere, some_stands}
 use Rattle.amqp_session.proofs.Founds.{stands_there, settled_at}
-use Rattle.amqp_session.proofs.Padded.{From, padded_get, padded_any, padded_standing, padded_sum, padded_long, padded_live, padded_none, none_after, begins_at, goes_on_at, leaves_at, gone_at}
-use Rattle.amqp_session.proofs.Padded.{all_after, put_again}
-
-pub there : (slots : List (Slot LiveLink)) (h : ℕ) (x : Slot LiveLink) → x ≡ get_or slots h x → h < length slots → slice_get slots h ≡ Some x
-there slots h x e l = slice_get-get_or slots h x l ∙ ap (λ (y : Slot LiveLink). Some y) (sym e)
+use Rattle.amqp_session.proofs.Padded.{From, padded_get, padded_any, padded_standing, padded_sum, padded_long, padded_there, padded_none, none_after, begins_at, goes_on_at, leaves_at, gone_at}
+use Rattle.amqp_session.proofs.Padded.{all_after}
+use Rattle.amqp_session.proofs.Tables.{there, put_again}
 
 -- a number of 32 bits
 stays : (n : ℕ) → n < 2 ^ 32 → (n + 0) % 2 ^ 32 ≡ n
@@ -271,6 +269,12 @@ flow_is s h x stated said at is same = ap (λ (y : Slot LiveLink). slot_flow s h
         ap (λ (z : LinkStated). link_flow_said s.next_incoming_id s.window h z.delivery_count z.link_credit z.drain ∷ []) (sym is) ∙ ap (λ (y : Said). y ∷ []) (sym same)
     by_slot Waits is = absurd is
 
+-- the flow of a link that a call has changed
+pub stated_flow : (terms : SessionTerms) (w n : ℕ) (slots : List (Slot LiveLink)) (h : ℕ) (new : Slot LiveLink) (stated : LinkStated) (said : Said) → IsReached terms slots → h < length slots →
+    IsStated new stated → said ≡ link_flow_said n w h stated.delivery_count stated.link_credit stated.drain → link_flow (session_of terms w n (slice_set slots h new)) h ≡ said ∷ []
+stated_flow terms w n slots h new stated said reached low is same =
+    flow_is (session_of terms w n (slice_set slots h new)) h new stated said (slot_put terms w n slots h new reached low) is same
+
 pub hands_up : {A : Type 0} (x new : Slot LiveLink) (t : Taken A) → IsTaken x new t → HandsUp x t
 hands_up {A} Free new t is = absurd is
 hands_up {A} (Live l) new t is = by_first (first_ready l.link) is
@@ -319,7 +323,7 @@ module _ (terms : SessionTerms) (w n : ℕ) (slots : List (Slot LiveLink)) (s : 
   may_settle id x apart short is none place l here =
       let mode = awaits x none in
       settles_everywhere s id mode.0 apart short (standing_is id x is ∙ mode.1) place l
-      (subst (λ (t : SessionState). slice_get t.links place ≡ Some (Live l)) view (padded_live (handles terms) slots place l here reached.reached))
+      (subst (λ (t : SessionState). slice_get t.links place ≡ Some (Live l)) view (padded_there (handles terms) slots place (Live l) here reached.reached))
 
   pub slot_settles : (id : ℕ) (x : Standing) → IsApart s → id < 2 ^ 32 → standing_in id slots ≡ x → standing_fault x ≡ None →
       (k : ℕ) (y : Slot LiveLink) → y ≡ get_or slots k y → k < length slots → IsSettling id y

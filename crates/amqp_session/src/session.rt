@@ -312,8 +312,8 @@ impl<A: Allocator + Copy> Session<A> {
     }
 
     /// Grants the link at a handle `n` places of credit, and answers the flow that says so [2.6.7]. The sender is
-    /// then no longer asked to use its credit up, where `n` is 0 too. Refused, with nothing changed: with `NoLink`, or with `TooMuchCredit` where credit and open deliveries would be more
-    /// than the link allows.
+    /// then no longer asked to use its credit up, where `n` is 0 too. Refused, with nothing changed: with `NoLink`,
+    /// or with `TooMuchCredit` where credit and open deliveries would be more than the link allows.
     pub fn grant(&mut self, handle: u32, n: u32) -> Result<Flow<'static>, CallFault>
         ensures may { OnOk result (SessionMay self.old (call_event self.old (Grant handle n))) }
         ensures new { OnOk result (self.new ≡ session_after self.old (call_event self.old (Grant handle n))) }
@@ -377,8 +377,9 @@ impl<A: Allocator + Copy> Session<A> {
         Ok(replies::disposition(id, settled, outcome))
     }
 
-    /// Ends the link at a handle [2.6.6]: answers the detach, with closed true, that says so, and how many ready deliveries are
-    /// dropped. The handle stays in use until the peer detaches it. Refused, with nothing changed, with `NoLink`.
+    /// Ends the link at a handle [2.6.6]: answers the detach, with closed true, that says so, and how many ready
+    /// deliveries are dropped. The handle stays in use until the peer detaches it. Refused, with nothing changed,
+    /// with `NoLink`.
     pub fn detach(&mut self, handle: u32) -> Result<(Detach<'static>, u32), CallFault>
         ensures may { OnOk result (SessionMay self.old (call_event self.old (DetachCall handle))) }
         ensures new { OnOk result (self.new ≡ session_after self.old (call_event self.old (DetachCall handle))) }

@@ -1,29 +1,21 @@
 use Rattle.std.proofs.Common.{◌≤◌, ◌≡◌, ◌∙◌, sym, subst}
-use Rattle.amqp_session.specs.Sessions.{SessionState, SessionMay, session_after}
+use Rattle.amqp_session.specs.Sessions.{SessionState, session_after}
 use Rattle.amqp_session.specs.Frames.{Attaches, attaching}
 use Rattle.amqp_session.specs.Faults.{event_of}
-use Rattle.amqp_session.proofs.Accepts.{frame_ok}
 use Rattle.amqp_session.specs.Faults.{news_of, refusal}
 use Rattle.amqp_session.specs.Answers.{IsAttachAnswer}
-use Rattle.amqp_session.proofs.Dones.{apart_after, attach_answered}
+use Rattle.amqp_session.proofs.Dones.{frame_apart, frame_may, attach_answered}
 use Rattle.amqp_session.proofs.session.Session.attach.Goals as goal
 
 pub invariant_of-self-2 : goal.invariant_of-self-2
 invariant_of-self-2 g c =
-    apart_after c.open_ids_grow_by_heads.ensures c.self.inside.state c.attach.new.self (event_of c.self.inside.state (Attaches (attaching c.args.attach.now))) c.self.invariant
-    (frame_ok c.self.inside.state (Attaches (attaching c.args.attach.now)) c.is_long.ensures (
-      subst (λ (t : SessionState). c.args.attach.now.handle ≤ t.terms.handle_max)
-          (sym c.self.view_is) c.requires,
-      c.is_counted.ensures,
-    ) c.in_ok-news.ensures.accepted) (c.in_ok-news.ensures.new)
+    frame_apart c.open_ids_grow_by_heads.ensures c.self.inside.state c.attach.new.self (Attaches (attaching c.args.attach.now)) c.self.invariant c.is_long.ensures
+    (subst (λ (t : SessionState). c.args.attach.now.handle ≤ t.terms.handle_max) (sym c.self.view_is) c.requires, c.is_counted.ensures) c.in_ok-news.ensures.accepted c.in_ok-news.ensures.new
 
 pub returns-clause-may : goal.returns-clause-may
 returns-clause-may g c =
-    subst (λ (t : SessionState). SessionMay t (event_of t (Attaches (attaching c.args.attach.now)))) c.self.view_is (frame_ok c.self.inside.state
-    (Attaches (attaching c.args.attach.now)) c.is_long.ensures (
-      subst (λ (t : SessionState). c.args.attach.now.handle ≤ t.terms.handle_max) (sym c.self.view_is) c.requires,
-      c.is_counted.ensures,
-    ) c.in_ok-news.ensures.accepted)
+    frame_may c.self.inside.state c.args.self.now (Attaches (attaching c.args.attach.now)) c.self.view_is c.is_long.ensures
+    (subst (λ (t : SessionState). c.args.attach.now.handle ≤ t.terms.handle_max) (sym c.self.view_is) c.requires, c.is_counted.ensures) c.in_ok-news.ensures.accepted
 
 pub returns-clause-new : goal.returns-clause-new
 returns-clause-new g c =

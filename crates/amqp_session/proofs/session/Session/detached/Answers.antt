@@ -1,24 +1,22 @@
 use Rattle.std.proofs.Common.{◌≡◌, subst}
-use Rattle.amqp_session.specs.Sessions.{SessionState, SessionMay, session_after}
+use Rattle.amqp_session.specs.Sessions.{SessionState, session_after}
 use Rattle.amqp_session.specs.Frames.{Detaches}
 use Rattle.amqp_session.specs.Faults.{event_of}
-use Rattle.amqp_session.proofs.Accepts.{frame_ok}
 use Rattle.std.proofs.lemmas.Result.{err_from_is_err_and}
 use Rattle.amqp_session.specs.Faults.{session_fault, IsRefusal}
 use Rattle.std.specs.Prelude.{None}
-use Rattle.amqp_session.proofs.Dones.{apart_after}
+use Rattle.amqp_session.proofs.Dones.{frame_apart, frame_may}
 use Rattle.amqp_session.proofs.session.Session.detached.Goals as goal
 
 pub invariant_of-self-2 : goal.invariant_of-self-2
 invariant_of-self-2 g c =
-    apart_after c.open_ids_grow_by_heads.ensures c.self.inside.state c.detached.new.self (event_of c.self.inside.state (Detaches c.args.detach.now.handle c.args.detach.now.closed)) c.self.invariant
-    (frame_ok c.self.inside.state (Detaches c.args.detach.now.handle c.args.detach.now.closed) c.is_long.ensures tt (c.in_ok-detached.ensures.accepted c.args.detach.now.closed))
-    (c.in_ok-detached.ensures.new c.args.detach.now.closed)
+    frame_apart c.open_ids_grow_by_heads.ensures c.self.inside.state c.detached.new.self (Detaches c.args.detach.now.handle c.args.detach.now.closed) c.self.invariant c.is_long.ensures
+    tt (c.in_ok-detached.ensures.accepted c.args.detach.now.closed) (c.in_ok-detached.ensures.new c.args.detach.now.closed)
 
 pub returns-clause-may : goal.returns-clause-may
 returns-clause-may g c =
-    subst (λ (t : SessionState). SessionMay t (event_of t (Detaches c.args.detach.now.handle c.args.detach.now.closed))) c.self.view_is
-    (frame_ok c.self.inside.state (Detaches c.args.detach.now.handle c.args.detach.now.closed) c.is_long.ensures tt (c.in_ok-detached.ensures.accepted c.args.detach.now.closed))
+    frame_may c.self.inside.state c.args.self.now (Detaches c.args.detach.now.handle c.args.detach.now.closed) c.self.view_is c.is_long.ensures
+    tt (c.in_ok-detached.ensures.accepted c.args.detach.now.closed)
 
 pub returns-in_err-detached-clause-refused : goal.returns-in_err-detached-clause-refused
 returns-in_err-detached-clause-refused g c =

@@ -3,7 +3,8 @@ use Rattle.std.proofs.lemmas.Result.{err_from_is_err_and}
 use Rattle.std.specs.Prelude.{slice_set}
 use Rattle.amqp_session.specs.Slots.{session_of}
 use Rattle.amqp_session.specs.declared.slot.Slot.TheVariants.{Free}
-use Rattle.amqp_session.proofs.States.{slot_is, slot_past, handle_free, handle_used, gone, there}
+use Rattle.amqp_session.proofs.States.{slot_is, slot_past, handle_free, handle_used, gone}
+use Rattle.amqp_session.proofs.Tables.{there}
 use Rattle.amqp_session.proofs.state.State.detached.Goals as goal
 
 pub returns-then-place-len-clause-refused : goal.returns-then-place-len-clause-refused

@@ -1,9 +1,7 @@
 use Rattle.std.proofs.Common.{arith, refl}
 use Rattle.std.proofs.lemmas.Result.{err_from_is_err_and}
-use Rattle.std.specs.Prelude.{slice_set}
 use Rattle.amqp_link.specs.Links.{DrainAsked}
-use Rattle.amqp_session.specs.Slots.{session_of}
-use Rattle.amqp_session.proofs.States.{slot_is, slot_past, called, slot_put, flow_is}
+use Rattle.amqp_session.proofs.States.{slot_is, slot_past, called, stated_flow}
 use Rattle.amqp_session.proofs.state.State.drain.Goals as goal
 
 pub returns-then-place-len-clause-refused : goal.returns-then-place-len-clause-refused
@@ -28,6 +26,5 @@ returns-clause-accepted g c =
 
 pub returns-clause-answer : goal.returns-clause-answer
 returns-clause-answer g c =
-    flow_is (session_of c.self.inside.terms c.self.inside.window c.self.inside.next_incoming_id (slice_set c.self.inside.table.items c.args.handle c.drain.new.slot)) c.args.handle c.drain.new.slot
-    c.in_ok-stated.stated _ (slot_put c.self.inside.terms c.self.inside.window c.self.inside.next_incoming_id c.self.inside.table.items c.args.handle c.drain.new.slot c.self.invariant
-    (omega arith)) c.in_ok-stated.ensures.stated c.flow_stating.ensures
+    stated_flow c.self.inside.terms c.self.inside.window c.self.inside.next_incoming_id c.self.inside.table.items c.args.handle c.drain.new.slot c.in_ok-stated.stated _ c.self.invariant
+    (omega arith) c.in_ok-stated.ensures.stated c.flow_stating.ensures
