@@ -3,7 +3,7 @@ use Rattle.std.proofs.Common.{◌≡◌, ℕ, true, false, List, [], ◌∷◌, 
 use Rattle.amqp_perform.specs.Frames.{list_frame, described_text}
 use Rattle.amqp_send.specs.declared.flow_state.FlowState.{FlowState}
 use Rattle.amqp_send.specs.Flows.{flow_begins, opened, begun, limited, credit, window}
-use Rattle.amqp_send.specs.Sendings.{Message, frame, open_said, begin_said, attach_said, close_said, next_frame, left_of}
+use Rattle.amqp_send.specs.Sendings.{Message, frame, open_said, begin_said, attach_said, close_said, next_frame}
 
 -- container-id 's' and name 'l'
 pub open_bytes : frame (open_said (0x73 ∷ []))

@@ -3,7 +3,7 @@ use Rattle.std.proofs.Common.{◌≡◌, ℕ, zero, suc, ◌+◌, ◌-◌, ◌%�
 use Rattle.std.proofs.Common.{is_none, refl, sym, ap, subst, ◌∙◌, arith, ◌⊎◌, inl, inr, append_assoc, append-nil, length-append}
 use Rattle.std.specs.List.{flat_map}
 use Rattle.std.proofs.Math.Seq.{take-length}
-use Rattle.std.proofs.lemmas.Bool.{and_parts, ltb-true, leb-true, le-leb}
+use Rattle.std.proofs.lemmas.Bool.{not-true, and_parts, ltb-true, leb-true, le-leb}
 use Rattle.std.proofs.lemmas.List.{take-append-drop}
 use Rattle.amqp_perform.specs.Said.{said_frame}
 use Rattle.amqp_serial.specs.Numbers.{sum_of}
@@ -32,7 +32,7 @@ pub record Keeps (terms : SendTerms) (h : List Deed) (s : Sending) : Type 0 wher
   pub all : AllMayGo h
   pub least : 512 ≤ s.flow.max_frame_size
 
--- ---- numbers round the end
+-- Numbers round the end. ----------------------------------------------------------------------------------------------
 
 one_more : (n : ℕ) → sum_of (n % 2 ^ 32) 1 ≡ (n + 1) % 2 ^ 32
 one_more n = omega arith
@@ -62,12 +62,12 @@ flow_more f h m p is begun =
     (more (heads (pieces h)) k)
     (more (heads (pieces h) + advances h) k ∙ ap (λ (x : ℕ). x % 2 ^ 32) (omega arith))
 
--- ---- bytes
+-- Bytes. --------------------------------------------------------------------------------------------------------------
 
 further : (out unsent text all : List ℕ) → out ++ unsent ≡ all → out ++ (unsent ++ text) ≡ all ++ text
 further out unsent text all e = sym (append_assoc out unsent text) ∙ ap (λ (x : List ℕ). x ++ text) e
 
--- ---- the frame that is written
+-- The frame that is written. ------------------------------------------------------------------------------------------
 
 text_is : (f : FlowState) (h : List Deed) (m : Message) → f ≡ flow_of h → m.begun ≡ goes_on (pieces h) → next_frame f m ≡ transfer_text (next_piece f m) h
 text_is f h m is begun =
@@ -89,10 +89,6 @@ may_credit : (b : Bool) (n : ℕ) → (b || nat_lt 0 n) ≡ true → b ≡ false
 may_credit true n e f = absurd (cc f)
 may_credit false n e f = ltb-true 0 n e
 
-more_is : (b : Bool) → not b ≡ true → b ≡ false
-more_is false e = refl
-more_is true e = absurd (cc e)
-
 module _ (laws : Lengths) (null : NullIsLeast) where
   may : (h : List Deed) (s : Sending) (m : Message) → s.flow ≡ flow_of h → m.begun ≡ goes_on (pieces h) → 512 ≤ s.flow.max_frame_size → may_go s.flow s.unsent m ≡ true → MayGo (next_piece s.flow m) h
   may h s m is begun le go =
@@ -103,7 +99,7 @@ module _ (laws : Lengths) (null : NullIsLeast) where
         credited = λ no. subst (λ (x : FlowState). 0 < credit x) is (may_credit m.begun (credit f) b.0 (begun ∙ no));
         placed = subst (λ (x : FlowState). 0 < window x) is (ltb-true 0 (window f) b.1);
         within = subst (λ (x : FlowState). length (transfer_text (next_piece f m) h) ≤ most x) is (subst (λ (x : List ℕ). length x ≤ most f) text (frame_within laws null f m le));
-        full = λ goes. ap length (sym text) ∙ frame_full laws null f m le (more_is (is_last f m) goes) ∙ ap most is;
+        full = λ goes. ap length (sym text) ∙ frame_full laws null f m le (not-true (is_last f m) goes) ∙ ap most is;
       }
 
   wrote_step : (terms : SendTerms) (h : List Deed) (s : Sending) (o : Option Message) → s.message ≡ o → Keeps terms h s → Keeps terms (wrote_deeds s o ++ h) (wrote_of s o)
@@ -146,25 +142,24 @@ module _ (laws : Lengths) (null : NullIsLeast) where
       subst (λ (x : List Deed). Keeps terms x (wrote t)) (sym (append_assoc (wrote_deeds t t.message) (frame_deeds n s) h)) (wrote_step terms (frame_deeds n s ++ h) t t.message refl
       (frames_step terms h s n k))
 
--- ---- what is told
+-- What is told. -------------------------------------------------------------------------------------------------------
 
 pub ended_is : (terms : SendTerms) (h : List Deed) (s : Sending) (c : Condition) → Keeps terms h s → Keeps terms h (ended c s)
 ended_is terms h s c k = record { is = record { terms_are = k.is.terms_are; flow_is = k.is.flow_is; messages = k.is.messages; begun = k.is.begun; bytes = k.is.bytes }; all = k.all; least = k.least }
 
+-- what is told changes the limits and what waits to be sent, and no message
+heard_keeps : (terms : SendTerms) (h : List Deed) (s : Sending) (t : Told) (f : FlowState) (unsent : List ℕ) → Keeps terms h s → f ≡ flow_of (Heard t ∷ h) →
+    moved h ++ unsent ≡ written terms (Heard t ∷ h) → 512 ≤ f.max_frame_size → Keeps terms (Heard t ∷ h) (record s { flow = f; unsent = unsent })
+heard_keeps terms h s t f unsent k flow bytes least = record {
+  is = record { terms_are = k.is.terms_are; flow_is = flow; messages = k.is.messages; begun = k.is.begun; bytes = bytes };
+  all = k.all;
+  least = least;
+}
+
 -- what changes nothing that counts
 quiet : (terms : SendTerms) (h : List Deed) (s : Sending) (t : Told) → flow_of (Heard t ∷ h) ≡ flow_of h → written terms (Heard t ∷ h) ≡ written terms h ++ [] → Keeps terms h s →
     Keeps terms (Heard t ∷ h) s
-quiet terms h s t flow text k = record {
-  is = record {
-    terms_are = k.is.terms_are;
-    flow_is = k.is.flow_is ∙ sym flow;
-    messages = k.is.messages;
-    begun = k.is.begun;
-    bytes = k.is.bytes ∙ sym (append-nil (written terms h)) ∙ sym text;
-  };
-  all = k.all;
-  least = k.least;
-}
+quiet terms h s t flow text k = heard_keeps terms h s t s.flow s.unsent k (k.is.flow_is ∙ sym flow) (k.is.bytes ∙ sym (append-nil (written terms h)) ∙ sym text) k.least
 
 idle_by : (o : Option Message) (os : List (List ℕ)) (ps : List Piece) → os ≡ wholes ps ++ waiting o ps → is_none o ≡ nat_le (length os) (length (wholes ps))
 idle_by None os ps e = sym (le-leb (length os) (length (wholes ps)) (omega (arith, ap length e, length-append (wholes ps) [])))
@@ -203,68 +198,27 @@ flow_step terms h s l k = subst (λ (d : Bool). Keeps terms (Heard (told.Flowed 
     drained_is e = ap (λ (x : FlowState). drained (limited l x)) k.is.flow_is ∙ same_count (limited l (flow_of h)) (sum_of (n % 2 ^ 32) up) after.delivery_count (more n up ∙ count true e)
 
     by : (d echo : Bool) → drains l h ≡ d → l.echo ≡ echo → Keeps terms (Heard (told.Flowed l) ∷ h) (answered d echo (record s { flow = limited l s.flow }))
-    by true echo ed ee = record {
-      is = record {
-        terms_are = k.is.terms_are;
-        flow_is = drained_is ed;
-        messages = k.is.messages;
-        begun = k.is.begun;
-        bytes = further (moved h) s.unsent (frame (flow_said (drained (limited l s.flow)) true)) (written terms h) k.is.bytes
-            ∙ ap (λ (x : FlowState). written terms h ++ frame (flow_said x true)) (drained_is ed) ∙ ap (λ (x : Bool). written terms h ++ answer_by x l.echo after) (sym ed);
-      };
-      all = k.all;
-      least = k.least;
-    }
-    by false true ed ee = record {
-      is = record {
-        terms_are = k.is.terms_are;
-        flow_is = stays_is ed;
-        messages = k.is.messages;
-        begun = k.is.begun;
-        bytes = further (moved h) s.unsent (frame (flow_said (limited l s.flow) false)) (written terms h) k.is.bytes
-            ∙ ap (λ (x : FlowState). written terms h ++ frame (flow_said x false)) (stays_is ed) ∙ ap (λ (x : Bool). written terms h ++ answer_by x true after) (sym ed)
-            ∙ ap (λ (x : Bool). written terms h ++ answer_by (drains l h) x after) (sym ee);
-      };
-      all = k.all;
-      least = k.least;
-    }
-    by false false ed ee = record {
-      is = record {
-        terms_are = k.is.terms_are;
-        flow_is = stays_is ed;
-        messages = k.is.messages;
-        begun = k.is.begun;
-        bytes = k.is.bytes ∙ sym (append-nil (written terms h)) ∙ ap (λ (x : Bool). written terms h ++ answer_by x false after) (sym ed)
-            ∙ ap (λ (x : Bool). written terms h ++ answer_by (drains l h) x after) (sym ee);
-      };
-      all = k.all;
-      least = k.least;
-    }
+    by true echo ed ee =
+        heard_keeps terms h s (told.Flowed l) (drained (limited l s.flow)) (s.unsent ++ frame (flow_said (drained (limited l s.flow)) true)) k (drained_is ed)
+        (further (moved h) s.unsent (frame (flow_said (drained (limited l s.flow)) true)) (written terms h) k.is.bytes
+        ∙ ap (λ (x : FlowState). written terms h ++ frame (flow_said x true)) (drained_is ed) ∙ ap (λ (x : Bool). written terms h ++ answer_by x l.echo after) (sym ed)) k.least
+    by false true ed ee =
+        heard_keeps terms h s (told.Flowed l) (limited l s.flow) (s.unsent ++ frame (flow_said (limited l s.flow) false)) k (stays_is ed)
+        (further (moved h) s.unsent (frame (flow_said (limited l s.flow) false)) (written terms h) k.is.bytes
+        ∙ ap (λ (x : FlowState). written terms h ++ frame (flow_said x false)) (stays_is ed) ∙ ap (λ (x : Bool). written terms h ++ answer_by x true after) (sym ed)
+        ∙ ap (λ (x : Bool). written terms h ++ answer_by (drains l h) x after) (sym ee)) k.least
+    by false false ed ee =
+        heard_keeps terms h s (told.Flowed l) (limited l s.flow) s.unsent k (stays_is ed)
+        (k.is.bytes ∙ sym (append-nil (written terms h)) ∙ ap (λ (x : Bool). written terms h ++ answer_by x false after) (sym ed)
+        ∙ ap (λ (x : Bool). written terms h ++ answer_by (drains l h) x after) (sym ee)) k.least
 
 heard_step : (terms : SendTerms) (h : List Deed) (s : Sending) (t : Told) → IsLawful t → Keeps terms h s → Keeps terms (Heard t ∷ h) (heard t s)
 heard_step terms h s told.Nothing lawful k = quiet terms h s told.Nothing refl refl k
-heard_step terms h s (told.Opened n) lawful k = record {
-  is = record {
-    terms_are = k.is.terms_are;
-    flow_is = ap (opened n) k.is.flow_is;
-    messages = k.is.messages;
-    begun = k.is.begun;
-    bytes = k.is.bytes ∙ sym (append-nil (written terms h));
-  };
-  all = k.all;
-  least = lawful;
-}
-heard_step terms h s (told.Begun next incoming_window) lawful k = record {
-  is = record {
-    terms_are = k.is.terms_are;
-    flow_is = ap (begun next incoming_window) k.is.flow_is;
-    messages = k.is.messages;
-    begun = k.is.begun;
-    bytes = k.is.bytes ∙ sym (append-nil (written terms h));
-  };
-  all = k.all;
-  least = k.least;
-}
+heard_step terms h s (told.Opened n) lawful k =
+    heard_keeps terms h s (told.Opened n) (opened n s.flow) s.unsent k (ap (opened n) k.is.flow_is) (k.is.bytes ∙ sym (append-nil (written terms h))) lawful
+heard_step terms h s (told.Begun next incoming_window) lawful k =
+    heard_keeps terms h s (told.Begun next incoming_window) (begun next incoming_window s.flow) s.unsent k (ap (begun next incoming_window) k.is.flow_is)
+    (k.is.bytes ∙ sym (append-nil (written terms h))) k.least
 heard_step terms h s (told.Flowed l) lawful k = flow_step terms h s l k
 heard_step terms h s (told.Disposed first last outcome) lawful k = quiet terms h s (told.Disposed first last outcome) refl refl k
 heard_step terms h s (told.Left c) lawful k = ended_is terms (Heard (told.Left c) ∷ h) s c (quiet terms h s (told.Left c) refl refl k)
@@ -340,7 +294,7 @@ event_step terms h s (Moved n) lawful may k = record {
   least = k.least;
 }
 
--- ---- lists of events
+-- Lists of events. ----------------------------------------------------------------------------------------------------
 
 begins : (terms : SendTerms) → Keeps terms [] (sending_begins terms)
 begins terms = record { is = record { terms_are = refl; flow_is = refl; messages = refl; begun = refl; bytes = refl }; all = tt; least = omega arith }

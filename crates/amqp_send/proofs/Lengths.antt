@@ -1,13 +1,14 @@
 -- How long the frames of a sender are.
-use Rattle.std.proofs.Common.{◌≡◌, ℕ, ◌+◌, ◌-◌, ◌<◌, ◌≤◌, Bool, true, false, not, cond, List, [], ◌∷◌, length, take, drop, Option, Some, None, refl, sym, ap, subst, ◌∙◌, arith}
+use Rattle.std.proofs.Common.{◌≡◌, ℕ, ◌+◌, ◌-◌, ◌<◌, ◌≤◌, Bool, true, false, not, cond, List, [], ◌∷◌, ◌++◌, length, take, drop, Option, Some, None, refl, sym, ap, subst, ◌∙◌, arith}
 use Rattle.std.specs.List.{concat}
 use Rattle.std.proofs.Math.Seq.{take-length}
 use Rattle.std.proofs.lemmas.Bool.{leb-true, leb-false}
 use Rattle.std.proofs.lemmas.List.{length-append, length-take-le}
 use Rattle.amqp_perform.specs.declared.descriptor.Descriptor.TheVariants as of_type
 use Rattle.amqp_perform.specs.Cells.{Bytes}
-use Rattle.amqp_perform.specs.Frames.{cell_text, list_frame, described_text}
-use Rattle.amqp_perform.specs.Tables.{string}
+use Rattle.amqp_perform.specs.Frames.{cell_text, written_text, list_frame, described_text}
+use Rattle.amqp_perform.specs.Performatives.{flag, optional_whole}
+use Rattle.amqp_perform.specs.Tables.{boolean, uint, string, default}
 use Rattle.amqp_perform.specs.Said.{Said, said_texts, said_frame}
 use Rattle.amqp_send.specs.declared.flow_state.FlowState.{FlowState}
 use Rattle.amqp_send.specs.Flows.{most, credit}
@@ -19,63 +20,40 @@ unfolding list_frame described_text
 close_long = refl
 
 module _ (laws : Lengths) where
+  -- a text of 255 bytes at most, and little behind it
+  named_short : (s : Said) (name rest : List ℕ) → concat (said_texts s) ≡ cell_text string (Bytes name) ++ rest → length rest ≤ 100 → length name ≤ 255 → length (frame s) ≤ 512
+  named_short s name rest parts few le =
+      let long : length (concat (said_texts s)) ≡ length (cell_text string (Bytes name)) + length rest = ap length parts ∙ length-append (cell_text string (Bytes name)) rest in
+      omega (arith, laws.most 0 s [], laws.octets string name, long, few, le)
+
   pub open_short : (c : List ℕ) → length c ≤ 255 → length (frame (open_said c)) ≤ 512
-  open_short c le =
-      let text : List ℕ = cell_text string (Bytes c) in
-      let rest : List ℕ = concat (drop 1 (said_texts (open_said c))) in
-      let parts : length (concat (said_texts (open_said c))) ≡ length text + length rest = length-append text rest in
-      let few : length rest ≤ 100 = omega arith in
-      omega (arith, laws.most 0 (open_said c) [], laws.octets string c, parts, few)
+  open_short c le = named_short (open_said c) c (concat (drop 1 (said_texts (open_said c)))) refl (omega arith) le
 
   pub begin_short : length (frame begin_said) ≤ 512
   begin_short = omega (arith, laws.most 0 begin_said [])
 
   pub attach_short : (n : List ℕ) → length n ≤ 255 → length (frame (attach_said n)) ≤ 512
-  attach_short n le =
-      let text : List ℕ = cell_text string (Bytes n) in
-      let rest : List ℕ = concat (drop 1 (said_texts (attach_said n))) in
-      let parts : length (concat (said_texts (attach_said n))) ≡ length text + length rest = length-append text rest in
-      let few : length rest ≤ 100 = omega arith in
-      omega (arith, laws.most 0 (attach_said n) [], laws.octets string n, parts, few)
+  attach_short n le = named_short (attach_said n) n (concat (drop 1 (said_texts (attach_said n)))) refl (omega arith) le
+
+  optional_short : (o : Option ℕ) → length (cell_text uint (optional_whole o)) ≤ 5
+  optional_short None = omega arith
+  optional_short (Some n) = laws.numbers n
+
+  flag_short : (d : Bool) → length (written_text boolean (default 0) (flag d)) ≤ 1
+  flag_short true = omega arith
+  flag_short false = omega arith
 
   pub flow_short : (f : FlowState) (drain : Bool) → length (frame (flow_said f drain)) ≤ 64
-  flow_short f drain = by f.peer_next_outgoing_id drain
-    where
-      by : (i : Option ℕ) (d : Bool) → length (frame (flow_said (record f { peer_next_outgoing_id = i }) d)) ≤ 64
-      by None true = omega (
-        arith,
-        laws.most 0 (flow_said (record f { peer_next_outgoing_id = None }) true) [],
-        laws.numbers f.next_outgoing_id,
-        laws.numbers f.delivery_count,
-        laws.numbers (credit f),
-        length-append {A = ℕ},
-      )
-      by None false = omega (
-        arith,
-        laws.most 0 (flow_said (record f { peer_next_outgoing_id = None }) false) [],
-        laws.numbers f.next_outgoing_id,
-        laws.numbers f.delivery_count,
-        laws.numbers (credit f),
-        length-append {A = ℕ},
-      )
-      by (Some i) true = omega (
-        arith,
-        laws.most 0 (flow_said (record f { peer_next_outgoing_id = Some i }) true) [],
-        laws.numbers i,
-        laws.numbers f.next_outgoing_id,
-        laws.numbers f.delivery_count,
-        laws.numbers (credit f),
-        length-append {A = ℕ},
-      )
-      by (Some i) false = omega (
-        arith,
-        laws.most 0 (flow_said (record f { peer_next_outgoing_id = Some i }) false) [],
-        laws.numbers i,
-        laws.numbers f.next_outgoing_id,
-        laws.numbers f.delivery_count,
-        laws.numbers (credit f),
-        length-append {A = ℕ},
-      )
+  flow_short f drain = omega (
+    arith,
+    laws.most 0 (flow_said f drain) [],
+    optional_short f.peer_next_outgoing_id,
+    laws.numbers f.next_outgoing_id,
+    laws.numbers f.delivery_count,
+    laws.numbers (credit f),
+    flag_short drain,
+    length-append {A = ℕ},
+  )
 
   pub transfer_short : (id : ℕ) (begun more : Bool) → length (frame (transfer_said id begun more)) ≤ 64
   transfer_short id true true = omega (arith, laws.most 0 (later_said true) [])
@@ -91,7 +69,7 @@ same_long most s t same le = subst (λ (x : Said). length (frame x) ≤ most) (s
 pub most_is : (f : FlowState) → 512 ≤ f.max_frame_size → (512 ≤ most f) × (most f ≤ 4096) × (most f ≤ f.max_frame_size)
 most_is f le = (grind (arith, le), grind (arith, le), grind (arith, le))
 
--- ---- how much of a message goes into a frame
+-- How much of a message goes into a frame. ----------------------------------------------------------------------------
 
 module _ (laws : Lengths) (null : NullIsLeast) where
   -- a frame that no more follow is no longer

@@ -1,10 +1,10 @@
 -- The history of a sender, one call after another.
-use Rattle.std.proofs.Common.{arith, ◌≡◌, ℕ, zero, suc, ◌≤◌, ◌&&◌, ◌⊎◌, inl, inr, Bool, true, false, List, [], ◌∷◌, ◌++◌, take, drop}
+use Rattle.std.proofs.Common.{arith, ◌≡◌, ℕ, zero, suc, ◌≤◌, ◌&&◌, inl, inr, Bool, true, false, List, [], ◌∷◌, ◌++◌, take, drop}
 use Rattle.std.proofs.Common.{refl, sym, ap, ◌∙◌, subst, Option, Some, None, append_assoc, append-nil}
 use Rattle.std.specs.Prelude.{if◌then◌else◌}
 use Rattle.std.specs.List.{flat_map}
 use Rattle.amqp_frame.specs.Splits.{SplitterState, Waits, IsHeld, IsUnchanged, WentBy}
-use Rattle.amqp_frame.specs.Units.{StreamUnit, bytes_of, IsUnit, AreUnits}
+use Rattle.amqp_frame.specs.Units.{StreamUnit, bytes_of, AreUnits}
 use Rattle.amqp_frame.specs.declared.units.Stage.{Stage}
 use Rattle.amqp_frame.specs.declared.units.Stage.TheVariants as due
 use Rattle.amqp_frame.proofs.Fronts.{none_held, waits_or_not}
@@ -23,7 +23,7 @@ use Rattle.amqp_send.specs.Sendings.{SendTerms, Message, Sending, is_talking, ma
 use Rattle.amqp_send.specs.Sendings.{SendEvent, Acted, Offered, CloseWritten, Moved, changed, send_after, SendMay}
 use Rattle.amqp_send.specs.Tellings.{told_of}
 
--- ---- what was offered and moved out, in a longer history
+-- What was offered and moved out, in a longer history. ----------------------------------------------------------------
 
 -- no message is taken over, and nothing moved out
 record IsSame (more h : List Deed) : Type 0 where
@@ -92,7 +92,7 @@ adds s e h =
     let own = event_adds s e h in
     record { offers_are = same.offers_are ∙ own.offers_are; moved_is = same.moved_is ∙ own.moved_is }
 
--- ---- one event
+-- One event. ----------------------------------------------------------------------------------------------------------
 
 record Leads (terms : SendTerms) (took gave : List ℕ) (messages : List (List ℕ)) (told : List Notice) (s : SenderState) : Type 0 where
   pub events : List SendEvent
@@ -126,7 +126,7 @@ input_of : (terms : SendTerms) (took gave : List ℕ) (messages : List (List ℕ
     → IsTraced terms took gave messages told es s → IsInput s.input (units_of es) took
 input_of terms took gave messages told es s t = record { limit = t.limit; units = t.units; rest = t.rest }
 
--- ---- feeds
+-- Feeds. --------------------------------------------------------------------------------------------------------------
 
 -- bytes are taken
 grows : (i : SplitterState) (us : List StreamUnit) (took piece : List ℕ) (used : ℕ) → IsHeld i.limit i.stage (i.filled ++ take used piece) → IsInput i us took
@@ -208,7 +208,7 @@ module _ (terms : SendTerms) (took gave : List ℕ) (messages : List (List ℕ))
                 (one_more terms (took ++ take used piece) took gave messages told es old new (Acted u) t r (f.lawful u w r) a.1 after);
           }
 
-  -- ---- the other calls
+  -- The other calls. --------------------------------------------------------------------------------------------------
 
   -- the input is as it was
   same_input : (e : SendEvent) → units_of (e ∷ es) ≡ units_of es → IsInput old.input (units_of (e ∷ es)) (took ++ [])
@@ -249,7 +249,7 @@ module _ (terms : SendTerms) (took gave : List ℕ) (messages : List (List ℕ))
   does Close (Closed closed) d = closes closed d
   does c a d = absurd d
 
--- ---- all calls
+-- All calls. ----------------------------------------------------------------------------------------------------------
 
 all_calls : (terms : SendTerms) (took gave : List ℕ) (messages : List (List ℕ)) (told : List Notice) (es : List SendEvent) (s : SenderState)
     (asked : List Call) (answers : List Answer) (last : SenderState) → IsTraced terms took gave messages told es s → Run s asked answers last
@@ -307,7 +307,7 @@ runs laws terms calls answers start last new run =
       output = ap (λ (v : List ℕ). v ++ last.sending.unsent) t.gave_is ∙ is.bytes;
     }
 
--- ---- after each call
+-- After each call. ----------------------------------------------------------------------------------------------------
 
 -- The first calls of a run are a run, and so are the others.
 record IsSplit (start : SenderState) (calls : List Call) (answers : List Answer) (last : SenderState) (n : ℕ) : Type 0 where

@@ -12,13 +12,13 @@ use Rattle.amqp_perform.specs.Again.{IsOfField}
 use Rattle.amqp_perform.specs.Cells.{Whole, Bytes, Span, where_so}
 use Rattle.amqp_perform.specs.Performatives.{flag, optional_whole}
 use Rattle.amqp_perform.specs.Said.{MayBeSaid}
-use Rattle.amqp_perform.specs.Tables.{Field, string, uint, uint_from, ushort, boolean, sender_settle_mode, receiver_settle_mode, anything, mandatory, optional, default, open_fields, begin_fields}
+use Rattle.amqp_perform.specs.Tables.{Field, string, uint, boolean, anything, mandatory, optional, default, open_fields, begin_fields}
 use Rattle.amqp_perform.specs.Tables.{attach_fields, flow_fields, transfer_fields, close_fields}
 use Rattle.amqp_serial.specs.Numbers.{distance_of}
 use Rattle.amqp_send.specs.declared.flow_state.FlowState.{FlowState}
 use Rattle.amqp_send.specs.Flows.{credit}
 use Rattle.amqp_send.specs.Frames.{IsSmall, IsText}
-use Rattle.amqp_send.specs.Sendings.{source_text, target_text, open_said, begin_said, attach_said, flow_said, close_said, transfer_said}
+use Rattle.amqp_send.specs.Sendings.{open_said, begin_said, attach_said, flow_said, close_said, transfer_said}
 
 abbrev uint_field : Field
 uint_field = record { name = []; type = uint; absence = optional }

@@ -35,7 +35,7 @@ pub data Deed : Type 0 where
   -- these bytes were moved out
   Gave : List ℕ → Deed
 
--- ---- messages
+-- Messages. -----------------------------------------------------------------------------------------------------------
 
 -- the frames of messages, newest first
 abbrev pub pieces : List Deed → List Piece
@@ -81,7 +81,7 @@ heads (p ∷ ps) = heads ps + (if goes_on ps then 0 else 1)
 abbrev pub is_idle : List Deed → Bool
 is_idle h = nat_le (length (offers h)) (length (wholes (pieces h)))
 
--- ---- what the receiver stated last
+-- What the receiver stated last. --------------------------------------------------------------------------------------
 
 abbrev pub max_frame_size : List Deed → ℕ
 max_frame_size [] = 512
@@ -111,7 +111,7 @@ credit_end [] = 0
 credit_end (Heard (Flowed l) ∷ h) = if l.of_link then sum_of l.delivery_count l.link_credit else credit_end h
 credit_end (d ∷ h) = credit_end h
 
--- ---- counts
+-- Counts. -------------------------------------------------------------------------------------------------------------
 
 -- a flow asks for the credit to be used up while no message waits
 abbrev pub drains : Limits → List Deed → Bool
@@ -136,7 +136,7 @@ flow_of h = record {
   delivery_count = (heads (pieces h) + advances h) % 2 ^ 32;
 }
 
--- ---- what was written
+-- What was written. ---------------------------------------------------------------------------------------------------
 
 -- the answer to a flow [2.6.7, 2.7.4]
 abbrev pub answer_by : Bool → Bool → FlowState → List ℕ
@@ -172,7 +172,7 @@ moved (Took m ∷ h) = moved h
 moved (Wrote p ∷ h) = moved h
 moved (Ceased ∷ h) = moved h
 
--- ---- a sender and its history
+-- A sender and its history. -------------------------------------------------------------------------------------------
 
 -- what is left of the message that waits, and what its frames have of it
 abbrev pub waiting : Option Message → List Piece → List (List ℕ)
@@ -213,7 +213,7 @@ AllMayGo (Took m ∷ h) = AllMayGo h
 AllMayGo (Ceased ∷ h) = AllMayGo h
 AllMayGo (Gave bytes ∷ h) = AllMayGo h
 
--- ---- what an event adds to the history
+-- What an event adds to the history. ----------------------------------------------------------------------------------
 
 abbrev pub greeted_deeds : Told → List Deed
 greeted_deeds Nothing = Greeted ∷ []
@@ -246,7 +246,7 @@ frame_deeds (suc n) s = wrote_deeds (writes n s) (writes n s).message ++ frame_d
 abbrev pub deeds : Sending → SendEvent → List Deed
 deeds s e = frame_deeds (frames_left (changed s e).message) (changed s e) ++ event_deeds s e
 
--- ---- lists of events, newest first
+-- Lists of events, newest first. --------------------------------------------------------------------------------------
 
 abbrev pub after_all : SendTerms → List SendEvent → Sending
 after_all terms [] = sending_begins terms

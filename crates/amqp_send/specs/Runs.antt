@@ -11,7 +11,7 @@ use Rattle.amqp_send.specs.Histories.{IsHistory, AllMayGo, Accepted, after_all, 
 use Rattle.amqp_send.specs.Sendings.{SendTerms, Sending, sending_begins, SendEvent, Acted, Offered, CloseWritten, Moved, send_after, sent_news, offer_fault, has_room, may_close, can_write}
 use Rattle.amqp_send.specs.Tellings.{told_of, IsLawful}
 
--- ---- calls and answers
+-- Calls and answers. --------------------------------------------------------------------------------------------------
 
 pub data Call : Type 0 where
   Offer : List ℕ → Call  -- a message
@@ -26,7 +26,7 @@ pub data Answer : Type 0 where
   MovedOut : List ℕ → Answer
   Closed : Bool → Answer
 
--- ---- what a call does
+-- What a call does. ---------------------------------------------------------------------------------------------------
 
 -- this happens to what is sent
 abbrev pub does_send : SenderState → SendEvent → SenderState
@@ -81,7 +81,7 @@ begins terms = record { input = record { limit = 4096; stage = due.Header; fille
 abbrev pub IsStart : SendTerms → SenderState → Type 0
 IsStart terms s = s ≡ begins terms
 
--- ---- what calls and answers say
+-- What calls and answers say. -----------------------------------------------------------------------------------------
 
 -- the bytes that a feed took: the first ones of its piece
 abbrev pub taken_by : Call → Answer → List ℕ
@@ -132,7 +132,7 @@ abbrev pub heard : List Call → List Answer → List Notice
 heard (c ∷ calls) (a ∷ answers) = told_by c a ++ heard calls answers
 heard calls answers = []
 
--- ---- what events say, newest first
+-- What events say, newest first. --------------------------------------------------------------------------------------
 
 -- the units that were acted upon, oldest first
 abbrev pub units_of : List SendEvent → List StreamUnit
@@ -153,7 +153,7 @@ abbrev pub tellings : SendTerms → List SendEvent → List Notice
 tellings terms [] = []
 tellings terms (e ∷ es) = tellings terms es ++ notices (after_all terms es) e
 
--- ---- the theorem
+-- The theorem. --------------------------------------------------------------------------------------------------------
 
 -- A sender after some calls, of which these bytes were taken, these moved out, these messages taken over, and this told, with its events, newest first.
 pub record IsTraced (terms : SendTerms) (took gave : List ℕ) (messages : List (List ℕ)) (told : List Notice) (es : List SendEvent) (s : SenderState) : Type 0 where

@@ -49,7 +49,7 @@ pipe_size = 8192
 abbrev pub sending_begins : SendTerms → Sending
 sending_begins terms = record { terms = terms; talk = talk.Silent; flow = flow_begins; message = None; unsent = HEADER }
 
--- ---- the frames
+-- The frames. ---------------------------------------------------------------------------------------------------------
 
 -- the canonical frame without a payload
 abbrev pub frame : Said → List ℕ
@@ -126,7 +126,7 @@ share f m = if is_last f m then length m.rest else most f - length (frame (trans
 abbrev pub next_frame : FlowState → Message → List ℕ
 next_frame f m = said_frame 0 (transfer_said f.delivery_id m.begun (not (is_last f m))) (take (share f m) m.rest)
 
--- ---- the next frame of the message
+-- The next frame of the message. --------------------------------------------------------------------------------------
 
 -- how many deliveries it begins
 abbrev pub heads_of : Message → ℕ
@@ -197,7 +197,7 @@ all_written s = writes (frames_left s.message) s
 abbrev pub left_to_send : Sending → ℕ
 left_to_send s = length s.unsent + 4097 * frames_left s.message
 
--- ---- what is told
+-- What is told. -------------------------------------------------------------------------------------------------------
 
 abbrev pub ended : Condition → Sending → Sending
 ended c s = record s { talk = talk.Ended c }
@@ -263,7 +263,7 @@ news_in talk.Talking t = heard_news t
 news_in talk.Closing t = closing_news t
 news_in (talk.Ended c) t = None
 
--- ---- events
+-- Events. -------------------------------------------------------------------------------------------------------------
 
 pub data SendEvent : Type 0 where
   -- a unit of the receiver was acted upon

@@ -13,7 +13,7 @@ use Rattle.amqp_perform.specs.Reading.{body_at}
 use Rattle.amqp_send.specs.declared.telling.Told.{Told}
 use Rattle.amqp_send.specs.declared.telling.Told.TheVariants.{Nothing, Opened, Begun, Flowed, Disposed, Left, Closed, Unread}
 
--- ---- what stands in a field
+-- What stands in a field. ---------------------------------------------------------------------------------------------
 
 -- a number, 0 where it is absent
 abbrev pub number : Cell → ℕ
@@ -36,7 +36,7 @@ abbrev pub span_of : Cell → List ℕ
 span_of (Span text) = text
 span_of _ = []
 
--- ---- what a performative tells
+-- What a performative tells. ------------------------------------------------------------------------------------------
 
 -- [2.7.1]
 abbrev pub open_told : List Cell → Told
@@ -97,7 +97,7 @@ told_by of_type.End cells = end_told cells
 told_by of_type.Close cells = close_told cells
 told_by _ cells = Nothing
 
--- ---- what a unit tells
+-- What a unit tells. --------------------------------------------------------------------------------------------------
 
 abbrev pub told_read : Option (Descriptor × List Cell × List ℕ) → Told
 told_read None = Unread

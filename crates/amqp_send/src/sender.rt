@@ -1,11 +1,11 @@
 //! A sender over one connection.
 ghost use Rattle.std.specs.Prelude.{◌≡◌, ◌≤◌, ◌<◌, ◌++◌, ℕ, min, [], length, take, drop, IfOk, IfErr, OnOk, IsTrue, IsFalse, Some, None, true, false, ◌↔◌};
 ghost use Rattle.std.specs.String.{string_bytes};
-ghost use Rattle.amqp_frame.specs.Splits.{IsHeld, IsUnchanged, IsEmptied, TakesNothing, Waits};
-ghost use Rattle.amqp_frame.specs.Units.{StreamUnit, IsRest, due_after};
-ghost use Rattle.amqp_send.specs.Calls.{SenderState, taken};
+ghost use Rattle.amqp_frame.specs.Splits.{IsEmptied, Waits};
+ghost use Rattle.amqp_frame.specs.Units.{StreamUnit, due_after};
+ghost use Rattle.amqp_send.specs.Calls.{SenderState};
 ghost use Rattle.amqp_send.specs.Keeping.{terms_of};
-ghost use Rattle.amqp_send.specs.Runs.{Offer, Feed, Output, Close, TakenOver, Refused, Fed, MovedOut, Closed, Does, IsStart};
+ghost use Rattle.amqp_send.specs.Runs.{Offer, Output, Close, TakenOver, Refused, MovedOut, Closed, Does, IsFed, IsStart};
 ghost use Rattle.amqp_send.specs.Tellings.{told_of, IsLawful};
 ghost use Rattle.amqp_send.specs.Sendings.{SendEvent, send_after, sent_news, offer_fault, has_room, may_close, can_write, left_to_send};
 
@@ -82,21 +82,7 @@ impl<A: Allocator + Copy> Sender<A> {
     /// taken while it does, and the next call tries it again.
     pub fn feed(&mut self, piece: &[u8]) -> (usize, Option<News>)
         ensures bound { result.0 ≤ length piece.now }
-
-        // It takes all that it may.
-        ensures all { result.0 < length piece.now → TakesNothing (taken self.old.input (take result.0 piece.now)) }
-        ensures full { TakesNothing self.old.input → result.0 ≡ 0 }
-        ensures early { (k : ℕ) → k < result.0 → IsRest self.old.input.limit self.old.input.stage (self.old.input.filled ++ take k piece.now) }
-
-        // A unit is acted upon where there is room.
-        ensures acted { (u : StreamUnit) → Waits (taken self.old.input (take result.0 piece.now)) u → has_room self.old.sending ≡ true
-            → IsEmptied (taken self.old.input (take result.0 piece.now)) self.new.input (due_after u) × (self.new.sending ≡ send_after self.old.sending (SendEvent.Acted u)) × (result.1 ≡ sent_news self.old.sending u) }
-        ensures waits { has_room self.old.sending ≡ false
-            → IsUnchanged (taken self.old.input (take result.0 piece.now)) self.new.input × (self.new.sending ≡ self.old.sending) × (result.1 ≡ None) }
-        ensures none { ((u : StreamUnit) → Waits (taken self.old.input (take result.0 piece.now)) u → ⊥)
-            → IsUnchanged (taken self.old.input (take result.0 piece.now)) self.new.input × (self.new.sending ≡ self.old.sending) × (result.1 ≡ None) }
-        ensures lawful { (u : StreamUnit) → Waits (taken self.old.input (take result.0 piece.now)) u → has_room self.old.sending ≡ true → IsLawful (told_of u) }
-        ensures does { Does self.old self.new (Feed piece.now) (Fed result.0 result.1) }
+        ensures does { IsFed self.old self.new piece.now result.0 result.1 }
         ensures written { can_write self.new.sending ≡ false }
     {
         let used = self.input.push(piece);
