@@ -1,7 +1,7 @@
 -- What a unit comes to, and a call that is not refused, is an event that the connection accepts.
 use Rattle.std.proofs.Common.{arith, ◌≡◌, ℕ, zero, suc, ◌*◌, ◌^◌, ◌<◌, ◌≤◌, subst, Bool, true, false, ◌||◌, List, [], ◌∷◌, length, drop, refl, sym, ap, ◌∙◌, ltb-false, Option, Some, None}
 use Rattle.std.specs.Prelude.{unwrap_or, slice_get, slice_index, is_some, nat_lt, nat_le, if◌then◌else◌, bytes_eq}
-use Rattle.std.proofs.lemmas.Bool.{leb-false}
+use Rattle.std.proofs.lemmas.Bool.{leb-false, cond_both, or_right}
 use Rattle.amqp_frame.specs.declared.units.TheConstants.{HEADER}
 use Rattle.amqp_frame.specs.Units.{StreamUnit, HeaderUnit, FrameUnit, FaultUnit, bytes_of, channel_of, body_of, offset_of}
 use Rattle.amqp_perform.specs.declared.descriptor.Descriptor.{Descriptor}
@@ -23,9 +23,11 @@ use Rattle.amqp_session.specs.Faults as session
 use Rattle.amqp_session.specs.Frames.{Frame, Attaches, Flows, Transfers, Disposes, Detaches, IsInRange}
 use Rattle.amqp_session.specs.Histories as lived
 use Rattle.amqp_session.specs.Laws.{IsCallInRange}
-use Rattle.amqp_session.specs.Places.{IfLive, Life, tabulate, life_state, IsInUse}
+use Rattle.amqp_session.specs.Places.{IfLive, Life, life_state, IsInUse}
 use Rattle.amqp_session.specs.Sessions.{SessionState, SessionEvent, SessionMay}
-use Rattle.amqp_session.proofs.Places.{got}
+use Rattle.amqp_session.proofs.Firsts.{neither}
+use Rattle.amqp_session.proofs.Places.{got, tabulate_long}
+use Rattle.amqp_session.proofs.Tables.{same_live, present, found}
 use Rattle.amqp_endpoint.specs.declared.fault.CallFault.{CallFault}
 use Rattle.amqp_endpoint.specs.declared.fault.CallFault.TheVariants as refused
 use Rattle.amqp_endpoint.specs.declared.phase.Phase.{Phase}
@@ -33,8 +35,8 @@ use Rattle.amqp_endpoint.specs.declared.phase.Phase.TheVariants as phase
 use Rattle.amqp_endpoint.specs.Configs.{Configured}
 use Rattle.amqp_endpoint.specs.Connections.{ConnectionState, ConnectionEvent, ConnectionMay, channels, slot_at, lesser, channel_limit, is_unopened, is_open, is_closing, is_dead}
 use Rattle.amqp_endpoint.specs.Fields.{whole_in, Read, Opens, Begins, Ends, Closes, ForSession, Other, begin_in, attach_in, transfer_in, read_in}
-use Rattle.amqp_endpoint.specs.Lines.{Line, attach_too_high, by_fault, session_line, on_live, channel_line, opened_line, unopened_line, read_line, unread_line, body_line, frame_line, is_read_close}
-use Rattle.amqp_endpoint.specs.Lines.{closing_line, line_of, begun_terms, event_on}
+use Rattle.amqp_endpoint.specs.Lines.{Line, attach_too_high, by_fault, session_line, channel_line, opened_line, unopened_line, read_line, unread_line, body_line, frame_line, is_read_close}
+use Rattle.amqp_endpoint.specs.Lines.{closing_line, line_of, event_on}
 use Rattle.amqp_endpoint.specs.Lines as line
 use Rattle.amqp_endpoint.specs.Calls.{dead_fault, at_session, of_option, writes, full_fault, call_fault, slot_event, call_event}
 use Rattle.amqp_endpoint.specs.Histories.{phase_of, part, state_of, IsSoundPart, Sound}
@@ -106,15 +108,6 @@ record Stands (s : ConnectionState) : Type 0 where
   calls : (channel : ℕ) (t : SessionState) (c : asks.Call) → slice_get s.sessions channel ≡ Some (Live t) → IsCallInRange c → asks.call_fault t c ≡ None → SessionMay t (asks.call_event t c)
   none : is_open s.phase ≡ false → (channel : ℕ) → slot_at s channel ≡ Free
 
-present : {T : Type 0} (slots : List (Slot T)) (i : ℕ) → i < length slots → slice_get slots i ≡ Some (unwrap_or (slice_get slots i) Free)
-present [] i l = absurd (omega (arith, l))
-present (s ∷ slots) zero l = refl
-present (s ∷ slots) (suc i) l = present slots i (omega (arith, l))
-
-found : {T : Type 0} (o : Option (Slot T)) (x : Slot T) → unwrap_or o Free ≡ x → IsInUse x → o ≡ Some x
-found {T} None x e used = absurd (subst (λ (s : Slot T). IsInUse s) (sym e) used)
-found {T} (Some s) x e used = ap (λ (t : Slot T). Some t) e
-
 here : (s : ConnectionState) (channel : ℕ) (x : Slot SessionState) → slot_at s channel ≡ x → IsInUse x → slice_get s.sessions channel ≡ Some x
 here s channel x e used = found (slice_get s.sessions channel) x e used
 
@@ -135,9 +128,8 @@ abbrev May : ConnectionState → Line → Type 0
 May s l = ConnectionMay s (event_on s l)
 
 -- a line is one of two, by a test
-one_of : (P : Line → Type 0) (b : Bool) (l m : Line) → (b ≡ true → P l) → (b ≡ false → P m) → P (if b then l else m)
-one_of P true l m a b = a refl
-one_of P false l m a b = b refl
+pub one_of : (P : Line → Type 0) (b : Bool) (l m : Line) → (b ≡ true → P l) → (b ≡ false → P m) → P (if b then l else m)
+one_of P b l m = cond_both b l m P
 
 in_range : (s : SessionState) (f : Frame) → IsRead (ForSession f) → attach_too_high s f ≡ false → IsInRange s.terms.handle_max f
 in_range s (Attaches a) read low = (ltb-false s.terms.handle_max a.handle low, read)
@@ -233,13 +225,9 @@ closing_phase (phase.Open m n) a = absurd (grind (arith, a))
 closing_phase phase.Closing a = refl
 closing_phase phase.Dead a = absurd (grind (arith, a))
 
-either_true : (a b : Bool) → b ≡ true → (a || b) ≡ true
-either_true true b e = refl
-either_true false b e = e
-
 closing_may : (s : ConnectionState) (bytes : List ℕ) → is_closing s.phase ≡ true → is_dead s.phase ≡ false → May s (closing_line bytes)
 closing_may s bytes closing over =
-    one_of (May s) (is_read_close (body_at bytes)) line.CloseAwaited line.DroppedInClosing (λ so. (either_true (is_open s.phase) (is_closing s.phase) closing, tt, tt)) (λ so. (over, tt, tt))
+    one_of (May s) (is_read_close (body_at bytes)) line.CloseAwaited line.DroppedInClosing (λ so. (or_right (is_open s.phase) (is_closing s.phase) closing, tt, tt)) (λ so. (over, tt, tt))
 
 -- a byte of the body is a byte of the frame
 dropped_bytes : (n : ℕ) (bytes : List ℕ) → ((i : ℕ) → slice_index bytes i < 256) → (i : ℕ) → slice_index (drop n bytes) i < 256
@@ -260,10 +248,6 @@ unit_may found written s stands (FrameUnit bytes) over each =
     (λ d cells payload e. read_ranged d cells payload (λ fields table. written part d fields cells payload low (found part d cells payload low e) table)))
 
 -- Calls. ----------------------------------------------------------------------------------------------------------------
-
-neither : {A : Type 0} (a b : Option A) → session.or_else a b ≡ None → (a ≡ None) × (b ≡ None)
-neither None b e = (refl, e)
-neither (Some a) b e = absurd (grind (arith, e))
 
 not_refused : (o : Option session_fault.CallFault) → of_option o ≡ None → o ≡ None
 not_refused None e = refl
@@ -300,19 +284,6 @@ FramesAccepted = (terms : SessionTerms) (h : List SessionEvent) (f : Frame) → 
 abbrev CallsAccepted : Type 0
 CallsAccepted = (terms : SessionTerms) (h : List SessionEvent) (c : asks.Call) → lived.Sound terms h → IsCallInRange c → asks.call_fault (lived.state_of terms h) c ≡ None →
     SessionMay (lived.state_of terms h) (asks.call_event (lived.state_of terms h) c)
-
-tabulate_long : {A : Type 0} (k n : ℕ) (f : ℕ → A) → length (tabulate k n f) ≡ n
-tabulate_long k zero f = refl
-tabulate_long k (suc n) f = omega (arith, tabulate_long (suc k) n f)
-
-live_or : SessionState → Slot SessionState → SessionState
-live_or d Free = d
-live_or d (Live x) = x
-live_or d Waits = d
-
-same_live : (x y : SessionState) → Live x ≡ Live y → x ≡ y
-unfolding live_or
-same_live x y e = ap (λ (s : Slot SessionState). live_or x s) e
 
 -- what lives at a place has a sound history
 live_sound : (P : SessionState → Type 0) (config : Configured) → ((terms : SessionTerms) (h : List SessionEvent) → lived.Sound terms h → P (lived.state_of terms h)) →

@@ -16,6 +16,7 @@ use Rattle.amqp_endpoint.specs.Connections.{ConnectionState, ConnectionEvent, ch
 use Rattle.amqp_endpoint.specs.Held.{channel_used, session_count, channel_links, link_count, link_most, parts, part_bytes, HoldsWithin}
 use Rattle.amqp_endpoint.specs.Histories.{part, state_of, IsSoundPart, Sound}
 use Rattle.amqp_endpoint.specs.Steps.{EndpointState}
+use Rattle.amqp_session.proofs.Places.{tabulate_long, sums_same, sums_within}
 
 -- what the sessions owe
 abbrev pub SessionCounted : Type 0
@@ -26,11 +27,6 @@ SessionBound = (terms : SessionTerms) (h : List SessionEvent) → session.Sound 
     session_bytes (session.state_of terms h) ≤ 64 + laws.used_count (session.state_of terms h) * (1407 + terms.bounds.allowed * (terms.bounds.max_message_size + 96))
 
 -- Sums over a table. ----------------------------------------------------------------------------------------------------
-
-sums_same : {S T : Type 0} (p : S → ℕ) (q : T → ℕ) (f : ℕ → S) (g : ℕ → T) → ((k : ℕ) → p (f k) ≡ q (g k)) → (k n : ℕ) → sum_by p (tabulate k n f) ≡ sum_by q (tabulate k n g)
-sums_same p q f g same k zero = refl
-sums_same p q f g same k (suc n) =
-    omega (arith, sum_by-cons p (f k) (tabulate (suc k) n f), sum_by-cons q (g k) (tabulate (suc k) n g), same k, sums_same p q f g same (suc k) n)
 
 -- a sum is at most 64 times another and so many times a third, where each place is
 sum_within : (most : ℕ) (f : ℕ → Slot SessionState) (k n : ℕ) → ((j : ℕ) → j < k + n → channel_bytes (f j) ≤ 64 * channel_used (f j) + channel_links (f j) * most) →
@@ -85,21 +81,6 @@ sessions_few : (f : ℕ → Slot SessionState) (k n : ℕ) → sum_by channel_us
 sessions_few f k zero = omega arith
 sessions_few f k (suc n) = omega (arith, one_session (f k), sessions_few f (suc k) n, sum_by-cons channel_used (f k) (tabulate (suc k) n f))
 
--- where each place has at most so many links if it has a session, and else none
-links_few : (most : ℕ) (f : ℕ → Slot SessionState) (k n : ℕ) → ((j : ℕ) → j < k + n → channel_links (f j) ≤ channel_used (f j) * most) →
-    sum_by channel_links (tabulate k n f) ≤ sum_by channel_used (tabulate k n f) * most
-links_few most f k zero each = omega arith
-links_few most f k (suc n) each =
-    let rest = tabulate (suc k) n f in
-    let here = each k (omega arith) in
-    let later = links_few most f (suc k) n (λ j l. each j (omega (arith, l))) in
-    let both : sum_by channel_used (f k ∷ rest) * most ≡ (channel_used (f k) + sum_by channel_used rest) * most = ap (λ (n : ℕ). n * most) (sum_by-cons channel_used (f k) rest) in
-    omega (arith, here, later, sum_by-cons channel_links (f k) rest, both, add-mul (channel_used (f k)) (sum_by channel_used rest) most)
-
-table_long : {A : Type 0} (k n : ℕ) (f : ℕ → A) → length (tabulate k n f) ≡ n
-table_long k zero f = refl
-table_long k (suc n) f = omega (arith, table_long (suc k) n f)
-
 -- a session has at most a link for each handle
 one_links : (config : Configured) (l : Slot (Life SessionTerms SessionEvent)) → IfLive (λ life. IsSoundPart config life.0 life.1) l →
     channel_links (life_state session.state_of l) ≤ channel_used (life_state session.state_of l) * suc config.handle_max
@@ -107,7 +88,7 @@ one_links config Free sound = omega arith
 one_links config (Live l) sound =
     let s = session.state_of l.0 l.1 in
     let few = count_by-le-length (λ x. not (is_free x)) s.links in
-    let long = table_long 0 (suc l.0.handle_max) (λ k. life_state session.live_state (session.part k l.1)) in
+    let long = tabulate_long 0 (suc l.0.handle_max) (λ k. life_state session.live_state (session.part k l.1)) in
     omega (arith, few, long, sound.begun.handles)
 one_links config Waits sound = omega arith
 
@@ -133,5 +114,5 @@ within count bound config h s e sound buffer output =
           (subst (λ (c : ConnectionState). connection_bytes c ≤ 64 * session_count c + link_count c * link_most config) (sym e) (bound config h sound));
       sessions = subst (λ (c : ConnectionState). session_count c ≤ channels config) (sym e) (sessions_few slots 0 (channels config));
       links = subst (λ (c : ConnectionState). link_count c ≤ session_count c * suc config.handle_max) (sym e)
-          (links_few (suc config.handle_max) slots 0 (channels config) (λ k l. one_links config (part k h) (sound.sessions k (omega (arith, l)))));
+          (sums_within channel_links channel_used (suc config.handle_max) slots 0 (channels config) (λ k l. one_links config (part k h) (sound.sessions k (omega (arith, l)))));
     }

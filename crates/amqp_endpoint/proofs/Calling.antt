@@ -2,7 +2,6 @@
 use Rattle.std.proofs.Common.{arith, ◌≡◌, ℕ, ◌<◌, Bool, List, length, sym, ap, ◌∙◌, Some, None, Result, Ok, Err, get_or}
 use Rattle.std.specs.Prelude.{slice_get, slice_set}
 use Rattle.std.proofs.lemmas.List.{set-get_or}
-use Rattle.std.proofs.lemmas.Option.{slice_get-get_or}
 use Rattle.amqp_perform.specs.Said.{Said}
 use Rattle.amqp_session.specs.declared.slot.Slot.{Slot}
 use Rattle.amqp_session.specs.declared.slot.Slot.TheVariants.{Free, Live, Waits}
@@ -17,6 +16,7 @@ use Rattle.amqp_endpoint.specs.Connections as event
 use Rattle.amqp_endpoint.specs.Connections.{ConnectionState, connection_after, slot_at}
 use Rattle.amqp_endpoint.specs.Keeping.{connection_of}
 use Rattle.amqp_endpoint.specs.Replies.{on_channel}
+use Rattle.amqp_session.proofs.Tables.{there}
 use Rattle.amqp_endpoint.proofs.Tables.{Table, after_is, slot_is, goes_on_at}
 
 module _ (config : Configured) (p : Phase) (failed closed : Bool) (slots : Table) (s0 : ConnectionState) (view : connection_of config p failed closed slots ≡ s0) where
@@ -25,7 +25,7 @@ module _ (config : Configured) (p : Phase) (failed closed : Bool) (slots : Table
   asked {X} said i x new c r at low done = by_result r done
     where
       here : slice_get slots i ≡ Some x
-      here = slice_get-get_or slots i x low ∙ ap (λ (y : Slot SessionState). Some y) (sym at)
+      here = there slots i x at low
 
       stands : slot_at s0 i ≡ x
       stands = slot_is config p failed closed slots s0 view i x at low

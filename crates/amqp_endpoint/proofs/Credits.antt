@@ -1,26 +1,26 @@
 -- Credit rises by an accepted grant alone, over the history of an endpoint.
 use Rattle.std.proofs.Common.{arith, ◌≡◌, ℕ, zero, suc, ◌+◌, ◌<◌, ◌≤◌, inl, inr, Bool, true, false, List, [], ◌∷◌, refl, ap, ◌∙◌, subst, Option, Some, None}
-use Rattle.std.specs.Prelude.{if◌then◌else◌, nat_eq, is_none, unwrap_or, slice_get}
+use Rattle.std.specs.Prelude.{if◌then◌else◌, nat_eq, unwrap_or, slice_get}
 use Rattle.std.proofs.lemmas.Bool.{cases_lt, eq-eqb}
-use Rattle.amqp_link.specs.Links.{Sent, Delivery, first_ready, is_beyond, Granted}
+use Rattle.amqp_link.specs.Links.{Delivery, first_ready, Granted}
 use Rattle.amqp_session.specs.declared.slot.Slot.{Slot}
 use Rattle.amqp_session.specs.declared.slot.Slot.TheVariants.{Free, Live, Waits}
 use Rattle.amqp_session.specs.declared.terms.SessionTerms.{SessionTerms}
 use Rattle.amqp_session.specs.Calls as asks
 use Rattle.amqp_session.specs.Calls.{call_event, take_event, first_taken}
-use Rattle.amqp_session.specs.Faults as session
-use Rattle.amqp_session.specs.Frames.{Frame, Flowing, Attaches, Flows, Transfers, Disposes, Detaches}
 use Rattle.amqp_session.specs.Histories as lived
 use Rattle.amqp_session.specs.Laws.{credit_in, credit_at, granted_at}
 use Rattle.amqp_session.specs.Places.{Life, IfLive, slot_map, lived_on, life_after, life_state, tabulate}
 use Rattle.amqp_session.specs.Sessions as one
 use Rattle.amqp_session.specs.Sessions.{LiveLink, SessionState, SessionEvent}
-use Rattle.amqp_session.proofs.Places.{get_at}
+use Rattle.amqp_link.proofs.Groups.{same_either}
+use Rattle.amqp_session.proofs.FrameEvents.{IsOfFrames, of_frame}
+use Rattle.amqp_session.proofs.Places.{get_at, none_above}
 use Rattle.amqp_endpoint.specs.Calls as calls
 use Rattle.amqp_endpoint.specs.Configs.{Configured}
 use Rattle.amqp_endpoint.specs.Connections as event
 use Rattle.amqp_endpoint.specs.Connections.{ConnectionEvent, happens, channels, slot_at}
-use Rattle.amqp_endpoint.specs.Credits.{credit_on, granted_by, granted_to}
+use Rattle.amqp_endpoint.specs.Credits.{credit_on, granted_by, granted_to, granted_on}
 use Rattle.amqp_endpoint.specs.Histories.{part, state_of, IsSoundPart, Sound}
 use Rattle.amqp_endpoint.specs.Lines as line
 use Rattle.amqp_endpoint.specs.Lines.{Line, line_of, event_on}
@@ -39,63 +39,34 @@ SessionMost = (terms : SessionTerms) (h : List SessionEvent) (e : SessionEvent) 
 
 -- Events that grant nothing. --------------------------------------------------------------------------------------------
 
-either : (P : SessionEvent → Type 0) (b : Bool) (x y : SessionEvent) → P x → P y → P (if b then x else y)
-either P true x y a b = a
-either P false x y a b = b
-
-zero_either : (b : Bool) (n : ℕ) → n ≡ 0 → (if b then n else 0) ≡ 0
-zero_either true n e = e
-zero_either false n e = refl
-
 module _ (handle : ℕ) where
-  GrantsNone : SessionEvent → Type 0
-  GrantsNone e = granted_at handle e ≡ 0
-
-  transfer_none : (s : SessionState) (place : ℕ) (t : Sent) (x : Slot LiveLink) → GrantsNone (session.transfer_event s place t x)
-  unfolding GrantsNone
-  transfer_none s place t Free = refl
-  transfer_none s place t (Live l) = either GrantsNone (is_none (session.transfer_fault s l.link t)) (one.TransferCame place t) (one.TransferEnded place)
-      (zero_either (nat_eq place handle) 0 refl) refl
-  transfer_none s place t Waits = refl
-
-  flow_none : (place : ℕ) (f : Flowing) (x : Slot LiveLink) → GrantsNone (session.flow_event place f x)
-  unfolding GrantsNone
-  flow_none place f Free = refl
-  flow_none place f (Live l) =
-      either GrantsNone (is_beyond l.link.delivery_count l.link.credit f.delivery_count) (one.LinkFlowEnded place f.next_outgoing_id) (one.LinkFlowCame place f.next_outgoing_id f.delivery_count)
-      refl (zero_either (nat_eq place handle) 0 refl)
-  flow_none place f Waits = refl
-
-  named_none : (s : SessionState) (f : Flowing) (o : Option ℕ) → GrantsNone (session.named_event s f o)
-  unfolding GrantsNone
-  named_none s f None = refl
-  named_none s f (Some place) = flow_none place f (one.slot_at s place)
-
-  frame_none : (s : SessionState) (f : Frame) → GrantsNone (session.event_of s f)
-  unfolding GrantsNone
-  frame_none s (Attaches a) = either GrantsNone (is_none (session.refusal s.terms a)) (one.LinkAttached a.handle (session.attached s.terms a)) (one.LinkRefused a.handle) refl refl
-  frame_none s (Flows f) = named_none s f f.handle
-  frame_none s (Transfers place t) = transfer_none s place t (one.slot_at s place)
-  frame_none s (Disposes d) = either GrantsNone (session.is_settling d) (one.PeerSettled d.first (session.last_of d)) one.Ignored refl refl
-  frame_none s (Detaches place closed) = refl
+  -- no frame grants
+  frames_none : IsOfFrames (λ e. granted_at handle e) 0
+  frames_none = record {
+    flows = record { ignored = refl; of_session = λ n. refl; of_link = λ place n count. same_either (nat_eq place handle) 0; ended = λ place n. refl };
+    attached = λ place a. refl;
+    refused = λ place. refl;
+    came = λ place t. same_either (nat_eq place handle) 0;
+    ended = λ place. refl;
+    dropped = λ place. refl;
+    settled = λ first last. refl;
+    detached = λ place. refl;
+  }
 
   -- a call grants what it asks for at most
-  first_none : (place : ℕ) (o : Option Delivery) → GrantsNone (first_taken place o)
-  unfolding GrantsNone
+  first_none : (place : ℕ) (o : Option Delivery) → granted_at handle (first_taken place o) ≡ 0
   first_none place None = refl
-  first_none place (Some d) = zero_either (nat_eq place handle) 0 refl
+  first_none place (Some d) = same_either (nat_eq place handle) 0
 
-  take_none : (place : ℕ) (x : Slot LiveLink) → GrantsNone (take_event place x)
-  unfolding GrantsNone
+  take_none : (place : ℕ) (x : Slot LiveLink) → granted_at handle (take_event place x) ≡ 0
   take_none place Free = refl
   take_none place (Live l) = first_none place (first_ready l.link)
   take_none place Waits = refl
 
   call_most : (s : SessionState) (c : asks.Call) → granted_at handle (call_event s c) ≤ granted_by handle c
-  unfolding GrantsNone
   call_most s (asks.Grant place n) = omega arith
   call_most s (asks.Take place) = omega (arith, take_none place (one.slot_at s place))
-  call_most s (asks.Drain place) = omega (arith, zero_either (nat_eq place handle) 0 refl)
+  call_most s (asks.Drain place) = omega (arith, same_either {X = ℕ} (nat_eq place handle) 0)
   call_most s (asks.Widen n) = omega arith
   call_most s (asks.Settle id o) = omega arith
   call_most s (asks.Detach place) = omega arith
@@ -105,18 +76,8 @@ module _ (handle : ℕ) where
 abbrev Lived : Type 0
 Lived = Slot (Life SessionTerms SessionEvent)
 
--- what it grants at a handle of the session on a channel
-abbrev granted_on : ℕ → ℕ → ConnectionEvent → ℕ
-granted_on channel handle (event.InSession place e) = if nat_eq place channel then granted_at handle e else 0
-granted_on channel handle e = 0
-
 abbrev credit_of : ℕ → Lived → ℕ
 credit_of handle x = credit_in (link_in handle (life_state lived.state_of x))
-
-none_above : {A : Type 0} (k n : ℕ) (f : ℕ → A) (i : ℕ) → n ≤ i → slice_get (tabulate k n f) i ≡ None
-none_above k zero f i l = refl
-none_above k (suc n) f zero l = absurd (omega (arith, l))
-none_above k (suc n) f (suc i) l = none_above (suc k) n f i (omega (arith, l))
 
 nothing_at : (k n i : ℕ) → credit_in (unwrap_or (slice_get (tabulate k n (λ j. Free)) i) Free) ≡ 0
 nothing_at k zero i = refl
@@ -170,8 +131,8 @@ event_most law config h e channel handle =
 -- One entry of the history. ---------------------------------------------------------------------------------------------
 
 unit_none : (channel handle : ℕ) (s : event.ConnectionState) (l : Line) → granted_on channel handle (event_on s l) ≡ 0
-unfolding GrantsNone
-unit_none channel handle s (line.SessionFrame place live f) = zero_either (nat_eq place channel) (granted_at handle (session.event_of live f)) (frame_none handle live f)
+unit_none channel handle s (line.SessionFrame place live f) =
+    ap (λ (n : ℕ). if nat_eq place channel then n else 0) (of_frame (λ e. granted_at handle e) 0 (frames_none handle) live f) ∙ same_either (nat_eq place channel) 0
 unit_none channel handle s _ = refl
 
 either_most : (b : Bool) (m n : ℕ) → m ≤ n → (if b then m else 0) ≤ (if b then n else 0)

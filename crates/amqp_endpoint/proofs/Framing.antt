@@ -1,7 +1,6 @@
 -- A frame of a session, seen from its connection.
-use Rattle.std.proofs.Common.{arith, ◌≡◌, ℕ, zero, suc, ◌<◌, subst, Bool, [], ◌∷◌, length, refl, sym, ap, ◌∙◌, Option, Some, Result, Ok, Err, get_or}
+use Rattle.std.proofs.Common.{arith, ◌≡◌, ℕ, ◌<◌, subst, Bool, length, refl, sym, ap, ◌∙◌, Option, Some, Result, Ok, Err, get_or}
 use Rattle.std.specs.Prelude.{slice_get, slice_set}
-use Rattle.std.proofs.lemmas.Option.{slice_get-get_or}
 use Rattle.amqp_session.specs.declared.done.Done.{Done}
 use Rattle.amqp_session.specs.declared.fault.SessionFault.{SessionFault}
 use Rattle.amqp_session.specs.declared.news.News.{News}
@@ -16,22 +15,8 @@ use Rattle.amqp_endpoint.specs.Configs.{Configured}
 use Rattle.amqp_endpoint.specs.Connections as event
 use Rattle.amqp_endpoint.specs.Connections.{ConnectionState, slot_at}
 use Rattle.amqp_endpoint.specs.Keeping.{connection_of}
+use Rattle.amqp_session.proofs.Tables.{same_live, there, put_again}
 use Rattle.amqp_endpoint.proofs.Tables.{Table, after_is, slot_is, goes_on_at}
-
-put_again : (slots : Table) (i : ℕ) (s : Slot SessionState) → slice_get slots i ≡ Some s → slice_set slots i s ≡ slots
-put_again [] i s e = refl
-put_again (t ∷ slots) zero s e =
-    let same : t ≡ s = grind (arith, e) in ap (λ (u : Slot SessionState). u ∷ slots) (sym same)
-put_again (t ∷ slots) (suc i) s e = ap (λ (rest : Table). t ∷ rest) (put_again slots i s e)
-
-live_or : SessionState → Slot SessionState → SessionState
-live_or d Free = d
-live_or d (Live x) = x
-live_or d Waits = d
-
-same_live : (x y : SessionState) → Live x ≡ Live y → x ≡ y
-unfolding live_or
-same_live x y e = ap (λ (s : Slot SessionState). live_or x s) e
 
 module _ (config : Configured) (p : Phase) (failed closed : Bool) (slots : Table) (s0 : ConnectionState) (view : connection_of config p failed closed slots ≡ s0) where
   pub framed : (i : ℕ) (x new : Slot SessionState) (o : Option Frame) (r : Result Done SessionFault) → x ≡ get_or slots i x → i < length slots → PlaceDone x new o r →
@@ -39,9 +24,6 @@ module _ (config : Configured) (p : Phase) (failed closed : Bool) (slots : Table
   framed i x new o r at low done t f live is =
       by_old x new at (subst (λ (o : Option Frame). PlaceDone x new o r) is done) (sym (slot_is config p failed closed slots s0 view i x at low) ∙ live)
     where
-      there : (x : Slot SessionState) → x ≡ get_or slots i x → slice_get slots i ≡ Some x
-      there x e = slice_get-get_or slots i x low ∙ ap (λ (y : Slot SessionState). Some y) (sym e)
-
       by_result : (r : Result Done SessionFault) (new : SessionState) → slice_get slots i ≡ Some (Live t) → PlaceDone (Live t) (Live new) (Some f) r →
           FrameDone s0 (connection_of config p failed closed (slice_set slots i (Live new))) i t f r
       by_result (Ok d) new here done = record {
@@ -73,7 +55,7 @@ module _ (config : Configured) (p : Phase) (failed closed : Bool) (slots : Table
 
       by_old : (x new : Slot SessionState) → x ≡ get_or slots i x → PlaceDone x new (Some f) r → x ≡ Live t → FrameDone s0 (connection_of config p failed closed (slice_set slots i new)) i t f r
       by_old Free new at done e = absurd (grind (arith, e))
-      by_old (Live y) new at done e = by_new new y (same_live y t e) (there (Live y) at) done
+      by_old (Live y) new at done e = by_new new y (same_live y t e) (there slots i (Live y) at low) done
       by_old Waits new at done e = absurd (grind (arith, e))
 
   -- the same of a transfer
@@ -81,9 +63,6 @@ module _ (config : Configured) (p : Phase) (failed closed : Bool) (slots : Table
       (t : SessionState) → slot_at s0 i ≡ Live t → TransferDone s0 (connection_of config p failed closed (slice_set slots i new)) i t f r
   transferred i x new f r at low done t live = by_old x new at done (sym (slot_is config p failed closed slots s0 view i x at low) ∙ live)
     where
-      there : (x : Slot SessionState) → x ≡ get_or slots i x → slice_get slots i ≡ Some x
-      there x e = slice_get-get_or slots i x low ∙ ap (λ (y : Slot SessionState). Some y) (sym e)
-
       by_result : (r : Result News SessionFault) (new : SessionState) → slice_get slots i ≡ Some (Live t) → SessionTransferred t new f r →
           TransferDone s0 (connection_of config p failed closed (slice_set slots i (Live new))) i t f r
       by_result (Ok told) new here done = record {
@@ -107,5 +86,5 @@ module _ (config : Configured) (p : Phase) (failed closed : Bool) (slots : Table
 
       by_old : (x new : Slot SessionState) → x ≡ get_or slots i x → PlaceTransferred x new f r → x ≡ Live t → TransferDone s0 (connection_of config p failed closed (slice_set slots i new)) i t f r
       by_old Free new at done e = absurd (grind (arith, e))
-      by_old (Live y) new at done e = by_new new y (same_live y t e) (there (Live y) at) done
+      by_old (Live y) new at done e = by_new new y (same_live y t e) (there slots i (Live y) at low) done
       by_old Waits new at done e = absurd (grind (arith, e))

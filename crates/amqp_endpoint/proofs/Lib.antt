@@ -25,6 +25,7 @@ pub mod CutFronts
 pub mod Traces
 pub mod Rooms
 pub mod Whole
+pub mod LinkLives
 pub mod Takings
 pub mod Windows
 pub mod Messages

@@ -1,12 +1,12 @@
 -- The messages that are told are those that the history hands up, and of each link they are the first of its whole deliveries.
-use Rattle.std.proofs.Common.{arith, ◌≡◌, ℕ, ◌+◌, ◌<◌, ◌≤◌, Bool, true, false, not, List, [], ◌∷◌, ◌++◌, length, map, take, drop, refl, sym, ap, ◌∙◌, subst, Option, Some, None}
-use Rattle.std.specs.Prelude.{if◌then◌else◌, is_none, filter, option_map, unwrap_or, slice_get}
+use Rattle.std.proofs.Common.{arith, ◌≡◌, ℕ, ◌+◌, ◌<◌, ◌≤◌, not, List, [], ◌∷◌, ◌++◌, length, map, take, drop, refl, sym, ap, ◌∙◌, subst, Option, Some, None}
+use Rattle.std.specs.Prelude.{filter, option_map, unwrap_or, slice_get}
 use Rattle.std.specs.List.{flat_map}
 use Rattle.std.proofs.lemmas.List.{append-nil, map-append, length-map}
 use Rattle.std.proofs.lemmas.Grind.{flat_map-append}
 use Rattle.amqp_link.specs.declared.terms.Terms.{Terms}
 use Rattle.amqp_link.specs.Bounds.{Bounds}
-use Rattle.amqp_link.specs.Links.{LinkEvent, Sent, Delivery, first_ready, is_beyond, open_count}
+use Rattle.amqp_link.specs.Links.{LinkEvent, Delivery, first_ready, open_count}
 use Rattle.amqp_link.specs.Histories as link
 use Rattle.amqp_link.specs.Histories.{followed_by, handed_up, wholes, content, shown}
 use Rattle.amqp_session.specs.declared.slot.Slot.{Slot}
@@ -14,13 +14,13 @@ use Rattle.amqp_session.specs.declared.slot.Slot.TheVariants.{Free, Live, Waits}
 use Rattle.amqp_session.specs.declared.terms.SessionTerms.{SessionTerms}
 use Rattle.amqp_session.specs.Calls as asks
 use Rattle.amqp_session.specs.Calls.{call_event, take_event, first_taken}
-use Rattle.amqp_session.specs.Faults as session
-use Rattle.amqp_session.specs.Frames.{Frame, Flowing, Attaches, Flows, Transfers, Disposes, Detaches}
 use Rattle.amqp_session.specs.Histories as lived
 use Rattle.amqp_session.specs.Places.{Life, IfLive, life_state, states}
 use Rattle.amqp_session.specs.Sessions as of_session
 use Rattle.amqp_session.specs.Sessions.{Attached, LiveLink, SessionState, SessionEvent}
 use Rattle.amqp_session.proofs.Places.{got}
+use Rattle.amqp_session.proofs.FrameEvents.{IsOfFrames, of_frame}
+use Rattle.amqp_session.proofs.Tables.{same_live}
 use Rattle.amqp_endpoint.specs.declared.event.Event.{Event}
 use Rattle.amqp_endpoint.specs.Configs.{Configured}
 use Rattle.amqp_endpoint.specs.Connections as event
@@ -39,43 +39,20 @@ use Rattle.amqp_endpoint.proofs.Takings.{taken_by_part}
 
 -- Frames hand nothing up. -----------------------------------------------------------------------------------------------
 
-either : (P : SessionEvent → Type 0) (b : Bool) (x y : SessionEvent) → P x → P y → P (if b then x else y)
-either P true x y a b = a
-either P false x y a b = b
-
-IsQuiet : SessionEvent → Type 0
-IsQuiet e = handed_up_in e ≡ None
-
-transfer_quiet : (s : SessionState) (handle : ℕ) (t : Sent) (x : Slot LiveLink) → IsQuiet (session.transfer_event s handle t x)
-unfolding IsQuiet
-transfer_quiet s handle t Free = refl
-transfer_quiet s handle t (Live l) = either IsQuiet (is_none (session.transfer_fault s l.link t)) (of_session.TransferCame handle t) (of_session.TransferEnded handle) refl refl
-transfer_quiet s handle t Waits = refl
-
-flow_quiet : (handle : ℕ) (f : Flowing) (x : Slot LiveLink) → IsQuiet (session.flow_event handle f x)
-unfolding IsQuiet
-flow_quiet handle f Free = refl
-flow_quiet handle f (Live l) =
-    either IsQuiet (is_beyond l.link.delivery_count l.link.credit f.delivery_count) (of_session.LinkFlowEnded handle f.next_outgoing_id)
-    (of_session.LinkFlowCame handle f.next_outgoing_id f.delivery_count) refl refl
-flow_quiet handle f Waits = refl
-
-named_quiet : (s : SessionState) (f : Flowing) (o : Option ℕ) → IsQuiet (session.named_event s f o)
-unfolding IsQuiet
-named_quiet s f None = refl
-named_quiet s f (Some handle) = flow_quiet handle f (of_session.slot_at s handle)
-
-frame_quiet : (s : SessionState) (f : Frame) → IsQuiet (session.event_of s f)
-unfolding IsQuiet
-frame_quiet s (Attaches a) = either IsQuiet (is_none (session.refusal s.terms a)) (of_session.LinkAttached a.handle (session.attached s.terms a)) (of_session.LinkRefused a.handle) refl refl
-frame_quiet s (Flows f) = named_quiet s f f.handle
-frame_quiet s (Transfers handle t) = transfer_quiet s handle t (of_session.slot_at s handle)
-frame_quiet s (Disposes d) = either IsQuiet (session.is_settling d) (of_session.PeerSettled d.first (session.last_of d)) of_session.Ignored refl refl
-frame_quiet s (Detaches handle closed) = refl
+frames_quiet : IsOfFrames handed_up_in None
+frames_quiet = record {
+  flows = record { ignored = refl; of_session = λ n. refl; of_link = λ handle n count. refl; ended = λ handle n. refl };
+  attached = λ handle a. refl;
+  refused = λ handle. refl;
+  came = λ handle t. refl;
+  ended = λ handle. refl;
+  dropped = λ handle. refl;
+  settled = λ first last. refl;
+  detached = λ handle. refl;
+}
 
 unit_quiet : (s : ConnectionState) (h : List ConnectionEvent) (l : Line) → taking_by h (event_on s l) ≡ None
-unfolding IsQuiet
-unit_quiet s h (line.SessionFrame channel live f) = ap (λ (o : Option (ℕ × Delivery)). option_map (taking_on channel h) o) (frame_quiet live f)
+unit_quiet s h (line.SessionFrame channel live f) = ap (λ (o : Option (ℕ × Delivery)). option_map (taking_on channel h) o) (of_frame handed_up_in None frames_quiet live f)
 unit_quiet s h _ = refl
 
 -- What is told. ---------------------------------------------------------------------------------------------------------
@@ -149,15 +126,9 @@ pub record HasLife {B E T : Type 0} (state : B → List E → T) (n : ℕ) (live
   pub is : t ≡ state begin past
 
 module _ {B E T : Type 0} (state : B → List E → T) (n : ℕ) (lives_at : ℕ → Slot (Life B E)) (k : ℕ) where
-  live_or : T → Slot T → T
-  live_or t Free = t
-  live_or t (Live x) = x
-  live_or t Waits = t
-
   life_here : (x : Slot (Life B E)) (t : T) → k < n → lives_at k ≡ x → life_state state x ≡ Live t → HasLife state n lives_at k t
-  unfolding live_or
   life_here Free t l here e = absurd (grind (arith, e))
-  life_here (Live y) t l here e = record { begin = y.0; past = y.1; below = l; stands = here; is = ap (live_or t) (sym e) }
+  life_here (Live y) t l here e = record { begin = y.0; past = y.1; below = l; stands = here; is = sym (same_live (state y.0 y.1) t e) }
   life_here Waits t l here e = absurd (grind (arith, e))
 
   standing : (o : Option (Slot T)) (t : T) → slice_get (states state n lives_at) k ≡ o → unwrap_or o Free ≡ Live t → HasLife state n lives_at k t

@@ -29,7 +29,7 @@ use Rattle.amqp_session.specs.declared.slot.Slot.TheVariants.{Free, Live, Waits}
 use Rattle.amqp_session.specs.declared.terms.SessionTerms.{SessionTerms}
 use Rattle.amqp_session.specs.Calls.{Call, Widen, Grant, Drain, Take, Settle, Detach, call_event, call_answer, settles_at_once, standing_in}
 use Rattle.amqp_session.specs.Faults as session
-use Rattle.amqp_session.specs.Faults.{or_else, where_so, refusal, attach_fault, attach_answer, link_flow, slot_flow, failure_answer, flow_answer, echo_answer, detach_answer}
+use Rattle.amqp_session.specs.Faults.{where_so, refusal, attach_fault, attach_answer, slot_flow, failure_answer, flow_answer, echo_answer, detach_answer}
 use Rattle.amqp_session.specs.Frames.{Attaching, Flowing, Frame, Attaches, Flows, Transfers, Disposes, Detaches, is_coordinator, attach_said, count_stated, refusal_said, detach_said, failure_said}
 use Rattle.amqp_session.specs.Frames.{flow_said, link_flow_said, disposition_said}
 use Rattle.amqp_perform.specs.declared.modes.Role.{Role}
@@ -43,9 +43,11 @@ use Rattle.amqp_endpoint.specs.Fields.{Read, Opens, Begins, Ends, Closes, ForSes
 use Rattle.amqp_endpoint.specs.Lengths.{cell_most, said_most}
 use Rattle.amqp_endpoint.proofs.Lengths.{number_long}
 use Rattle.amqp_endpoint.specs.Lines as line
-use Rattle.amqp_endpoint.specs.Lines.{Line, attach_too_high, by_fault, session_line, channel_line, opened_line, unopened_line, read_line, unread_line, body_line, frame_line, is_read_close}
+use Rattle.amqp_endpoint.specs.Lines.{Line, attach_too_high, by_fault, session_line, channel_line, opened_line, unopened_line, unread_line, body_line, frame_line, is_read_close}
 use Rattle.amqp_endpoint.specs.Lines.{closing_line, line_of, begun_terms}
 use Rattle.amqp_endpoint.specs.Replies.{joined, open_said, begin_said, end_said, close_said, close_spoken, aloud, on_channel, reply_on}
+use Rattle.amqp_session.proofs.Firsts.{neither, not_so}
+use Rattle.amqp_endpoint.proofs.Accepts.{one_of}
 
 abbrev pub SaidLong : Type 0
 SaidLong = (channel : ℕ) (s : Said) → length (said_frame channel s []) ≤ said_most s
@@ -124,14 +126,6 @@ channel_long law channel (x ∷ xs) =
 one_most : (x : Said) (n : ℕ) → n ≤ 1600 → said_most x ≤ n → all_most (x ∷ []) ≤ 2560
 one_most x n most l = omega (arith, most, l, sum_by-cons said_most x [])
 
-neither : {A : Type 0} (a b : Option A) → or_else a b ≡ None → (a ≡ None) × (b ≡ None)
-neither None b e = (refl, e)
-neither (Some a) b e = absurd (grind (arith, e))
-
-not_so : {A : Type 0} (b : Bool) (a : A) → where_so b a ≡ None → b ≡ false
-not_so true a e = absurd (grind (arith, e))
-not_so false a e = refl
-
 short_name : (t : SessionState) (a : Attaching) → attach_fault t a ≡ None → length a.name ≤ 255
 short_name t a e =
     ltb-false 255 (length a.name) (not_so (nat_lt 255 (length a.name)) fault.ResourceLimit (neither (where_so (nat_lt 255 (length a.name)) fault.ResourceLimit) _ e).0)
@@ -199,10 +193,6 @@ call_long t (Detach handle) = one_most (detach_said handle true []) 400 (omega a
 
 abbrev Fits : ConnectionState → Line → Type 0
 Fits s l = length (reply_on s l) ≤ 2560
-
-one_of : (P : Line → Type 0) (b : Bool) (l m : Line) → (b ≡ true → P l) → (b ≡ false → P m) → P (if b then l else m)
-one_of P true l m a b = a refl
-one_of P false l m a b = b refl
 
 module _ (law : SaidLong) (s : ConnectionState) (short : length s.config.container_id ≤ 255) where
   aloud_long : (x : Said) → said_most x ≤ 400 → length (joined (aloud x ∷ [])) ≤ 2560

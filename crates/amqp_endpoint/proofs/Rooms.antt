@@ -1,7 +1,7 @@
 -- The buffer and the output of an endpoint stay within their bounds, one call after another.
-use Rattle.std.proofs.Common.{arith, ◌≡◌, ℕ, zero, suc, ◌+◌, ◌≤◌, inl, inr, Bool, true, false, List, [], ◌∷◌, ◌++◌, length, take, drop, refl, sym, ap, ◌∙◌, subst, Option, Some, None}
+use Rattle.std.proofs.Common.{arith, ◌≡◌, ℕ, zero, suc, ◌+◌, ◌≤◌, inl, inr, Bool, true, false, List, [], ◌∷◌, ◌++◌, length, take, drop, refl, sym, ap, ◌∙◌, subst, None}
 use Rattle.std.specs.Prelude.{if◌then◌else◌, ◌||◌, nat_lt, not}
-use Rattle.std.proofs.lemmas.Bool.{cases_lt, ltb-false}
+use Rattle.std.proofs.lemmas.Bool.{cases_lt, ltb-false, not-true, not-false}
 use Rattle.std.proofs.lemmas.List.{length-append, length-drop, length-take-le}
 use Rattle.amqp_frame.specs.Splits.{SplitterState, Waits, IsUnchanged, IsOver}
 use Rattle.amqp_frame.specs.Units.{StreamUnit, HeaderUnit, FrameUnit, FaultUnit, IsUnit, IsRest}
@@ -21,7 +21,7 @@ use Rattle.amqp_endpoint.specs.Calls.{call_fault, call_event, call_spoken, slot_
 use Rattle.amqp_endpoint.specs.Calls.{close_call_spoken, heartbeat, has_room}
 use Rattle.amqp_endpoint.specs.Configs.{Configured}
 use Rattle.amqp_endpoint.specs.Connections as event
-use Rattle.amqp_endpoint.specs.Connections.{ConnectionState, connection_begins, is_dead, is_closing, is_unopened, slot_at}
+use Rattle.amqp_endpoint.specs.Connections.{ConnectionState, is_dead, is_closing, is_unopened, slot_at}
 use Rattle.amqp_endpoint.specs.Lines.{line_of}
 use Rattle.amqp_endpoint.specs.Replies.{joined, reply_on, close_said}
 use Rattle.amqp_endpoint.specs.Runs.{Call, Feed, InSession, Close, Heartbeat, Output, Held, Finish, Answer, Fed, Accepted, Dropped, HandedUp, Refused, MovedOut, Holds, Ended}
@@ -30,6 +30,7 @@ use Rattle.amqp_endpoint.specs.Steps.{EndpointState, IsTaken, IsKept, IsActed, A
 use Rattle.amqp_endpoint.proofs.Endpoints.{rest_few, header_few, free_at, due_no_header}
 use Rattle.amqp_endpoint.proofs.Replies.{SaidLong}
 use Rattle.amqp_frame.proofs.Fronts.{waits_or_not}
+use Rattle.amqp_session.proofs.Firsts.{neither, not_so}
 
 -- what is owed of answers
 abbrev pub UnitsFit : Type 0
@@ -85,27 +86,11 @@ moved config old new room bytes x m =
 
 -- Refusals. -------------------------------------------------------------------------------------------------------------
 
-neither : {A : Type 0} (a b : Option A) → or_else a b ≡ None → (a ≡ None) × (b ≡ None)
-neither None b e = (refl, e)
-neither (Some x) b e = absurd (grind (arith, e))
-
-not_so : {A : Type 0} (b : Bool) (x : A) → where_so b x ≡ None → b ≡ false
-not_so true x e = absurd (grind (arith, e))
-not_so false x e = refl
-
-is_true : (b : Bool) → not b ≡ false → b ≡ true
-is_true true e = refl
-is_true false e = absurd (grind (arith, e))
-
-is_false : (b : Bool) → not b ≡ true → b ≡ false
-is_false true e = absurd (grind (arith, e))
-is_false false e = refl
-
 room_of : (unsent : List ℕ) → has_room unsent ≡ true → length unsent + 2560 ≤ 8192
-room_of unsent e = ltb-false 8192 (length unsent + 2560) (is_false (nat_lt 8192 (length unsent + 2560)) e)
+room_of unsent e = ltb-false 8192 (length unsent + 2560) (not-true (nat_lt 8192 (length unsent + 2560)) e)
 
 not_full : (unsent : List ℕ) → full_fault unsent ≡ None → length unsent + 2560 ≤ 8192
-not_full unsent e = room_of unsent (is_true (has_room unsent) (not_so (not (has_room unsent)) refused.Full e))
+not_full unsent e = room_of unsent (not-false (has_room unsent) (not_so (not (has_room unsent)) refused.Full e))
 
 not_dead : (p : Phase) → where_so (is_dead p || is_closing p) refused.Dead ≡ None → is_dead p ≡ false
 not_dead phase.Unopened e = refl

@@ -28,10 +28,11 @@ use Rattle.amqp_endpoint.specs.Acting.{IsTold, IsDone, IsWithout, IsLive, IsForS
 use Rattle.amqp_endpoint.specs.Connections as event
 use Rattle.amqp_endpoint.specs.Connections.{ConnectionState, connection_after, slot_at, channel_ready}
 use Rattle.amqp_endpoint.specs.Lines as line
-use Rattle.amqp_endpoint.specs.Lines.{Line, attach_too_high, by_fault, session_line, news_told, may_grow_on}
+use Rattle.amqp_endpoint.specs.Lines.{Line, attach_too_high, by_fault, session_line, news_told}
 use Rattle.amqp_endpoint.specs.Replies.{joined, on_channel, end_said}
 use Rattle.amqp_endpoint.proofs.Replies.{SaidLong, channel_long, answer_long}
 use Rattle.amqp_endpoint.proofs.Tables.{Table, goes_on_at}
+use Rattle.std.proofs.lemmas.Option.{same_Some}
 
 -- What is at hand. ------------------------------------------------------------------------------------------------------
 
@@ -53,18 +54,15 @@ pub unframed_as : (s new : ConnectionState) (channel : ℕ) (t : SessionState) (
     IsUnframed s new t f e
 unframed_as s new channel t f r e is done = subst (λ (r : Result Done SessionFault). FrameDone s new channel t f r) is done
 
-same_frame : (f g : Frame) → Some f ≡ Some g → f ≡ g
-same_frame f g e = cc
-
 -- an attach is too high where its frame is
 beyond_is : (p : Performative) (payload : List ℕ) (t : SessionState) (f : Frame) → frame_of p payload ≡ Some f → is_beyond (Live t) p ≡ attach_too_high t f
 beyond_is (performative.Open p) payload t f e = absurd (grind (arith, e))
 beyond_is (performative.Begin p) payload t f e = absurd (grind (arith, e))
-beyond_is (performative.Attach p) payload t f e = ap (λ (g : Frame). attach_too_high t g) (same_frame (Attaches (attaching p)) f e)
-beyond_is (performative.Flow p) payload t f e = ap (λ (g : Frame). attach_too_high t g) (same_frame (Flows (flowing p)) f e)
-beyond_is (performative.Transfer p) payload t f e = ap (λ (g : Frame). attach_too_high t g) (same_frame (Transfers p.handle (sent_of p payload)) f e)
-beyond_is (performative.Disposition p) payload t f e = ap (λ (g : Frame). attach_too_high t g) (same_frame (Disposes (disposing p)) f e)
-beyond_is (performative.Detach p) payload t f e = ap (λ (g : Frame). attach_too_high t g) (same_frame (Detaches p.handle p.closed) f e)
+beyond_is (performative.Attach p) payload t f e = ap (λ (g : Frame). attach_too_high t g) (same_Some (Attaches (attaching p)) f e)
+beyond_is (performative.Flow p) payload t f e = ap (λ (g : Frame). attach_too_high t g) (same_Some (Flows (flowing p)) f e)
+beyond_is (performative.Transfer p) payload t f e = ap (λ (g : Frame). attach_too_high t g) (same_Some (Transfers p.handle (sent_of p payload)) f e)
+beyond_is (performative.Disposition p) payload t f e = ap (λ (g : Frame). attach_too_high t g) (same_Some (Disposes (disposing p)) f e)
+beyond_is (performative.Detach p) payload t f e = ap (λ (g : Frame). attach_too_high t g) (same_Some (Detaches p.handle p.closed) f e)
 beyond_is (performative.End p) payload t f e = absurd (grind (arith, e))
 beyond_is (performative.Close p) payload t f e = absurd (grind (arith, e))
 
@@ -78,7 +76,7 @@ transfer_low Waits p = refl
 replied_is : (p : Performative) (payload : List ℕ) (t : SessionState) (f : Frame) (x : Answer) → frame_of p payload ≡ Some f → replied (Live t) p x ≡ answer_said t.terms f x
 replied_is (performative.Open p) payload t f x e = absurd (grind (arith, e))
 replied_is (performative.Begin p) payload t f x e = absurd (grind (arith, e))
-replied_is (performative.Attach p) payload t f x e = by_answer x ∙ ap (λ (g : Frame). answer_said t.terms g x) (same_frame (Attaches (attaching p)) f e)
+replied_is (performative.Attach p) payload t f x e = by_answer x ∙ ap (λ (g : Frame). answer_said t.terms g x) (same_Some (Attaches (attaching p)) f e)
   where
     by_answer : (x : Answer) → replied (Live t) (performative.Attach p) x ≡ answer_said t.terms (Attaches (attaching p)) x
     by_answer answer.Nothing = refl
@@ -86,10 +84,10 @@ replied_is (performative.Attach p) payload t f x e = by_answer x ∙ ap (λ (g :
     by_answer (answer.Detach q) = refl
     by_answer answer.Attach = refl
     by_answer (answer.Refusal q) = refl
-replied_is (performative.Flow p) payload t f x e = ap (λ (g : Frame). answer_said t.terms g x) (same_frame (Flows (flowing p)) f e)
-replied_is (performative.Transfer p) payload t f x e = ap (λ (g : Frame). answer_said t.terms g x) (same_frame (Transfers p.handle (sent_of p payload)) f e)
-replied_is (performative.Disposition p) payload t f x e = ap (λ (g : Frame). answer_said t.terms g x) (same_frame (Disposes (disposing p)) f e)
-replied_is (performative.Detach p) payload t f x e = ap (λ (g : Frame). answer_said t.terms g x) (same_frame (Detaches p.handle p.closed) f e)
+replied_is (performative.Flow p) payload t f x e = ap (λ (g : Frame). answer_said t.terms g x) (same_Some (Flows (flowing p)) f e)
+replied_is (performative.Transfer p) payload t f x e = ap (λ (g : Frame). answer_said t.terms g x) (same_Some (Transfers p.handle (sent_of p payload)) f e)
+replied_is (performative.Disposition p) payload t f x e = ap (λ (g : Frame). answer_said t.terms g x) (same_Some (Disposes (disposing p)) f e)
+replied_is (performative.Detach p) payload t f x e = ap (λ (g : Frame). answer_said t.terms g x) (same_Some (Detaches p.handle p.closed) f e)
 replied_is (performative.End p) payload t f x e = absurd (grind (arith, e))
 replied_is (performative.Close p) payload t f x e = absurd (grind (arith, e))
 

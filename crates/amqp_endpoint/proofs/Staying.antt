@@ -9,13 +9,14 @@ use Rattle.amqp_session.specs.Sessions.{SessionState}
 use Rattle.amqp_endpoint.specs.declared.event.Event.{Event}
 use Rattle.amqp_endpoint.specs.Acting.{IsDone}
 use Rattle.amqp_endpoint.specs.Connections as event
-use Rattle.amqp_endpoint.specs.Connections.{ConnectionState, ConnectionEvent, connection_after, is_closing}
+use Rattle.amqp_endpoint.specs.Connections.{ConnectionState, connection_after, is_closing}
 use Rattle.amqp_endpoint.specs.Fields.{Read}
 use Rattle.amqp_endpoint.specs.Keeping.{connection_of}
 use Rattle.amqp_endpoint.specs.Lines as line
 use Rattle.amqp_endpoint.specs.Lines.{Line, event_on, told_on, channel_line, on_waiting, closing_line, frame_line, frame_at}
 use Rattle.amqp_endpoint.specs.Replies.{reply_on}
 use Rattle.amqp_endpoint.proofs.Tables.{Table, none_after}
+use Rattle.std.proofs.lemmas.Bool.{cond-true, cond-false}
 
 still : (s : ConnectionState) → connection_of s.config s.phase s.failed s.closed (connection_after s event.Ignored).sessions ≡ s
 still s = ap (λ (slots : Table). connection_of s.config s.phase s.failed s.closed slots) (none_after s.sessions)
@@ -43,32 +44,26 @@ pub waiting_done : (s : ConnectionState) (unsent : List ℕ) (channel : ℕ) (r 
 waiting_done s unsent channel r x waits other =
     subst (λ (l : Line). IsDone s s unsent unsent l None) (sym (ap (λ (y : Slot SessionState). channel_line channel y r) waits ∙ other)) (dropped_in_ending s unsent)
 
-either : (b : Bool) (l m : Line) → b ≡ false → (if b then l else m) ≡ m
-either b l m e = ap (λ (c : Bool). if c then l else m) e
-
-either_so : (b : Bool) (l m : Line) → b ≡ true → (if b then l else m) ≡ l
-either_so b l m e = ap (λ (c : Bool). if c then l else m) e
-
 -- where the peer's close is awaited, and something else comes
 pub not_close_done : (s : ConnectionState) (unsent : List ℕ) (closes : Bool) → false ≡ closes → IsDone s s unsent unsent (if closes then line.CloseAwaited else line.DroppedInClosing) None
 not_close_done s unsent closes not =
-    subst (λ (l : Line). IsDone s s unsent unsent l None) (sym (either closes line.CloseAwaited line.DroppedInClosing (sym not))) (dropped_in_closing s unsent)
+    subst (λ (l : Line). IsDone s s unsent unsent l None) (sym (cond-false closes line.CloseAwaited line.DroppedInClosing (sym not))) (dropped_in_closing s unsent)
 
 -- a frame without body
 pub no_body_done : (s : ConnectionState) (unsent : List ℕ) (channel : ℕ) (bytes : List ℕ) → false ≡ is_closing s.phase → true ≡ (length bytes == 0) →
     IsDone s s unsent unsent (frame_at s channel bytes) None
 no_body_done s unsent channel [] awake none =
-    subst (λ (l : Line). IsDone s s unsent unsent l None) (sym (either (is_closing s.phase) (closing_line []) (frame_line s channel []) (sym awake))) (empty_done s unsent)
+    subst (λ (l : Line). IsDone s s unsent unsent l None) (sym (cond-false (is_closing s.phase) (closing_line []) (frame_line s channel []) (sym awake))) (empty_done s unsent)
 no_body_done s unsent channel (b ∷ bytes) awake none = absurd (grind (arith, none))
 
 -- while the peer's close is awaited
 pub closing_done : (s new : ConnectionState) (before after : List ℕ) (channel : ℕ) (bytes : List ℕ) (told : Option Event) → true ≡ is_closing s.phase →
     IsDone s new before after (closing_line bytes) told → IsDone s new before after (frame_at s channel bytes) told
 closing_done s new before after channel bytes told closing done =
-    subst (λ (l : Line). IsDone s new before after l told) (sym (either_so (is_closing s.phase) (closing_line bytes) (frame_line s channel bytes) (sym closing))) done
+    subst (λ (l : Line). IsDone s new before after l told) (sym (cond-true (is_closing s.phase) (closing_line bytes) (frame_line s channel bytes) (sym closing))) done
 
 -- the header of this version
 pub header_done : (s : ConnectionState) (before after : List ℕ) (same : Bool) → same ≡ true → after ≡ before ++ HEADER →
     IsDone s s before after (if same then line.HeaderAccepted else line.HeaderUnknown) None
 header_done s before after same so said =
-    subst (λ (l : Line). IsDone s s before after l None) (sym (either_so same line.HeaderAccepted line.HeaderUnknown so)) (record { connection = sym (still s); unsent = said; told = refl })
+    subst (λ (l : Line). IsDone s s before after l None) (sym (cond-true same line.HeaderAccepted line.HeaderUnknown so)) (record { connection = sym (still s); unsent = said; told = refl })

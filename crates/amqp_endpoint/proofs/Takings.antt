@@ -1,72 +1,28 @@
 -- What was handed up of each link, life by life: what its own history says.
-use Rattle.std.proofs.Common.{arith, ◌≡◌, ℕ, suc, ◌<◌, ◌⊎◌, inl, inr, Bool, true, false, List, [], ◌∷◌, ◌++◌, map, refl, sym, ap, ◌∙◌, subst, Option, Some, None}
+use Rattle.std.proofs.Common.{arith, ◌≡◌, ℕ, suc, ◌<◌, inl, inr, Bool, true, false, List, [], ◌∷◌, ◌++◌, map, refl, sym, ap, ◌∙◌, Option, Some, None}
 use Rattle.std.specs.Prelude.{if◌then◌else◌, ◌&&◌, nat_eq, filter, option_map, slice_get, unwrap_or}
 use Rattle.std.proofs.lemmas.Bool.{eqb-true, eq-eqb}
 use Rattle.std.proofs.lemmas.Bool.Decides.{eqb_tells}
 use Rattle.std.proofs.lemmas.List.{append-nil, map-append}
 use Rattle.std.proofs.lemmas.List.Elements.{filter-append}
-use Rattle.amqp_link.specs.Links.{LinkEvent, Transferred, FlowStated, ReceiverSettled, SenderSettled, Delivery}
+use Rattle.amqp_link.specs.Links.{LinkEvent, Transferred, FlowStated, Delivery}
 use Rattle.amqp_link.specs.Histories.{followed_by, handed_up_by, handed_up}
 use Rattle.amqp_session.specs.declared.slot.Slot.{Slot}
-use Rattle.amqp_session.specs.declared.slot.Slot.TheVariants.{Free, Live, Waits}
-use Rattle.amqp_session.specs.declared.terms.SessionTerms.{SessionTerms}
-use Rattle.amqp_session.specs.Histories as session
-use Rattle.amqp_session.specs.Places.{Life, slot_map, lived_on, life_after}
+use Rattle.amqp_session.specs.declared.slot.Slot.TheVariants.{Free, Live}
 use Rattle.amqp_session.specs.Sessions as of_session
 use Rattle.amqp_session.specs.Sessions.{Attached, LiveLink, SessionState, SessionEvent, SessionMay}
 use Rattle.amqp_endpoint.specs.Connections as event
 use Rattle.amqp_endpoint.specs.Connections.{ConnectionState, ConnectionEvent, ConnectionMay, slot_at, happens}
 use Rattle.amqp_endpoint.specs.Histories.{part}
 use Rattle.amqp_endpoint.specs.Runs.{Handed, handed_of}
-use Rattle.amqp_endpoint.specs.Takings.{Taking, attaches_at, attaches_on, lives, handed_up_in, taking_on, takings, is_of, taken_in, part_in, link_part, link_in, link_at}
+use Rattle.amqp_endpoint.specs.Takings.{Taking, attaches_on, lives, handed_up_in, taking_on, takings, is_of, taken_in, link_part, link_in, link_at}
+use Rattle.amqp_endpoint.proofs.LinkLives.{more, Went, goes_there, event_at, went_on}
 
--- One event at one handle. ----------------------------------------------------------------------------------------------
-
--- A link lives after an event, with this part: it begins by the event, or its part goes on from before it by what the event hands up, if anything.
-abbrev Came : Bool → Option Delivery → Slot (Life Attached LinkEvent) → Attached → List LinkEvent → Type 0
-Came starts given before a h =
-    ((starts ≡ true) × (given ≡ None) × (h ≡ [])) ⊎ ((starts ≡ false) × (past : List LinkEvent) × (before ≡ Live (a, past)) × (handed_up h ≡ followed_by (handed_up past) given))
-
-life_of : Life Attached LinkEvent → Slot (Life Attached LinkEvent) → Life Attached LinkEvent
-life_of l Free = l
-life_of l (Live m) = m
-life_of l Waits = l
-
-same_life : (l m : Life Attached LinkEvent) → Live l ≡ Live m → l ≡ m
-unfolding life_of
-same_life l m e = ap (life_of l) e
-
-begins_at : (b : Bool) (a a0 : Attached) (before : Slot (Life Attached LinkEvent)) (h : List LinkEvent) → (if b then Live (a0, []) else before) ≡ Live (a, h) → Came b None before a h
-begins_at true a a0 before h e = inl (refl, refl, sym (ap (λ (x : Life Attached LinkEvent). x.1) (same_life (a0, []) (a, h) e)))
-begins_at false a a0 before h e = inr (refl, h, e, refl)
-
-goes_at : (b : Bool) (x : LinkEvent) (a : Attached) (before : Slot (Life Attached LinkEvent)) (h : List LinkEvent) → (if b then slot_map (λ l. lived_on l x) before else before) ≡ Live (a, h) →
-    Came false (if b then handed_up_by x else None) before a h
-goes_at true x a Free h e = absurd (grind (arith, e))
-goes_at true x a (Live l) h e =
-    let same = same_life (l.0, x ∷ l.1) (a, h) e in
-    inr (refl, l.1, ap (λ (y : Attached). Live (y, l.1)) (ap (λ (y : Life Attached LinkEvent). y.0) same), ap handed_up (sym (ap (λ (y : Life Attached LinkEvent). y.1) same)))
-goes_at true x a Waits h e = absurd (grind (arith, e))
-goes_at false x a before h e = inr (refl, h, e, refl)
+-- What one event hands up. ----------------------------------------------------------------------------------------------
 
 nothing_either : (b : Bool) (o : Option Delivery) → o ≡ None → (if b then o else None) ≡ None
 nothing_either true o e = e
 nothing_either false o e = refl
-
--- it hands nothing up
-quiet_at : (b : Bool) (x : LinkEvent) (a : Attached) (before : Slot (Life Attached LinkEvent)) (h : List LinkEvent) → handed_up_by x ≡ None →
-    (if b then slot_map (λ l. lived_on l x) before else before) ≡ Live (a, h) →
-    Came false None before a h
-quiet_at b x a before h none e =
-    subst (λ (o : Option Delivery). Came false o before a h) (nothing_either b (handed_up_by x) none) (goes_at b x a before h e)
-
-leaves_at : (b : Bool) (a : Attached) (before : Slot (Life Attached LinkEvent)) (h : List LinkEvent) → (if b then Waits else before) ≡ Live (a, h) → Came false None before a h
-leaves_at true a before h e = absurd (grind (arith, e))
-leaves_at false a before h e = inr (refl, h, e, refl)
-
-gone_at : (b : Bool) (a : Attached) (before : Slot (Life Attached LinkEvent)) (h : List LinkEvent) → (if b then Free else before) ≡ Live (a, h) → Came false None before a h
-gone_at true a before h e = absurd (grind (arith, e))
-gone_at false a before h e = inr (refl, h, e, refl)
 
 -- what is handed up at this handle
 abbrev at_handle : ℕ → Option (ℕ × Delivery) → Option Delivery
@@ -77,64 +33,38 @@ at_place : (handle place : ℕ) (o : Option Delivery) → (if nat_eq place handl
 at_place handle place None = nothing_either (nat_eq place handle) None refl
 at_place handle place (Some d) = refl
 
-came : (handle : ℕ) (e : SessionEvent) (before : Slot (Life Attached LinkEvent)) (a : Attached) (h : List LinkEvent) → life_after handle (of_session.happens e) before ≡ Live (a, h) →
-    Came (attaches_at handle e) (at_handle handle (handed_up_in e)) before a h
-came handle (of_session.LinkAttached place a0) before a h e = begins_at (nat_eq place handle) a a0 before h e
-came handle (of_session.LinkRefused place) before a h e = leaves_at (nat_eq place handle) a before h e
-came handle (of_session.TransferCame place t) before a h e = quiet_at (nat_eq place handle) (Transferred t) a before h refl e
-came handle (of_session.TransferEnded place) before a h e = leaves_at (nat_eq place handle) a before h e
-came handle (of_session.LinkFlowCame place next_id count) before a h e = quiet_at (nat_eq place handle) (FlowStated count) a before h refl e
-came handle (of_session.LinkFlowEnded place next_id) before a h e = leaves_at (nat_eq place handle) a before h e
-came handle (of_session.PeerSettled first last) before a h e = quiet_at true (SenderSettled first last) a before h refl e
-came handle (of_session.Settled first last) before a h e = quiet_at true (ReceiverSettled first last) a before h refl e
-came handle (of_session.PeerDetached place) before a h e = gone_at (nat_eq place handle) a before h e
-came handle (of_session.Detached place) before a h e = leaves_at (nat_eq place handle) a before h e
-came handle (of_session.Called place x) before a h e =
-    subst (λ (o : Option Delivery). Came false o before a h) (at_place handle place (handed_up_by x)) (goes_at (nat_eq place handle) x a before h e)
-came handle (of_session.Widened n) before a h e = inr (refl, h, e, refl)
-came handle (of_session.TransferDropped place) before a h e = inr (refl, h, e, refl)
-came handle (of_session.FlowCame next_id) before a h e = inr (refl, h, e, refl)
-came handle of_session.Ignored before a h e = inr (refl, h, e, refl)
+-- what the event of a link hands up, if there is one
+abbrev given_by : Option LinkEvent → Option Delivery
+given_by None = None
+given_by (Some x) = handed_up_by x
 
--- One event of the connection. ------------------------------------------------------------------------------------------
+either_given : (b : Bool) (o : Option LinkEvent) → (if b then given_by o else None) ≡ given_by (if b then o else None)
+either_given true o = refl
+either_given false o = refl
 
-abbrev Sessions : Type 0
-Sessions = Slot (Life SessionTerms SessionEvent)
+quiet_given : (b : Bool) (x : LinkEvent) → handed_up_by x ≡ None → None ≡ given_by (if b then Some x else None)
+quiet_given true x none = sym none
+quiet_given false x none = refl
+
+given_there : (handle : ℕ) (e : SessionEvent) → at_handle handle (handed_up_in e) ≡ given_by (goes_there handle (of_session.happens e))
+given_there handle (of_session.Called place x) = sym (at_place handle place (handed_up_by x)) ∙ either_given (nat_eq place handle) (Some x)
+given_there handle (of_session.TransferCame place t) = quiet_given (nat_eq place handle) (Transferred t) refl
+given_there handle (of_session.LinkFlowCame place next_id count) = quiet_given (nat_eq place handle) (FlowStated count) refl
+given_there handle e = refl
 
 -- what it hands up at a handle of the session on a channel
 abbrev given_at : ℕ → ℕ → ConnectionEvent → Option Delivery
 given_at channel handle (event.InSession place e) = if nat_eq place channel then at_handle handle (handed_up_in e) else None
 given_at channel handle e = None
 
-in_session : (b : Bool) (handle : ℕ) (e : SessionEvent) (x : Sessions) (a : Attached) (h : List LinkEvent) → part_in handle (if b then slot_map (λ l. lived_on l e) x else x) ≡ Live (a, h) →
-    Came (b && attaches_at handle e) (if b then at_handle handle (handed_up_in e) else None) (part_in handle x) a h
-in_session true handle e Free a h is = absurd (grind (arith, is))
-in_session true handle e (Live l) a h is = came handle e (session.part handle l.1) a h is
-in_session true handle e Waits a h is = absurd (grind (arith, is))
-in_session false handle e x a h is = inr (refl, h, is, refl)
+given_is : (channel handle : ℕ) (e : ConnectionEvent) → given_at channel handle e ≡ given_by (event_at channel handle e)
+given_is channel handle (event.InSession place e) =
+    ap (λ (o : Option Delivery). if nat_eq place channel then o else None) (given_there handle e) ∙ either_given (nat_eq place channel) (goes_there handle (of_session.happens e))
+given_is channel handle e = refl
 
--- a session begins, or ends: no link stands in it
-stands_not : (b : Bool) (handle : ℕ) (y x : Sessions) (a : Attached) (h : List LinkEvent) → part_in handle y ≡ Free → part_in handle (if b then y else x) ≡ Live (a, h) →
-    Came false None (part_in handle x) a h
-stands_not true handle y x a h none is = absurd (grind (arith, is, none))
-stands_not false handle y x a h none is = inr (refl, h, is, refl)
-
-came_on : (channel handle : ℕ) (e : ConnectionEvent) (x : Sessions) (a : Attached) (h : List LinkEvent) → part_in handle (life_after channel (happens e) x) ≡ Live (a, h) →
-    Came (attaches_on channel handle e) (given_at channel handle e) (part_in handle x) a h
-came_on channel handle (event.InSession place e) x a h is = in_session (nat_eq place channel) handle e x a h is
-came_on channel handle (event.Begun place terms) x a h is = stands_not (nat_eq place channel) handle (Live (terms, [])) x a h refl is
-came_on channel handle (event.SessionFailed place) x a h is = stands_not (nat_eq place channel) handle Waits x a h refl is
-came_on channel handle (event.SessionEnded place) x a h is = stands_not (nat_eq place channel) handle Free x a h refl is
-came_on channel handle event.HeaderCame x a h is = inr (refl, h, is, refl)
-came_on channel handle (event.Opened m c) x a h is = inr (refl, h, is, refl)
-came_on channel handle event.Ignored x a h is = inr (refl, h, is, refl)
-came_on channel handle event.HeaderRefused x a h is = stands_not true handle Free x a h refl is
-came_on channel handle event.Broken x a h is = stands_not true handle Free x a h refl is
-came_on channel handle event.Failed x a h is = stands_not true handle Free x a h refl is
-came_on channel handle event.CloseAsked x a h is = stands_not true handle Free x a h refl is
-came_on channel handle event.PeerClosed x a h is = stands_not true handle Free x a h refl is
-came_on channel handle event.Lost x a h is = stands_not true handle Free x a h refl is
-came_on channel handle event.Finished x a h is = stands_not true handle Free x a h refl is
+more_handed : (o : Option LinkEvent) (h : List LinkEvent) → handed_up (more o h) ≡ followed_by (handed_up h) (given_by o)
+more_handed None h = refl
+more_handed (Some x) h = refl
 
 -- What is taken. --------------------------------------------------------------------------------------------------------
 
@@ -228,21 +158,23 @@ module _ (channel handle : ℕ) where
   life_more false n m l = l
 
   now_more : (e : ConnectionEvent) (h : List ConnectionEvent) (a : Attached) (past : List LinkEvent) → IsCounted h →
-      Came (attaches_on channel handle e) (given_at channel handle e) (link_part channel handle h) a past →
+      Went (attaches_on channel handle e) (event_at channel handle e) (link_part channel handle h) a past →
       of_these channel handle (lives channel handle (e ∷ h)) (takings (e ∷ h)) ≡ map handed_of (handed_up past)
   now_more e h a past c (inl x) =
       let n = lives channel handle h in
       let none = other_life channel handle (suc n) e h (below_not n (suc n) (omega arith)) (c.later (suc n) (omega arith)) in
-      ap (λ (b : Bool). of_these channel handle (if b then suc n else n) (takings (e ∷ h))) x.0 ∙ none ∙ ap (λ (l : List LinkEvent). map handed_of (handed_up l)) (sym x.2)
+      ap (λ (b : Bool). of_these channel handle (if b then suc n else n) (takings (e ∷ h))) x.0 ∙ none ∙ ap (λ (l : List LinkEvent). map handed_of (handed_up l)) (sym x.1)
   now_more e h a past c (inr x) =
       let n = lives channel handle h in
       let given = given_at channel handle e in
+      let up : handed_up past ≡ followed_by (handed_up x.1) given = ap (λ (l : List LinkEvent). handed_up l) x.3 ∙ more_handed (event_at channel handle e) x.1
+      ∙ ap (λ (o : Option Delivery). followed_by (handed_up x.1) o) (sym (given_is channel handle e)) in
       ap (λ (b : Bool). of_these channel handle (if b then suc n else n) (takings (e ∷ h))) x.0
       ∙ taken_more channel handle n e h
       ∙ ap (λ (b : Bool). of_these channel handle n (takings h) ++ (if b then messages given else [])) (eq-eqb n n refl)
       ∙ ap (λ (l : List Handed). l ++ messages given) (c.now a x.1 x.2)
       ∙ handed_more (handed_up x.1) given
-      ∙ ap (λ (l : List Delivery). map handed_of l) (sym x.3)
+      ∙ ap (λ (l : List Delivery). map handed_of l) (sym up)
 
   counted : (h : List ConnectionEvent) → IsCounted h
   unfolding of_these
@@ -250,7 +182,7 @@ module _ (channel handle : ℕ) where
   counted (e ∷ h) = record {
     later = λ n l. let less = life_more (attaches_on channel handle e) n (lives channel handle h) l in other_life channel handle n e h (below_not (lives channel handle h) n less)
         ((counted h).later n less);
-    now = λ a past is. now_more e h a past (counted h) (came_on channel handle e (part channel h) a past is);
+    now = λ a past is. now_more e h a past (counted h) (went_on channel handle e (part channel h) a past is);
   }
 
   -- of the link that lives at a place, what was taken in its life is what its part hands up

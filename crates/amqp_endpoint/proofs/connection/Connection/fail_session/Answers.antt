@@ -1,22 +1,13 @@
-use Rattle.std.proofs.Common.{◌∙◌, ap, sym}
-use Rattle.std.specs.Prelude.{slice_set}
-use Rattle.amqp_session.specs.declared.slot.Slot.TheVariants.{Waits}
-use Rattle.amqp_endpoint.specs.Connections as event
-use Rattle.amqp_endpoint.specs.Connections.{channel_ready}
-use Rattle.amqp_endpoint.proofs.Tables.{leaves_at, after_is, slot_is, channel_low}
+use Rattle.std.proofs.Common.{◌∙◌}
+use Rattle.amqp_endpoint.proofs.Tables.{fails_at, ready_at}
 use Rattle.amqp_endpoint.proofs.connection.Connection.fail_session.Goals as goal
 
 pub returns-clause-new : goal.returns-clause-new
 returns-clause-new g c =
-    let low = channel_low c.self.inside.config c.self.inside.phase c.self.inside.failed c.self.inside.closed c.self.inside.places.items c.args.self.now c.self.view_is c.self.invariant c.args.channel
-    c.requires in
-    after_is c.self.inside.config c.self.inside.phase c.self.inside.failed c.self.inside.closed c.self.inside.places.items c.args.self.now c.self.view_is (event.SessionFailed c.args.channel)
-    (slice_set c.self.inside.places.items c.args.channel Waits) (leaves_at c.self.inside.places.items c.args.channel low)
+    fails_at c.self.inside.config c.self.inside.phase c.self.inside.failed c.self.inside.closed c.self.inside.places.items c.args.self.now c.self.view_is c.self.invariant c.args.channel c.requires
 
 pub returns-clause-dropped : goal.returns-clause-dropped
 returns-clause-dropped g c =
-    let low = channel_low c.self.inside.config c.self.inside.phase c.self.inside.failed c.self.inside.closed c.self.inside.places.items c.args.self.now c.self.view_is c.self.invariant c.args.channel
-    c.requires in
     c.place_ready-dropped.ensures.value
-    ∙ ap channel_ready (sym (slot_is c.self.inside.config c.self.inside.phase c.self.inside.failed c.self.inside.closed c.self.inside.places.items c.args.self.now c.self.view_is
-    c.args.channel c.index.result.now c.index.ensures low))
+    ∙ ready_at c.self.inside.config c.self.inside.phase c.self.inside.failed c.self.inside.closed c.self.inside.places.items c.args.self.now c.self.view_is c.self.invariant c.args.channel c.requires
+    c.index.result.now c.index.ensures

@@ -1,15 +1,14 @@
-use Rattle.std.proofs.Common.{arith, true, ◌∙◌, ap, sym, map}
+use Rattle.std.proofs.Common.{arith, true, ◌∙◌, ap, refl}
 use Rattle.std.proofs.lemmas.List.{with_items_is}
-use Rattle.amqp_session.specs.declared.slot.Slot.TheVariants.{Free}
 use Rattle.amqp_endpoint.specs.declared.phase.Phase.TheVariants as phase
 use Rattle.amqp_endpoint.specs.Connections as event
 use Rattle.amqp_endpoint.specs.Keeping.{connection_of}
-use Rattle.amqp_endpoint.proofs.Tables.{all_gone, after_is}
+use Rattle.amqp_endpoint.proofs.Tables.{freed}
 use Rattle.amqp_endpoint.proofs.connection.Connection.peer_closed.Goals as goal
 
 pub returns-clause-new : goal.returns-clause-new
 returns-clause-new g c =
     ap (connection_of c.self.inside.config phase.Dead c.self.inside.failed true) (with_items_is c.self.inside.places c.free_all.new.places
     (omega (arith, c.free_all.auto.places, c.deref_mut.ensures.len)))
-    ∙ after_is c.self.inside.config c.self.inside.phase c.self.inside.failed c.self.inside.closed c.self.inside.places.items c.args.self.now c.self.view_is event.PeerClosed c.free_all.new.places
-    (all_gone 0 c.self.inside.places.items ∙ ap (map (λ x. Free)) (sym c.deref_mut.ensures.value) ∙ sym c.free_all.ensures)
+    ∙ freed c.self.inside.config c.self.inside.phase c.self.inside.failed c.self.inside.closed c.self.inside.places.items c.args.self.now c.self.view_is event.PeerClosed _ c.free_all.new.places refl
+    c.deref_mut.ensures.value c.free_all.ensures
