@@ -90,6 +90,7 @@ fault_dump held now new waited old bytes all entry whole h tells fault p = recor
   answer = any_fault h.entries entry h.told.clean fault;
 }
 
+-- a fault is the last line that is printed
 pub printed_fault : (held now new : Option (List ℕ)) (waited waits : List ℕ) (old : Scanner) (piece : List ℕ) (at end : ℕ) (s : Scanner) (item : Scanned) (before : List ℕ)
     → HasPrinted held now waited old (before ++ take at piece) → Goes old piece at end s (Some item) → is_fault (entry_of item) ≡ true → Prints (entry_of item) now new waited waits → waits ≡ []
     → IsDump held new (before ++ piece) false false
@@ -160,6 +161,7 @@ Ends s item = (bytes : List ℕ) (entries : List Entry) → HasTold s bytes entr
 alone : (bytes : List ℕ) (entries : List Entry) → TellsOf bytes entries → (more : List ℕ) → (IsTrue true → more ≡ []) → TellsOf (bytes ++ more) entries
 alone bytes entries t more none = subst (λ (x : List ℕ). TellsOf x entries) (sym (append-nil bytes) ∙ ap (λ (x : List ℕ). bytes ++ x) (sym (none refl))) t
 
+-- at the end of the input all its units are printed
 pub end_dump : (held now : Option (List ℕ)) (s : Scanner) (bytes : List ℕ) → HasPrinted held now [] s bytes → Ends s None → IsDump held now bytes true true
 end_dump held now s bytes h ends = record {
   entries = h.entries;
@@ -170,6 +172,7 @@ end_dump held now s bytes h ends = record {
   answer = sym (ap not h.told.clean);
 }
 
+-- so are they where the input ends with a fault
 pub end_fault : (held now new : Option (List ℕ)) (waits : List ℕ) (s : Scanner) (item : Scanned) (bytes : List ℕ) → HasPrinted held now [] s bytes
     → Ends s (Some item) → is_fault (entry_of item) ≡ true → Prints (entry_of item) now new [] waits → waits ≡ [] → IsDump held new bytes true false
 end_fault held now new waits s item bytes h ends fault p none =
@@ -226,10 +229,12 @@ pub on_err : {A E : Type 0} (r : Result A E) (P : Type 0) → P → OnErr r P
 on_err (Ok a) P p = tt
 on_err (Err e) P p = p
 
+-- what follows from an answer
 pub map_ok : {A E : Type 0} (r : Result A E) (P Q : A → Type 0) → ((a : A) → P a → Q a) → IfOk r P → IfOk r Q
 map_ok (Ok a) P Q f h = f a h
 map_ok (Err e) P Q f h = tt
 
+-- what follows from an error
 pub map_err : {A E : Type 0} (r : Result A E) (P Q : Type 0) → (P → Q) → OnErr r P → OnErr r Q
 map_err (Ok a) P Q f h = tt
 map_err (Err e) P Q f h = f h

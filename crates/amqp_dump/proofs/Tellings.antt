@@ -40,6 +40,7 @@ none_of_empty s e u w = let l = unit_length s.limit s.stage u w.is in let n = ap
 
 -- ---- entries of joined lists
 
+-- the entries of units joined, each at its place
 pub whole-append : (place : ℕ) (us vs : List StreamUnit) → whole_entries place (us ++ vs) ≡ whole_entries place us ++ whole_entries (place + length (flat_map bytes_of us)) vs
 whole-append place [] vs = ap (λ (n : ℕ). whole_entries n vs) (omega arith)
 whole-append place (u ∷ us) vs =
@@ -57,6 +58,7 @@ until_clean_at false entry entries others e h more =
 pub whole-joined : (us vs : List StreamUnit) → whole_entries 0 (us ++ vs) ≡ whole_entries 0 us ++ whole_entries (length (flat_map bytes_of us)) vs
 whole-joined us vs = whole-append 0 us vs ∙ ap (λ (n : ℕ). whole_entries 0 us ++ whole_entries n vs) (zero-add (length (flat_map bytes_of us)))
 
+-- what stands in front of the first fault stays
 pub until-clean : (entries others : List Entry) → list_any is_fault entries ≡ false → until_fault (entries ++ others) ≡ entries ++ until_fault others
 until-clean [] others h = refl
 until-clean (entry ∷ entries) others h = until_clean_at (is_fault entry) entry entries others refl h (until-clean entries others)
@@ -132,9 +134,11 @@ went_first s place bytes entries w more =
     let r = each_is_read MAX_FRAME s.stage (s.filled ++ more) in
     (until_fault (entries_from place r.0 r.1), tells_on s place bytes entries more r.0 r.1 w r.2)
 
+-- what a scanner told begins what the bytes tell
 pub told_first : (s : Scanner) (bytes : List ℕ) (entries : List Entry) → HasTold s bytes entries → TellsFirst bytes entries
 told_first s bytes entries t = went_first s.splitter s.place bytes entries (went_by s bytes entries t)
 
+-- a new scanner has told nothing
 pub none_told : (s : Scanner) → s.splitter ≡ record { limit = MAX_FRAME; stage = Header; filled = []; room = MAX_FRAME } → s.place ≡ 0
     → IsHeld s.splitter.limit s.splitter.stage s.splitter.filled → WentBy s.splitter [] [] → HasTold s [] []
 none_told s e p held w =
@@ -163,6 +167,7 @@ pub record Pushed (old now : SplitterState) (more : List ℕ) : Type 0 where
   pub filled : now.filled ≡ old.filled ++ more
   pub history : (us : List StreamUnit) (bytes : List ℕ) → WentBy old us bytes → WentBy now us (bytes ++ more)
 
+-- bytes that were taken are added to those that went by
 pub pushed : (old now : SplitterState) (place : ℕ) (bytes more : List ℕ) (entries : List Entry) → Went old place bytes entries → Pushed old now more → Went now place (bytes ++ more) entries
 pushed old now place bytes more entries w p = record {
   units = w.units;
@@ -205,6 +210,7 @@ pub record Dropped (now new : SplitterState) : Type 0 where
   pub held : IsHeld new.limit new.stage new.filled
   pub history : (us : List StreamUnit) (bytes : List ℕ) (u : StreamUnit) → WentBy now us bytes → Waits now u → WentBy new (us ++ u ∷ []) bytes
 
+-- a scanner that told of a unit without a fault goes on
 pub ready_behind : (now : SplitterState) (s : Scanner) (item : Scanned) (place : ℕ) → now.limit ≡ MAX_FRAME → TellsWaiting place now item
     → Dropped now s.splitter → is_fault (entry_of item) ≡ false → IsReady s
 ready_behind now s item place limit t d clean =
@@ -277,9 +283,11 @@ piece_is before piece more end =
     sym (append_assoc (before ++ take end piece) (drop end piece) more)
     ∙ ap (λ (x : List ℕ). x ++ more) (append_assoc before (take end piece) (drop end piece) ∙ ap (λ (x : List ℕ). before ++ x) (take-append-drop end piece))
 
+-- bytes behind a fault tell nothing more
 pub piece_tells : (before piece : List ℕ) (end : ℕ) (entries : List Entry) → Tells (before ++ take end piece) entries → Tells (before ++ piece) entries
 piece_tells before piece end entries h more = subst (λ (x : List ℕ). TellsOf x entries) (piece_is before piece more end) (h (drop end piece ++ more))
 
+-- the same of what was told so far
 pub piece_first : (before piece : List ℕ) (end : ℕ) (entries : List Entry) → TellsFirst (before ++ take end piece) entries → TellsFirst (before ++ piece) entries
 piece_first before piece end entries h more =
     let t = h (drop end piece ++ more) in
@@ -332,16 +340,19 @@ goes_none old s piece at n place ready within bound all p before entries t =
 
 -- ---- the end
 
+-- what is left at the end of the input is told last
 pub end_tells : (s : Scanner) (others : List Entry) → until_fault (rest_entries s.place s.splitter.filled) ≡ others
     → (bytes : List ℕ) (entries : List Entry) → HasTold s bytes entries → TellsOf bytes (entries ++ others)
 end_tells s others e bytes entries t = subst (λ (x : List Entry). TellsOf bytes (entries ++ x)) e (told_end s bytes entries t)
 
+-- where the header is not whole that is the fault
 pub rest_header : (place : ℕ) (rest : List ℕ) → place ≡ 0 → until_fault (rest_entries place rest) ≡ FaultEntry 0 stream.Header ∷ []
 rest_header place rest h = rw h refl
 
 is_no_header : (place : ℕ) → (place ≡ 0 → ⊥) → (place == 0) ≡ false
 is_no_header place h = search (rules, h)
 
+-- where nothing is left there is none
 pub rest_none : (place : ℕ) (rest : List ℕ) → (place ≡ 0 → ⊥) → rest ≡ [] → until_fault (rest_entries place rest) ≡ []
 rest_none place rest h e = rw (is_no_header place h) (rw e refl)
 
@@ -353,5 +364,6 @@ cut_at : (b : Bool) (place : ℕ) → b ≡ false → until_fault (cond b [] (Fa
 cut_at true place h = absurd (false≢true (sym h))
 cut_at false place h = refl
 
+-- else the last frame was cut off
 pub rest_cut : (place : ℕ) (rest : List ℕ) → (place ≡ 0 → ⊥) → (rest ≡ [] → ⊥) → until_fault (rest_entries place rest) ≡ FaultEntry place stream.Cut ∷ []
 rest_cut place rest h some = rw (is_no_header place h) (cut_at (length rest == 0) place (is_no_header (length rest) (λ e. some (nil_of rest e))))

@@ -4,7 +4,7 @@ use Rattle.std.specs.List.{flat_map}
 use Rattle.std.specs.Str.{bytes_eq}
 use Rattle.amqp_frame.specs.declared.units.TheConstants.{HEADER}
 use Rattle.amqp_frame.specs.Units.{StreamUnit, HeaderUnit, FrameUnit, FaultUnit, Units, bytes_of, offset_of, channel_of, body_of}
-use Rattle.amqp_perform.specs.Reading.{body_at}
+use Rattle.amqp_perform.specs.BodyReading.{body_at}
 use Rattle.amqp_types.specs.Trees.{Tree}
 use Rattle.amqp_types.specs.Values.{view}
 use Rattle.amqp_types.specs.Reading.{Read}

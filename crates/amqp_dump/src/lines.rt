@@ -6,9 +6,8 @@ ghost use Rattle.amqp_dump.specs.Printing.{IsLineOf};
 
 use crate::scanned::{Scanned, ScannedFrame, StreamFault};
 use crate::text::write_value;
-use amqp_frame::FrameFault;
 use amqp_perform::Descriptor;
-use amqp_types::{ReadFault, Value};
+use amqp_types::Value;
 use std::alloc::{AllocError, Global};
 use std::fmt::Write;
 
@@ -83,18 +82,7 @@ fn performative_name(descriptor: &Value) -> Option<&'static str> {
         Value::Symbol(symbol) => Descriptor::of_symbol(symbol.as_bytes())?,
         _ => return None,
     };
-    match descriptor {
-        Descriptor::Open => Some("open"),
-        Descriptor::Begin => Some("begin"),
-        Descriptor::Attach => Some("attach"),
-        Descriptor::Flow => Some("flow"),
-        Descriptor::Transfer => Some("transfer"),
-        Descriptor::Disposition => Some("disposition"),
-        Descriptor::Detach => Some("detach"),
-        Descriptor::End => Some("end"),
-        Descriptor::Close => Some("close"),
-        _ => None,
-    }
+    descriptor.performative_name()
 }
 
 /// The name of a fault, as it is printed.
@@ -102,33 +90,7 @@ fn name_of(fault: StreamFault) -> &'static str {
     match fault {
         StreamFault::Header => "Header",
         StreamFault::Cut => "Cut",
-        StreamFault::Frame(fault) => name_of_frame_fault(fault),
-        StreamFault::Value(fault) => name_of_read_fault(fault),
-    }
-}
-
-fn name_of_frame_fault(fault: FrameFault) -> &'static str {
-    match fault {
-        FrameFault::TooSmall => "TooSmall",
-        FrameFault::TooLarge => "TooLarge",
-        FrameFault::BadOffset => "BadOffset",
-        FrameFault::BadType => "BadType",
-    }
-}
-
-fn name_of_read_fault(fault: ReadFault) -> &'static str {
-    match fault {
-        ReadFault::Truncated(_) => "Truncated",
-        ReadFault::UnknownCode(_) => "UnknownCode",
-        ReadFault::BadSize(_) => "BadSize",
-        ReadFault::BadCount(_) => "BadCount",
-        ReadFault::BadText(_) => "BadText",
-        ReadFault::BadSymbol(_) => "BadSymbol",
-        ReadFault::BadChar(_) => "BadChar",
-        ReadFault::BadBoolean(_) => "BadBoolean",
-        ReadFault::DuplicateKey(_) => "DuplicateKey",
-        ReadFault::TooDeep(_) => "TooDeep",
-        ReadFault::TooManyNodes(_) => "TooManyNodes",
-        ReadFault::NoMemory => "NoMemory",
+        StreamFault::Frame(fault) => fault.name(),
+        StreamFault::Value(fault) => fault.name(),
     }
 }

@@ -3,7 +3,7 @@
 
 ghost use Rattle.std.specs.Prelude.{◌≡◌, ◌≢◌, ℕ, ◌+◌, ◌-◌, ◌^◌, ◌<◌, ◌≤◌, true, List, [], ◌++◌, length, take, is_some, IfOk, OnOk, IfSome};
 ghost use Rattle.amqp_frame.specs.Splits.{IsOver};
-ghost use Rattle.amqp_perform.specs.Reading.{body_at};
+ghost use Rattle.amqp_perform.specs.BodyReading.{body_at};
 ghost use Rattle.amqp_types.specs.Places.{place_of};
 ghost use Rattle.amqp_dump.specs.Entries.{Entry, entry_of, is_fault, header_entry, body_entry, told_entries, TellsOf};
 ghost use Rattle.amqp_dump.specs.Steps.{IsWaiting, IsReady, IsReadyBehind, HasTold, GoesOn, taken_by};
@@ -184,18 +184,5 @@ fn place_in_body(fault: ReadFault) -> Result<usize, AllocError>
     ensures place { IfOk result (λ place. place ≡ place_of fault) }
     ensures memory { OnOk result (fault ≢ ReadFault.NoMemory) }
 {
-    match fault {
-        ReadFault::Truncated(place)
-        | ReadFault::UnknownCode(place)
-        | ReadFault::BadSize(place)
-        | ReadFault::BadCount(place)
-        | ReadFault::BadText(place)
-        | ReadFault::BadSymbol(place)
-        | ReadFault::BadChar(place)
-        | ReadFault::BadBoolean(place)
-        | ReadFault::DuplicateKey(place)
-        | ReadFault::TooDeep(place)
-        | ReadFault::TooManyNodes(place) => Ok(place),
-        ReadFault::NoMemory => Err(AllocError),
-    }
+    fault.place().ok_or(AllocError)
 }

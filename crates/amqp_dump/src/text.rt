@@ -104,7 +104,7 @@ fn write_element(
         write_descriptor(alloc, out, descriptor)?;
         out.push(' ')?;
     }
-    write!(out, "{}", name_of(kind))
+    write!(out, "{}", kind.name())
 }
 
 /// Appends `@D`.
@@ -120,36 +120,6 @@ fn write_described(alloc: Global, out: &mut String, described: &Value) -> Result
     out.push('(')?;
     write_value(alloc, out, described)?;
     out.push(')')
-}
-
-/// The name of a kind, as it is printed.
-fn name_of(kind: Kind) -> &'static str {
-    match kind {
-        Kind::Null => "null",
-        Kind::Boolean => "boolean",
-        Kind::Ubyte => "ubyte",
-        Kind::Ushort => "ushort",
-        Kind::Uint => "uint",
-        Kind::Ulong => "ulong",
-        Kind::Byte => "byte",
-        Kind::Short => "short",
-        Kind::Int => "int",
-        Kind::Long => "long",
-        Kind::Float => "float",
-        Kind::Double => "double",
-        Kind::Decimal32 => "decimal32",
-        Kind::Decimal64 => "decimal64",
-        Kind::Decimal128 => "decimal128",
-        Kind::Char => "char",
-        Kind::Timestamp => "timestamp",
-        Kind::Uuid => "uuid",
-        Kind::Binary => "binary",
-        Kind::String => "string",
-        Kind::Symbol => "symbol",
-        Kind::List => "list",
-        Kind::Map => "map",
-        Kind::Array => "array",
-    }
 }
 
 /// Appends `name:` and the bytes in lower-case hex.

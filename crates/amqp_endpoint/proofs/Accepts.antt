@@ -11,7 +11,7 @@ use Rattle.amqp_perform.specs.declared.fault.BodyFault.TheVariants as body
 use Rattle.amqp_perform.specs.Again.{IsOfField, AreOfFields}
 use Rattle.amqp_perform.specs.Bodies.{BodyOf}
 use Rattle.amqp_perform.specs.Cells.{Cell, Absent, Whole, Bytes, Span}
-use Rattle.amqp_perform.specs.Reading.{body_at, fault_of}
+use Rattle.amqp_perform.specs.BodyReading.{body_at, fault_of}
 use Rattle.amqp_perform.specs.Tables.{Absence, mandatory, optional, Field, field, uint, fields_of, begin_fields, attach_fields, transfer_fields}
 use Rattle.amqp_session.specs.declared.fault.SessionFault.{SessionFault}
 use Rattle.amqp_session.specs.declared.fault.CallFault as session_fault
@@ -314,10 +314,12 @@ stands_for frames calls config h sound =
     nothing channel (Some x) e none =
         sym (got (channels config) (λ k. life_state lived.state_of (part k h)) channel x e).1 ∙ ap (λ (l : Slot (Life SessionTerms SessionEvent)). life_state lived.state_of l) none
 
+-- what a unit comes to is an event that the connection may take
 pub units_may : WhatIsRead → WhatIsWritten → FramesAccepted → CallsAccepted → (config : Configured) (h : List ConnectionEvent) (u : StreamUnit) → Sound config h → is_dead (phase_of h) ≡ false →
     ((i : ℕ) → slice_index (bytes_of u) i < 256) → ConnectionMay (state_of config h) (event_on (state_of config h) (line_of (state_of config h) u))
 units_may found written frames calls config h u sound over each = unit_may found written (state_of config h) (stands_for frames calls config h sound) u over each
 
+-- so is a call that is not refused
 pub calls_may : FramesAccepted → CallsAccepted → (config : Configured) (h : List ConnectionEvent) (unsent : List ℕ) (channel : ℕ) (c : asks.Call) → Sound config h → IsCallInRange c →
     call_fault (state_of config h) unsent channel c ≡ None → ConnectionMay (state_of config h) (call_event (state_of config h) channel c)
 calls_may frames calls config h unsent channel c sound range none = call_may (state_of config h) (stands_for frames calls config h sound) unsent channel c range none

@@ -13,7 +13,7 @@ use Rattle.amqp_session.specs.Places.{Life, IfLive, tabulate, life_state}
 use Rattle.amqp_session.specs.Sessions.{SessionState, SessionEvent, session_bytes}
 use Rattle.amqp_endpoint.specs.Configs.{Configured}
 use Rattle.amqp_endpoint.specs.Connections.{ConnectionState, ConnectionEvent, channels, channel_bytes, connection_bytes}
-use Rattle.amqp_endpoint.specs.Held.{channel_used, session_count, channel_links, link_count, link_most, parts, part_bytes, HoldsWithin}
+use Rattle.amqp_endpoint.specs.Held.{channel_used, session_count, channel_links, link_count, link_most, session_parts, session_part_bytes, HoldsWithin}
 use Rattle.amqp_endpoint.specs.Histories.{part, state_of, IsSoundPart, Sound}
 use Rattle.amqp_endpoint.specs.Steps.{EndpointState}
 use Rattle.amqp_session.proofs.Places.{tabulate_long, sums_same, sums_within}
@@ -22,6 +22,7 @@ use Rattle.amqp_session.proofs.Places.{tabulate_long, sums_same, sums_within}
 abbrev pub SessionCounted : Type 0
 SessionCounted = (terms : SessionTerms) (h : List SessionEvent) → session_bytes (session.state_of terms h) ≡ 64 + sum_by laws.part_bytes (laws.parts terms h)
 
+-- the law of a session's bytes, which stands in its crate
 abbrev pub SessionBound : Type 0
 SessionBound = (terms : SessionTerms) (h : List SessionEvent) → session.Sound terms h →
     session_bytes (session.state_of terms h) ≤ 64 + laws.used_count (session.state_of terms h) * (1407 + terms.bounds.allowed * (terms.bounds.max_message_size + 96))
@@ -41,14 +42,15 @@ sum_within most f k (suc n) each =
 
 -- The connection. -------------------------------------------------------------------------------------------------------
 
-one_counted : SessionCounted → (l : Slot (Life SessionTerms SessionEvent)) → channel_bytes (life_state session.state_of l) ≡ part_bytes l
+one_counted : SessionCounted → (l : Slot (Life SessionTerms SessionEvent)) → channel_bytes (life_state session.state_of l) ≡ session_part_bytes l
 one_counted law Free = refl
 one_counted law (Live l) = law l.0 l.1
 one_counted law Waits = refl
 
-pub connection_counted : SessionCounted → (config : Configured) (h : List ConnectionEvent) → connection_bytes (state_of config h) ≡ sum_by part_bytes (parts config h)
+-- bytes kept are counted over the parts of the history
+pub connection_counted : SessionCounted → (config : Configured) (h : List ConnectionEvent) → connection_bytes (state_of config h) ≡ sum_by session_part_bytes (session_parts config h)
 connection_counted law config h =
-    sums_same channel_bytes part_bytes (λ k. life_state session.state_of (part k h)) (λ k. part k h) (λ k. one_counted law (part k h)) 0 (channels config)
+    sums_same channel_bytes session_part_bytes (λ k. life_state session.state_of (part k h)) (λ k. part k h) (λ k. one_counted law (part k h)) 0 (channels config)
 
 most_by : Bounds → ℕ
 most_by b = 1407 + b.allowed * (b.max_message_size + 96)
@@ -65,6 +67,7 @@ one_within law config (Live l) sound =
     omega (arith, bound, product)
 one_within law config Waits sound = omega arith
 
+-- and stay within the bound by the sessions and links in use
 pub connection_within : SessionBound → (config : Configured) (h : List ConnectionEvent) → Sound config h →
     connection_bytes (state_of config h) ≤ 64 * session_count (state_of config h) + link_count (state_of config h) * link_most config
 connection_within law config h sound =
@@ -94,8 +97,9 @@ one_links config Waits sound = omega arith
 
 -- what is owed of the bytes of a connection
 abbrev pub IsHeldCount : Type 0
-IsHeldCount = (config : Configured) (h : List ConnectionEvent) → connection_bytes (state_of config h) ≡ sum_by part_bytes (parts config h)
+IsHeldCount = (config : Configured) (h : List ConnectionEvent) → connection_bytes (state_of config h) ≡ sum_by session_part_bytes (session_parts config h)
 
+-- that they do, of any history
 abbrev pub IsHeldBound : Type 0
 IsHeldBound = (config : Configured) (h : List ConnectionEvent) → Sound config h →
     connection_bytes (state_of config h) ≤ 64 * session_count (state_of config h) + link_count (state_of config h) * link_most config
@@ -103,6 +107,7 @@ IsHeldBound = (config : Configured) (h : List ConnectionEvent) → Sound config 
 added : (filled unsent kept max sessions links : ℕ) → filled ≤ max → unsent ≤ 8192 → kept ≤ 64 * sessions + links → filled + unsent + kept ≤ max + 8192 + 64 * sessions + links
 added filled unsent kept max sessions links a b c = omega (arith, a, b, c)
 
+-- what an endpoint holds is counted and bounded
 pub within : IsHeldCount → IsHeldBound → (config : Configured) (h : List ConnectionEvent) (s : EndpointState) → s.connection ≡ state_of config h → Sound config h →
     length s.input.filled ≤ config.max_frame → length s.unsent ≤ 8192 → HoldsWithin config h s
 within count bound config h s e sound buffer output =

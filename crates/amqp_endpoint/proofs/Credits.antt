@@ -33,6 +33,7 @@ abbrev pub SessionGranted : Type 0
 SessionGranted = (terms : SessionTerms) (h : List SessionEvent) (handle n : ℕ) (l : LiveLink) → lived.Sound terms h → one.slot_at (lived.state_of terms h) handle ≡ Live l →
     credit_at (lived.state_of terms (one.Called handle (Granted n) ∷ h)) handle ≡ l.link.credit + n
 
+-- the law that nothing but a grant raises the credit of a session's link
 abbrev pub SessionMost : Type 0
 SessionMost = (terms : SessionTerms) (h : List SessionEvent) (e : SessionEvent) (handle : ℕ) →
     credit_at (lived.state_of terms (e ∷ h)) handle ≤ credit_at (lived.state_of terms h) handle + granted_at handle e
@@ -144,6 +145,7 @@ slot_most channel handle place Free c = omega arith
 slot_most channel handle place (Live s) c = either_most (nat_eq place channel) (granted_at handle (call_event s c)) (granted_by handle c) (call_most handle s c)
 slot_most channel handle place Waits c = omega arith
 
+-- the same of a connection
 pub credit_most : SessionMost → (config : Configured) (h : List Happened) (x : Happened) (channel handle : ℕ) →
     credit_on (state_of config (events config (x ∷ h))) channel handle ≤ credit_on (state_of config (events config h)) channel handle + granted_to channel handle x
 credit_most law config h (Acted u) channel handle =
@@ -158,6 +160,7 @@ credit_most law config h Closed channel handle = event_most law config (events c
 credit_most law config h Beat channel handle = omega arith
 credit_most law config h Over channel handle = event_most law config (events config h) event.Finished channel handle
 
+-- an accepted grant raises credit by exactly as much
 pub credit_granted : SessionGranted → (config : Configured) (h : List Happened) (channel handle n : ℕ) (l : LiveLink) → Sound config (events config h) →
     link_at (state_of config (events config h)) channel handle ≡ Live l →
     credit_on (state_of config (events config (Called channel (asks.Grant handle n) ∷ h))) channel handle ≡ l.link.credit + n

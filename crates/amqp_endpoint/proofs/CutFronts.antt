@@ -12,7 +12,7 @@ use Rattle.amqp_endpoint.specs.declared.serving.Policy.{Policy}
 use Rattle.amqp_endpoint.specs.Calls.{call_fault, call_spoken}
 use Rattle.amqp_endpoint.specs.Configs.{Configured}
 use Rattle.amqp_endpoint.specs.Connections.{slot_at, is_dead}
-use Rattle.amqp_endpoint.specs.Cuts.{Made, called_by, called, answer_at, channel_of, call_for, given, topped, all_topped, topped_up}
+use Rattle.amqp_endpoint.specs.Cuts.{Made, called_by, called, answer_at, place_channel, call_for, topped_by, topped, all_topped, topped_up}
 use Rattle.amqp_endpoint.specs.Cuts.{done_taken, done_from, answered, served_one, served_all, AreTimely, first_made, IsMade, IsFront}
 use Rattle.amqp_endpoint.specs.Lines.{line_of}
 use Rattle.amqp_endpoint.specs.Replies.{joined, reply_on}
@@ -53,9 +53,9 @@ called_grows (Some fault) m channel c = grows_none m
 call_grows : (m : Made) (channel : ℕ) (c : session.Call) → Grows m (called m channel c)
 call_grows m channel c = called_grows (call_fault m.connection [] channel c) m channel c
 
-given_grows : (n : ℕ) (m : Made) (place : Place) → Grows m (given n m place)
+given_grows : (n : ℕ) (m : Made) (place : Place) → Grows m (topped_by n m place)
 given_grows zero m place = grows_none m
-given_grows (suc n) m place = call_grows m (channel_of place) (call_for place (suc n))
+given_grows (suc n) m place = call_grows m (place_channel place) (call_for place (suc n))
 
 all_grow : (p : Policy) (places : List Place) (m : Made) → Grows m (all_topped p places m)
 all_grow p [] m = grows_none m

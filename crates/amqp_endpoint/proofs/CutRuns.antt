@@ -17,7 +17,7 @@ use Rattle.amqp_endpoint.specs.declared.event.Outcome.{Outcome}
 use Rattle.amqp_endpoint.specs.declared.event.Outcome.TheVariants as outcome
 use Rattle.amqp_endpoint.specs.declared.serving.Policy.{Policy}
 use Rattle.amqp_endpoint.specs.Connections.{ConnectionState, is_dead}
-use Rattle.amqp_endpoint.specs.Cuts.{Made, done_from, given, all_topped, answered, served_one, served_all, AreTimely}
+use Rattle.amqp_endpoint.specs.Cuts.{Made, done_from, topped_by, all_topped, answered, served_one, served_all, AreTimely}
 use Rattle.amqp_endpoint.specs.Lines.{line_of, told_on}
 use Rattle.amqp_endpoint.specs.Replies.{reply_on}
 use Rattle.amqp_endpoint.specs.Runs.{Call, Feed, InSession, Output, Fed, MovedOut}
@@ -29,7 +29,7 @@ use Rattle.amqp_endpoint.specs.Steps.{EndpointState, IsTaken, IsActed, IsKept, I
 use Rattle.amqp_endpoint.proofs.CutTops.{AreStill, all_unchanged}
 use Rattle.amqp_endpoint.proofs.CutSteps.{made_at, made_same, moved_made, kept_made, take_made, settle_made, top_call, top_made, told_still}
 use Rattle.amqp_endpoint.proofs.Servings.{unchanged_on}
-use Rattle.amqp_endpoint.proofs.ServingFeeds.{room_for_all}
+use Rattle.amqp_endpoint.proofs.ServingFeeds.{never_starved, room_for_all}
 use Rattle.amqp_endpoint.proofs.ServingTops.{call_keeps}
 
 -- Stands that serving never leaves. -------------------------------------------------------------------------------------
@@ -230,15 +230,6 @@ nothing_rests max stage bytes none = record {
   none = λ u more is e. let l = ap (λ (k : List ℕ). length k) (sym none ∙ e) in omega (arith, unit_length max stage u is, l, length-append (bytes_of u) more);
 }
 
--- a unit that was acted upon tells of no want of memory
-never_starved : (c : ConnectionState) (o : Option Event) → told_outcome c o ≡ outcome.NoMemory → ⊥
-never_starved c (Some e) is = absurd (grind (arith, is))
-never_starved c None is = by (is_dead c.phase) is
-  where
-    by : (over : Bool) → (if over then outcome.Dead else outcome.More) ≡ outcome.NoMemory → ⊥
-    by true f = absurd (grind (arith, f))
-    by false f = absurd (grind (arith, f))
-
 module _ (p : Policy) (s next : EndpointState) (b : Stand) (t : EndpointState) (piece : List ℕ) (used : ℕ) (told : Outcome) (xs : List Step) (w r : List ℕ) where
   -- what is to be made once it was fed
   abbrev then_made : Made
@@ -366,7 +357,7 @@ module _ (p : Policy) (s next : EndpointState) (b : Stand) (t : EndpointState) (
         ]
 
   -- a piece, wherever it ends
-  fed_made : s.unsent ≡ [] → (over : Bool) → is_dead s.connection.phase ≡ over → steps.Feeds over s next piece used told →
+  fed_made : s.unsent ≡ [] → (over : Bool) → is_dead s.connection.phase ≡ over → steps.FeedDone over s next piece used told →
       (told ≡ outcome.NoMemory → IsHalted next t xs b (w ++ []) (r ++ [])) → Rest → Whole
   fed_made silent true is d halts rest = fed_dead d.0 d.1 d.2 rest
   fed_made silent false is d halts rest = fed_alive d.between d.taken is silent d.comes.unit d.comes.none halts rest
@@ -414,5 +405,5 @@ follows (TopsUp {p} {b} {s} {last} {steps} next place places answer none lacks d
     goes_on p s next b last (record { call = top_up_by place (lack p s.connection place); answer = answer }) steps w r y.0 y.1
     (ap (λ (c : Call). taken_by c answer) (top_call place (lack p s.connection place))) (follows x e _ _)
 follows (Passes {p} {b} {s} {last} {steps} place places lacks x) e w r =
-    goes_same p s b last steps w r (ap (λ (n : ℕ). all_topped p places (given n (made_at s w r) place)) lacks) (follows x e w r)
+    goes_same p s b last steps w r (ap (λ (n : ℕ). all_topped p places (topped_by n (made_at s w r) place)) lacks) (follows x e w r)
 follows (Finishes next end none does x) e w r = absurd (e (ended x tt))

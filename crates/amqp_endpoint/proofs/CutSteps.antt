@@ -13,7 +13,7 @@ use Rattle.amqp_endpoint.specs.declared.serving.Policy.{Policy}
 use Rattle.amqp_endpoint.specs.Calls.{call_fault, call_event, call_spoken}
 use Rattle.amqp_endpoint.specs.Configs.{Configured}
 use Rattle.amqp_endpoint.specs.Connections.{ConnectionState, connection_after, slot_at}
-use Rattle.amqp_endpoint.specs.Cuts.{Made, called_by, called, answered_by, answer_at, channel_of, call_for, given, all_topped, topped_up, done_taken, done_from}
+use Rattle.amqp_endpoint.specs.Cuts.{Made, called_by, called, answered_by, answer_at, place_channel, call_for, topped_by, all_topped, topped_up, done_taken, done_from}
 use Rattle.amqp_endpoint.specs.Replies.{joined}
 use Rattle.amqp_endpoint.specs.Runs.{Call, InSession, Answer, Fed, Accepted, Dropped, HandedUp, Refused, MovedOut, Holds, Ended, Does}
 use Rattle.amqp_endpoint.specs.Runs.{CallDone, IsMoved, IsWritten, accepted_answer}
@@ -139,11 +139,11 @@ settle_made p s t channel id answer w r none d =
     ap (λ (m : Made). topped_up p m) (silent_made s t channel (session.Settle id p.outcome) w r answer none d).made
 
 -- The call that tops a place up is one for the session on its channel.
-pub top_call : (place : Place) (n : ℕ) → top_up_by place n ≡ InSession (channel_of place) (call_for place n)
+pub top_call : (place : Place) (n : ℕ) → top_up_by place n ≡ InSession (place_channel place) (call_for place n)
 top_call (WindowOf channel) n = refl
 top_call (CreditOf channel handle) n = refl
 
-given_some : (n : ℕ) (m : Made) (place : Place) → 0 < n → given n m place ≡ called m (channel_of place) (call_for place n)
+given_some : (n : ℕ) (m : Made) (place : Place) → 0 < n → topped_by n m place ≡ called m (place_channel place) (call_for place n)
 given_some zero m place some = absurd (omega (arith, some))
 given_some (suc n) m place some = refl
 
@@ -157,7 +157,7 @@ top_made p s t place places answer w r none some d =
     let n = lack p s.connection place in
     let is = top_call place (lack p s.connection place) in
     let done = subst (λ (c : Call). Does s t c answer) is d in
-    let y = silent_made s t (channel_of place) (call_for place n) w r answer none done in (
+    let y = silent_made s t (place_channel place) (call_for place n) w r answer none done in (
       ap (λ (m : Made). all_topped p places m)
           (given_some n (made_at s w r) place some ∙ y.made ∙ ap (λ (c : Call). made_at t (w ++ moved_by answer) (r ++ recorded_by c answer)) (sym is)),
       y.input,

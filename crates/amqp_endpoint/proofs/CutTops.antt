@@ -19,7 +19,7 @@ use Rattle.amqp_endpoint.specs.declared.serving.Policy.{Policy}
 use Rattle.amqp_endpoint.specs.Calls.{at_session, of_option, writes, full_fault, call_fault, call_event, slot_event}
 use Rattle.amqp_endpoint.specs.Configs.{Configured}
 use Rattle.amqp_endpoint.specs.Connections.{ConnectionState, InSession, connection_after, slot_at, is_dead, is_closing}
-use Rattle.amqp_endpoint.specs.Cuts.{Made, called_by, called, channel_of, call_for, given, topped, all_topped}
+use Rattle.amqp_endpoint.specs.Cuts.{Made, called_by, called, place_channel, call_for, topped_by, topped, all_topped}
 use Rattle.amqp_endpoint.specs.Takings.{link_in}
 use Rattle.amqp_endpoint.specs.Serving.{Place, WindowOf, CreditOf, window_lack, credit_lack, lack}
 
@@ -67,13 +67,13 @@ fault_in phase x c = or_else (where_so (is_dead phase || is_closing phase) refus
 abbrev StillIn : Policy → Configured → Phase → Slot SessionState → Place → Type 0
 StillIn p config phase x place = (lack_in p config x place ≡ 0) ⊎ ((fault : CallFault) × (fault_in phase x (call_for place (lack_in p config x place)) ≡ Some fault))
 
-lack_is : (p : Policy) (s : ConnectionState) (place : Place) → lack p s place ≡ lack_in p s.config (slot_at s (channel_of place)) place
+lack_is : (p : Policy) (s : ConnectionState) (place : Place) → lack p s place ≡ lack_in p s.config (slot_at s (place_channel place)) place
 lack_is p s (WindowOf channel) = refl
 lack_is p s (CreditOf channel handle) = refl
 
 -- it is so on a connection
 abbrev pub Still : Policy → ConnectionState → Place → Type 0
-Still p s place = StillIn p s.config s.phase (slot_at s (channel_of place)) place
+Still p s place = StillIn p s.config s.phase (slot_at s (place_channel place)) place
 
 -- Gifts. --------------------------------------------------------------------------------------------------------------
 
@@ -107,8 +107,8 @@ lives_there p config (Live s) place n e = (s, refl)
 lives_there p config Waits (WindowOf channel) n e = absurd (omega (arith, e))
 lives_there p config Waits (CreditOf channel handle) n e = absurd (omega (arith, e))
 
-event_is : (s : ConnectionState) (place : Place) (t : SessionState) (n : ℕ) → slot_at s (channel_of place) ≡ Live t →
-    call_event s (channel_of place) (call_for place n) ≡ InSession (channel_of place) (gift place n)
+event_is : (s : ConnectionState) (place : Place) (t : SessionState) (n : ℕ) → slot_at s (place_channel place) ≡ Live t →
+    call_event s (place_channel place) (call_for place n) ≡ InSession (place_channel place) (gift place n)
 event_is s (WindowOf channel) t n e = ap (λ (x : Slot SessionState). slot_event channel x (session.Widen n)) e
 event_is s (CreditOf channel handle) t n e = ap (λ (x : Slot SessionState). slot_event channel x (session.Grant handle n)) e
 
@@ -179,16 +179,16 @@ module _ (p : Policy) (config : Configured) (phase : Phase) where
   still_went true Waits place other n e none still = still
 
 -- A call that was accepted for another place.
-stays : (p : Policy) (s : ConnectionState) (place other : Place) (n : ℕ) (t : SessionState) → slot_at s (channel_of other) ≡ Live t →
-    StillIn p s.config s.phase (went (nat_eq (channel_of other) (channel_of place)) (gift other n) (slot_at s (channel_of place))) place →
-    Still p (connection_after s (call_event s (channel_of other) (call_for other n))) place
+stays : (p : Policy) (s : ConnectionState) (place other : Place) (n : ℕ) (t : SessionState) → slot_at s (place_channel other) ≡ Live t →
+    StillIn p s.config s.phase (went (nat_eq (place_channel other) (place_channel place)) (gift other n) (slot_at s (place_channel place))) place →
+    Still p (connection_after s (call_event s (place_channel other) (call_for other n))) place
 stays p s place other n t live still =
     subst (λ (e : _). Still p (connection_after s e) place) (sym (event_is s other t n live))
-    (subst (λ (x : Slot SessionState). StillIn p s.config s.phase x place) (sym (slot_went s (channel_of place) (channel_of other) (gift other n))) still)
+    (subst (λ (x : Slot SessionState). StillIn p s.config s.phase x place) (sym (slot_went s (place_channel place) (place_channel other) (gift other n))) still)
 
 module _ (p : Policy) (m : Made) (place : Place) where
   abbrev here : Slot SessionState
-  here = slot_at m.connection (channel_of place)
+  here = slot_at m.connection (place_channel place)
 
   lacks : (n : ℕ) → lack p m.connection place ≡ n → lack_in p m.connection.config here place ≡ n
   lacks n e = sym (lack_is p m.connection place) ∙ e
@@ -197,50 +197,50 @@ module _ (p : Policy) (m : Made) (place : Place) where
   after_topped : Still p (topped p m place).connection place
   after_topped = by (lack p m.connection place) refl
     where
-      by_fault : (n : ℕ) → lack p m.connection place ≡ suc n → (o : Option CallFault) → call_fault m.connection [] (channel_of place) (call_for place (suc n)) ≡ o →
-          Still p (called_by o m (channel_of place) (call_for place (suc n))).connection place
+      by_fault : (n : ℕ) → lack p m.connection place ≡ suc n → (o : Option CallFault) → call_fault m.connection [] (place_channel place) (call_for place (suc n)) ≡ o →
+          Still p (called_by o m (place_channel place) (call_for place (suc n))).connection place
       by_fault n e (Some fault) is = inr (fault, ap (λ (k : ℕ). fault_in m.connection.phase here (call_for place k)) (lacks (suc n) e) ∙ is)
       by_fault n e None is =
           let live = lives_there p m.connection.config here place n (lacks (suc n) e) in
           stays p m.connection place place (suc n) live.0 live.1
-          (subst (λ (b : Bool). StillIn p m.connection.config m.connection.phase (went b (gift place (suc n)) here) place) (sym (eq-eqb (channel_of place) (channel_of place) refl))
+          (subst (λ (b : Bool). StillIn p m.connection.config m.connection.phase (went b (gift place (suc n)) here) place) (sym (eq-eqb (place_channel place) (place_channel place) refl))
           (inl (lack_after p m.connection.config here place n (lacks (suc n) e))))
 
-      by : (n : ℕ) → lack p m.connection place ≡ n → Still p (given n m place).connection place
+      by : (n : ℕ) → lack p m.connection place ≡ n → Still p (topped_by n m place).connection place
       by zero e = inl (lacks 0 e)
-      by (suc n) e = by_fault n e (call_fault m.connection [] (channel_of place) (call_for place (suc n))) refl
+      by (suc n) e = by_fault n e (call_fault m.connection [] (place_channel place) (call_for place (suc n))) refl
 
   -- It stays so while another one is topped up.
   still_topped : (other : Place) → Still p m.connection place → Still p (topped p m other).connection place
   still_topped other still = by (lack p m.connection other) refl
     where
-      by_fault : (n : ℕ) → lack p m.connection other ≡ suc n → (o : Option CallFault) → call_fault m.connection [] (channel_of other) (call_for other (suc n)) ≡ o →
-          Still p (called_by o m (channel_of other) (call_for other (suc n))).connection place
+      by_fault : (n : ℕ) → lack p m.connection other ≡ suc n → (o : Option CallFault) → call_fault m.connection [] (place_channel other) (call_for other (suc n)) ≡ o →
+          Still p (called_by o m (place_channel other) (call_for other (suc n))).connection place
       by_fault n e (Some fault) is = still
       by_fault n e None is =
-          let lack_there : lack_in p m.connection.config (slot_at m.connection (channel_of other)) other ≡ suc n = sym (lack_is p m.connection other) ∙ e in
-          let live = lives_there p m.connection.config (slot_at m.connection (channel_of other)) other n lack_there in
+          let lack_there : lack_in p m.connection.config (slot_at m.connection (place_channel other)) other ≡ suc n = sym (lack_is p m.connection other) ∙ e in
+          let live = lives_there p m.connection.config (slot_at m.connection (place_channel other)) other n lack_there in
           stays p m.connection place other (suc n) live.0 live.1
-          (still_went p m.connection.config m.connection.phase (nat_eq (channel_of other) (channel_of place)) here place other n
-          (λ so. subst (λ (k : ℕ). lack_in p m.connection.config (slot_at m.connection k) other ≡ suc n) (eqb-true (channel_of other) (channel_of place) so) lack_there)
-          (λ so. subst (λ (k : ℕ). fault_in m.connection.phase (slot_at m.connection k) (call_for other (suc n)) ≡ None) (eqb-true (channel_of other) (channel_of place) so) is) still)
+          (still_went p m.connection.config m.connection.phase (nat_eq (place_channel other) (place_channel place)) here place other n
+          (λ so. subst (λ (k : ℕ). lack_in p m.connection.config (slot_at m.connection k) other ≡ suc n) (eqb-true (place_channel other) (place_channel place) so) lack_there)
+          (λ so. subst (λ (k : ℕ). fault_in m.connection.phase (slot_at m.connection k) (call_for other (suc n)) ≡ None) (eqb-true (place_channel other) (place_channel place) so) is) still)
 
-      by : (n : ℕ) → lack p m.connection other ≡ n → Still p (given n m other).connection place
+      by : (n : ℕ) → lack p m.connection other ≡ n → Still p (topped_by n m other).connection place
       by zero e = still
-      by (suc n) e = by_fault n e (call_fault m.connection [] (channel_of other) (call_for other (suc n))) refl
+      by (suc n) e = by_fault n e (call_fault m.connection [] (place_channel other) (call_for other (suc n))) refl
 
   -- Topping up a place that is still changes nothing.
   topped_still : Still p m.connection place → topped p m place ≡ m
   topped_still still = by (lack p m.connection place) refl
     where
-      by_fault : (n : ℕ) → lack p m.connection place ≡ suc n → (o : Option CallFault) → call_fault m.connection [] (channel_of place) (call_for place (suc n)) ≡ o →
-          called_by o m (channel_of place) (call_for place (suc n)) ≡ m
+      by_fault : (n : ℕ) → lack p m.connection place ≡ suc n → (o : Option CallFault) → call_fault m.connection [] (place_channel place) (call_for place (suc n)) ≡ o →
+          called_by o m (place_channel place) (call_for place (suc n)) ≡ m
       by_fault n e (Some fault) is = refl
       by_fault n e None is = absurd (not_given p m.connection.config m.connection.phase here place n still (lacks (suc n) e) is)
 
-      by : (n : ℕ) → lack p m.connection place ≡ n → given n m place ≡ m
+      by : (n : ℕ) → lack p m.connection place ≡ n → topped_by n m place ≡ m
       by zero e = refl
-      by (suc n) e = by_fault n e (call_fault m.connection [] (channel_of place) (call_for place (suc n))) refl
+      by (suc n) e = by_fault n e (call_fault m.connection [] (place_channel place) (call_for place (suc n))) refl
 
 -- All places. ---------------------------------------------------------------------------------------------------------
 
@@ -276,9 +276,9 @@ config_call m channel c = config_called (call_fault m.connection [] channel c) m
 config_topped : (p : Policy) (m : Made) (place : Place) → (topped p m place).connection.config ≡ m.connection.config
 config_topped p m place = by (lack p m.connection place)
   where
-    by : (n : ℕ) → (given n m place).connection.config ≡ m.connection.config
+    by : (n : ℕ) → (topped_by n m place).connection.config ≡ m.connection.config
     by zero = refl
-    by (suc n) = config_call m (channel_of place) (call_for place (suc n))
+    by (suc n) = config_call m (place_channel place) (call_for place (suc n))
 
 -- Topping up does not change it.
 pub config_all : (p : Policy) (places : List Place) (m : Made) → (all_topped p places m).connection.config ≡ m.connection.config

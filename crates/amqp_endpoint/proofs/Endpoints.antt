@@ -91,11 +91,13 @@ pub record IsEnded (old new : SplitterState) : Type 0 where
   pub filled : new.filled ≡ []
   pub header : new.stage ≡ Header → old.stage ≡ Header
 
+-- no header is due behind a unit
 pub due_no_header : (u : StreamUnit) → due_after u ≡ Header → ⊥
 due_no_header (HeaderUnit bytes) e = absurd (grind (arith, e))
 due_no_header (FrameUnit bytes) e = absurd (grind (arith, e))
 due_no_header (FaultUnit f bytes) e = absurd (grind (arith, e))
 
+-- what a finish does to the input
 pub ended : (old new : SplitterState) → IsHeld old.limit old.stage old.filled → ((u : StreamUnit) → Waits old u → IsEmptied old new (due_after u)) →
     ((IsOne old.limit old.stage old.filled → ⊥) → IsEmptied old new old.stage) → IsEnded old new
 ended old new held goes rest = by_one (one_or_not old.limit old.stage old.filled held)
@@ -109,6 +111,7 @@ gone_at k [] i = refl
 gone_at k (s ∷ slots) zero = refl
 gone_at k (s ∷ slots) (suc i) = gone_at (suc k) slots i
 
+-- it leaves what holds of every endpoint
 pub still_sound : (old new : SplitterState) (unsent : List ℕ) (s : ConnectionState) → IsEndpoint old unsent s → IsEnded old new → IsHeld new.limit new.stage new.filled →
     IsEndpoint new unsent (connection_after s Finished)
 still_sound old new unsent s sound ended held = record {
@@ -120,17 +123,20 @@ still_sound old new unsent s sound ended held = record {
   fresh = λ e. let was = sound.fresh (ended.header e) in record { none = was.none; shut = refl; free = λ channel. gone_at 0 s.sessions channel };
 }
 
+-- and is the finish of the whole endpoint
 pub is_finished : (old : EndpointState) (input : SplitterState) (s : ConnectionState) → IsEnded old.input input → s ≡ connection_after old.connection Finished →
     IsFinished old (record { input = input; unsent = old.unsent; connection = s })
 is_finished old input s ended e = record { limit = ended.limit; filled = ended.filled; unsent = refl; connection = e }
 
 -- At the start. ---------------------------------------------------------------------------------------------------------
 
+-- a table of free places has nothing anywhere
 pub free_at : (k n i : ℕ) → unwrap_or (slice_get (tabulate {A = Slot SessionState} k n (λ j. Free)) i) Free ≡ Free
 free_at k zero i = refl
 free_at k (suc n) zero = refl
 free_at k (suc n) (suc i) = free_at (suc k) n i
 
+-- a new endpoint has what holds of every endpoint
 pub sound_start : (config : Configured) (max room : ℕ) → max ≡ config.max_frame → 512 ≤ max → max ≤ 1048576 → IsHeld max Header [] →
     IsEndpoint (record { limit = max; stage = Header; filled = []; room = room }) [] (connection_begins config)
 sound_start config max room e least most held = record {
@@ -142,6 +148,7 @@ sound_start config max room e least most held = record {
   fresh = λ h. record { none = refl; shut = refl; free = λ channel. free_at 0 (suc config.channel_max) channel };
 }
 
+-- so has one whose parts are new
 pub sound_new : (config : Configured) (max room : ℕ) (input : SplitterState) (out : List ℕ) (s : ConnectionState) →
     input ≡ record { limit = max; stage = Header; filled = []; room = room } → out ≡ [] → s ≡ connection_begins config →
     max ≡ config.max_frame → 512 ≤ max → max ≤ 1048576 → IsHeld input.limit input.stage input.filled → IsEndpoint input out s

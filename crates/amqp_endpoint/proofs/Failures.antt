@@ -19,6 +19,7 @@ of_news channel (news.Settled count) = refl
 of_news channel (news.Detached handle dropped) = refl
 of_news channel (news.Failed handle c dropped) = refl
 
+-- a line tells of a failure exactly where it names a fault
 pub failures : (s : ConnectionState) (l : Line) → failure_in (told_on s l) ≡ fault_on l
 failures s (line.SessionFrame channel live f) = of_news channel (session.news_of live f)
 failures s _ = refl

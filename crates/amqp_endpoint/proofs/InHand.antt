@@ -94,6 +94,7 @@ transfer_read p payload =
 disposition_read : (p : Disposition) → disposition_in (disposition_cells p) ≡ ForSession (Disposes (disposing p))
 disposition_read p = rw (role_back p.role, number_back p.last, flag_back p.settled) refl
 
+-- a performative in hand says what its fields say
 pub in_hand : (p : Performative) (payload : List ℕ) → read_in (type_of p) (performative_cells p) payload ≡ read_of p payload
 in_hand (performative.Open p) payload = refl
 in_hand (performative.Begin p) payload = rw (number_back p.remote_channel) refl

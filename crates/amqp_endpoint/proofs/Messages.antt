@@ -34,7 +34,7 @@ use Rattle.amqp_endpoint.specs.Runs.{Acted, Called, Closed, Beat, Over, events}
 use Rattle.amqp_endpoint.specs.Credits.{granted_since}
 use Rattle.amqp_endpoint.proofs.Grants.{grants_of_life}
 use Rattle.amqp_endpoint.specs.Takings.{Taking, lives, handed_up_in, taking_on, taking_by, takings, taken_in, part_in, link_part, link_in, link_at, content_of, HasItsPart}
-use Rattle.amqp_endpoint.specs.Traces.{Told, Tells, Done, Ends, tells, tellings, message_in, placed}
+use Rattle.amqp_endpoint.specs.Traces.{Told, Tells, Done, Ends, event_told, tellings, message_in, placed}
 use Rattle.amqp_endpoint.proofs.Takings.{taken_by_part}
 
 -- Frames hand nothing up. -----------------------------------------------------------------------------------------------
@@ -57,7 +57,7 @@ unit_quiet s h _ = refl
 
 -- What is told. ---------------------------------------------------------------------------------------------------------
 
-event_silent : (ts : List Told) (o : Option Event) → flat_map message_in (ts ++ tells o) ≡ flat_map message_in ts
+event_silent : (ts : List Told) (o : Option Event) → flat_map message_in (ts ++ event_told o) ≡ flat_map message_in ts
 event_silent ts None = ap (λ (x : List Told). flat_map message_in x) (append-nil ts)
 event_silent ts (Some e) = flat_map-append message_in ts (Tells e ∷ []) ∙ append-nil (flat_map message_in ts)
 
@@ -180,6 +180,7 @@ has_part select config part a past granted taken l stands is sound grants bounds
       within = subst (λ (x : LiveLink). x.link.credit + open_count x.link ≤ config.bounds.allowed) (sym is) within;
     }
 
+-- of a link that lives, the messages taken and the rest are what its part of the history gives
 pub taken_in_order : OpenSelected → (config : Configured) (h : List ConnectionEvent) (channel handle : ℕ) (l : LiveLink) → Sound config h → link_at (state_of config h) channel handle ≡ Live l →
     HasItsPart config (link_part channel handle h) (granted_since channel handle h) (taken_in channel handle (lives channel handle h) h) l
 taken_in_order select config h channel handle l sound here = by (slot_at (state_of config h) channel) refl here

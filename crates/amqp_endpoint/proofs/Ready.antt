@@ -48,6 +48,7 @@ alive : (dead : Bool) (rest : Option CallFault) → IsReadyFault (or_else (where
 alive true rest e = absurd (grind (arith, e))
 alive false rest e = e
 
+-- a take is refused so where no whole delivery is left
 pub none_ready : (config : Configured) (h : List ConnectionEvent) (unsent : List ℕ) (channel handle : ℕ) → Sound config h →
     call_fault (state_of config h) unsent channel (Take handle) ≡ Some refused.NothingReady →
     HasNoneReady (state_of config h) channel handle
@@ -74,6 +75,7 @@ refused_on handle x l e none =
     ap (λ (y : Slot LiveLink). or_else (of_option (at_link y (λ l. where_so (is_none (first_ready l)) of_session.NothingReady))) None) e
     ∙ ap (λ (ds : List Delivery). or_else (of_option (where_so (is_none (slice_get ds 0)) of_session.NothingReady)) None) none
 
+-- and only there
 pub refused_at : (config : Configured) (h : List ConnectionEvent) (unsent : List ℕ) (channel handle : ℕ) → Sound config h → HasNoneReady (state_of config h) channel handle →
     call_fault (state_of config h) unsent channel (Take handle) ≡ Some refused.NothingReady
 refused_at config h unsent channel handle sound x =

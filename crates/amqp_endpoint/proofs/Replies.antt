@@ -18,7 +18,7 @@ use Rattle.amqp_perform.specs.Cells.{Cell}
 use Rattle.amqp_perform.specs.Conditions.{condition_span}
 use Rattle.amqp_perform.specs.Outcomes.{outcome_span}
 use Rattle.amqp_perform.specs.Performatives.{is_receiver, span}
-use Rattle.amqp_perform.specs.Reading.{body_at, fault_of}
+use Rattle.amqp_perform.specs.BodyReading.{body_at, fault_of}
 use Rattle.amqp_perform.specs.Said.{Said, said_frame}
 use Rattle.amqp_session.specs.declared.fault.SessionFault.{SessionFault}
 use Rattle.amqp_session.specs.declared.fault.SessionFault.TheVariants as fault
@@ -49,6 +49,7 @@ use Rattle.amqp_endpoint.specs.Replies.{joined, open_said, begin_said, end_said,
 use Rattle.amqp_session.proofs.Firsts.{neither, not_so}
 use Rattle.amqp_endpoint.proofs.Accepts.{one_of}
 
+-- the law of how long frames are
 abbrev pub SaidLong : Type 0
 SaidLong = (channel : ℕ) (s : Said) → length (said_frame channel s []) ≤ said_most s
 
@@ -58,6 +59,7 @@ span_long : (text : List ℕ) → cell_most (span text) ≤ 1 + length text
 span_long [] = omega arith
 span_long (b ∷ text) = omega arith
 
+-- an error's span is short
 pub condition_long : (c : Condition) → length (condition_span c) ≤ 100
 unfolding condition_span
 condition_long condition.FramingError = omega arith
@@ -76,21 +78,27 @@ outcome_long (outcome.Modified false false) = omega arith
 
 -- What is said. ---------------------------------------------------------------------------------------------------------
 
+-- the most that an open takes
 pub open_most : (config : Configured) (channel_max : ℕ) → length config.container_id ≤ 255 → said_most (open_said config channel_max) ≤ 400
 open_most config channel_max short = omega (arith, short)
 
+-- a begin
 pub begin_most : (channel : ℕ) (terms : SessionTerms) → said_most (begin_said channel terms) ≤ 400
 begin_most channel terms = omega arith
 
+-- an end
 pub end_most : (c : Condition) → said_most (end_said (condition_span c)) ≤ 400
 end_most c = omega (arith, span_long (condition_span c), condition_long c)
 
+-- a close
 pub close_most : (c : Condition) → said_most (close_said (condition_span c)) ≤ 400
 close_most c = omega (arith, span_long (condition_span c), condition_long c)
 
+-- an attach with its name, source and target
 pub attach_most : (longest : ℕ) (a : Attaching) → length a.name ≤ 255 → length a.source + length a.target ≤ 1024 → said_most (attach_said longest a) ≤ 1600
 attach_most longest a name ends = omega (arith, name, ends, span_long a.source, span_long a.target, number_long kind.Ulong longest (short_form kind.Ulong longest))
 
+-- an attach that refuses
 pub refusal_most : (a : Attaching) → length a.name ≤ 255 → said_most (refusal_said a) ≤ 400
 refusal_most a name = omega (arith, name, count_most a.role)
   where
@@ -98,18 +106,23 @@ refusal_most a name = omega (arith, name, count_most a.role)
     count_most of_role.Sender = omega arith
     count_most of_role.Receiver = omega arith
 
+-- a detach
 pub detach_most : (handle : ℕ) (closed : Bool) → said_most (detach_said handle closed []) ≤ 400
 detach_most handle closed = omega arith
 
+-- a detach with an error
 pub failure_most : (handle : ℕ) (c : Condition) → said_most (failure_said handle c) ≤ 400
 failure_most handle c = omega (arith, span_long (condition_span c), condition_long c)
 
+-- a flow of a session
 pub flow_most : (next window : ℕ) → said_most (flow_said next window) ≤ 400
 flow_most next window = omega arith
 
+-- a flow of a link
 pub link_flow_most : (next window handle count credit : ℕ) (drain : Bool) → said_most (link_flow_said next window handle count credit drain) ≤ 400
 link_flow_most next window handle count credit drain = omega arith
 
+-- a disposition
 pub disposition_most : (id : ℕ) (settled : Bool) (o : Outcome) → said_most (disposition_said id settled o) ≤ 400
 disposition_most id settled o = omega (arith, span_long (outcome_span o), outcome_long o)
 
@@ -118,6 +131,7 @@ disposition_most id settled o = omega (arith, span_long (outcome_span o), outcom
 abbrev all_most : List Said → ℕ
 all_most xs = sum_by said_most xs
 
+-- frames on a channel take no more than these together
 pub channel_long : SaidLong → (channel : ℕ) (xs : List Said) → length (joined (on_channel channel xs)) ≤ all_most xs
 channel_long law channel [] = omega arith
 channel_long law channel (x ∷ xs) =
@@ -172,6 +186,7 @@ detach_long handle closed Free = omega arith
 detach_long handle closed (Live l) = one_most (detach_said handle closed []) 400 (omega arith) (detach_most handle closed)
 detach_long handle closed Waits = omega arith
 
+-- the answer to a frame fits the room that it is given
 pub answer_long : (t : SessionState) (f : Frame) → session.session_fault t f ≡ None → all_most (session.answer_of t f) ≤ 2560
 answer_long t (Attaches a) none = attach_long t a none (refusal t.terms a) refl
 answer_long t (Flows f) none = flow_long (session_after t (session.event_of t (Flows f))) f (session.news_of t (Flows f))
@@ -281,6 +296,7 @@ module _ (law : SaidLong) (s : ConnectionState) (short : length s.config.contain
       one_of (Fits s) (is_closing s.phase) (closing_line part) (frame_line s (channel_of bytes) part)
       (λ so. one_of (Fits s) (is_read_close (body_at part)) line.CloseAwaited line.DroppedInClosing (λ so. omega arith) (λ so. omega arith)) (λ so. frame_fits (channel_of bytes) part)
 
+-- so does what a call writes
 pub call_fits : SaidLong → (s : ConnectionState) (channel : ℕ) (c : Call) → length (joined (call_spoken s channel c)) ≤ 2560
 call_fits law s channel c = by_slot (slot_at s channel)
   where

@@ -26,7 +26,7 @@ use Rattle.amqp_endpoint.specs.Lines.{line_of}
 use Rattle.amqp_endpoint.specs.Replies.{joined, reply_on, close_said}
 use Rattle.amqp_endpoint.specs.Runs.{Call, Feed, InSession, Close, Heartbeat, Output, Held, Finish, Answer, Fed, Accepted, Dropped, HandedUp, Refused, MovedOut, Holds, Ended}
 use Rattle.amqp_endpoint.specs.Runs.{IsWritten, IsBeat, IsMoved, IsFinished, Does, Run, IsStart}
-use Rattle.amqp_endpoint.specs.Steps.{EndpointState, IsTaken, IsKept, IsActed, Acts, Comes, Feeds, room_for, may_act}
+use Rattle.amqp_endpoint.specs.Steps.{EndpointState, IsTaken, IsKept, IsActed, Acts, Comes, FeedDone, room_for, may_act}
 use Rattle.amqp_endpoint.proofs.Endpoints.{rest_few, header_few, free_at, due_no_header}
 use Rattle.amqp_endpoint.proofs.Replies.{SaidLong}
 use Rattle.amqp_frame.proofs.Fronts.{waits_or_not}
@@ -36,6 +36,7 @@ use Rattle.amqp_session.proofs.Firsts.{neither, not_so}
 abbrev pub UnitsFit : Type 0
 UnitsFit = (s : ConnectionState) (u : StreamUnit) → length s.config.container_id ≤ 255 → length (reply_on s (line_of s u)) ≤ 2560
 
+-- the law that what calls write fits
 abbrev pub CallsFit : Type 0
 CallsFit = (s : ConnectionState) (channel : ℕ) (c : session.Call) → length (joined (call_spoken s channel c)) ≤ 2560
 
@@ -45,6 +46,7 @@ pub record IsFirst (unsent : List ℕ) (s : ConnectionState) : Type 0 where
   pub before : s.phase ≡ phase.Unopened
   pub free : (channel : ℕ) → slot_at s channel ≡ Free
 
+-- the lengths of an endpoint's parts stay within these
 pub record IsRoomy (config : Configured) (s : EndpointState) : Type 0 where
   pub limit : s.input.limit ≡ config.max_frame
   pub named : s.connection.config ≡ config
@@ -241,7 +243,7 @@ comes fit config short least old new answer x alive c =
     ]
 
 fed : UnitsFit → (config : Configured) → length config.container_id ≤ 255 → 8 ≤ config.max_frame → (dead : Bool) (old new : EndpointState) (piece : List ℕ) (used : ℕ) (answer : Outcome) →
-    IsRoomy config old → is_dead old.connection.phase ≡ dead → Feeds dead old new piece used answer → IsRoomy config new
+    IsRoomy config old → is_dead old.connection.phase ≡ dead → FeedDone dead old new piece used answer → IsRoomy config new
 fed fit config short least true old new piece used answer x dead f = kept config old new x f.0
 fed fit config short least false old new piece used answer x alive f =
     comes fit config short least (record old { input = f.between }) new answer (grows config old f.between piece used least x f.taken) alive f.comes

@@ -7,6 +7,7 @@ use Rattle.amqp_endpoint.specs.Runs.{Call, Answer, Does, Run}
 use Rattle.amqp_endpoint.specs.Steps.{EndpointState}
 use Rattle.amqp_endpoint.specs.Traces.{IsInRange, AreInRange}
 
+-- a run with one more call
 pub run_more : (s : EndpointState) (calls : List Call) (answers : List Answer) (mid last : EndpointState) (c : Call) (a : Answer) →
     Run s calls answers mid → Does mid last c a → Run s (calls ++ c ∷ []) (answers ++ a ∷ []) last
 run_more s [] [] mid last c a r d = (last, subst (λ (x : EndpointState). Does x last c a) r d, refl)
@@ -14,6 +15,7 @@ run_more s [] (y ∷ answers) mid last c a r d = absurd r
 run_more s (x ∷ calls) [] mid last c a r d = absurd r
 run_more s (x ∷ calls) (y ∷ answers) mid last c a r d = (r.0, r.1, run_more r.0 calls answers mid last c a r.2 d)
 
+-- the same of a run from the start
 pub replay_more : (config : Configured) (calls : List Call) (answers : List Answer) (mid last : EndpointState) (c : Call) (a : Answer) →
     IsReplay config calls answers mid → Does mid last c a → IsReplay config (calls ++ c ∷ []) (answers ++ a ∷ []) last
 replay_more config calls answers mid last c a r d = record { start = r.start; new = r.new; run = run_more r.start calls answers mid last c a r.run d }

@@ -36,11 +36,13 @@ use Rattle.std.proofs.lemmas.Option.{same_Some}
 
 -- What is at hand. ------------------------------------------------------------------------------------------------------
 
+-- a live place holds a session
 pub live_there : (x : Slot SessionState) → IsLive x → (t : SessionState) × (x ≡ Live t)
 live_there Free l = absurd l
 live_there (Live t) l = (t, refl)
 live_there Waits l = absurd l
 
+-- what is for a session is a frame
 pub frame_there : (o : Option Frame) → IsForSession o → (f : Frame) × (o ≡ Some f)
 frame_there None l = absurd l
 frame_there (Some f) l = (f, refl)
@@ -50,6 +52,7 @@ pub framed_as : (s new : ConnectionState) (channel : ℕ) (t : SessionState) (f 
     IsFramed s new channel t f d
 framed_as s new channel t f r d is done = subst (λ (r : Result Done SessionFault). FrameDone s new channel t f r) is done
 
+-- a frame that its session refused is a fault of that session
 pub unframed_as : (s new : ConnectionState) (channel : ℕ) (t : SessionState) (f : Frame) (r : Result Done SessionFault) (e : SessionFault) → r ≡ Err e → FrameDone s new channel t f r →
     IsUnframed s new t f e
 unframed_as s new channel t f r e is done = subst (λ (r : Result Done SessionFault). FrameDone s new channel t f r) is done

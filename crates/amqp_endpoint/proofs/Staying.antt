@@ -29,9 +29,11 @@ nothing_done s unsent l same silent untold = record {
   told = sym untold;
 }
 
+-- an empty frame leaves everything
 pub empty_done : (s : ConnectionState) (unsent : List ℕ) → IsDone s s unsent unsent line.BodyEmpty None
 empty_done s unsent = nothing_done s unsent line.BodyEmpty (still s) refl refl
 
+-- so does a frame to a session that ends
 pub dropped_in_ending : (s : ConnectionState) (unsent : List ℕ) → IsDone s s unsent unsent line.DroppedInEnding None
 dropped_in_ending s unsent = nothing_done s unsent line.DroppedInEnding (still s) refl refl
 

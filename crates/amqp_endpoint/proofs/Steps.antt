@@ -22,6 +22,7 @@ use Rattle.amqp_endpoint.specs.Histories.{opening_in, phase_of, part, state_of, 
 abbrev pub SessionBegins : Type 0
 SessionBegins = (terms : SessionTerms) → terms.incoming_window < 2 ^ 31 → terms.next_outgoing_id < 2 ^ 32 → (one.session_begins terms ≡ session.state_of terms []) × session.Sound terms []
 
+-- the law that a session goes on by its history, which stands in its crate
 abbrev pub SessionGoesOn : Type 0
 SessionGoesOn = (terms : SessionTerms) (h : List SessionEvent) (e : SessionEvent) → session.Sound terms h → SessionMay (session.state_of terms h) e →
     (one.session_after (session.state_of terms h) e ≡ session.state_of terms (e ∷ h)) × session.Sound terms (e ∷ h)
@@ -30,6 +31,7 @@ SessionGoesOn = (terms : SessionTerms) (h : List SessionEvent) (e : SessionEvent
 abbrev pub ConnectionBegins : Type 0
 ConnectionBegins = (config : Configured) → (connection_begins config ≡ state_of config []) × Sound config []
 
+-- the same law of a connection
 abbrev pub ConnectionGoesOn : Type 0
 ConnectionGoesOn = (config : Configured) (h : List ConnectionEvent) (e : ConnectionEvent) → config.window < 2 ^ 31 → Sound config h → ConnectionMay (state_of config h) e →
     (connection_after (state_of config h) e ≡ state_of config (e ∷ h)) × Sound config (e ∷ h)
@@ -115,9 +117,11 @@ none_on h e timely none shut channel = refl
 made : Configured → Phase → Bool → Bool → List (Slot SessionState) → ConnectionState
 made config p failed closed slots = record { config = config; phase = p; failed = failed; closed = closed; sessions = slots }
 
+-- a new connection has the state of the empty history
 pub begins_sound : ConnectionBegins
 begins_sound config = (refl, record { limit = omega arith; sessions = λ k l. tt; none = λ shut channel. refl })
 
+-- one more event leaves the state of the longer history
 pub goes_on_sound : SessionBegins → SessionGoesOn → ConnectionGoesOn
 unfolding made
 goes_on_sound begins step config h e narrow sound may =
@@ -135,6 +139,7 @@ goes_on_sound begins step config h e narrow sound may =
       },
     )
 
+-- after any accepted events a connection has the state of the history
 pub all_sound : ConnectionBegins → ConnectionGoesOn → (config : Configured) (h : List ConnectionEvent) → config.window < 2 ^ 31 → Accepted config h →
     (after_all config h ≡ state_of config h) × Sound config h
 all_sound begins step config [] narrow all = begins config

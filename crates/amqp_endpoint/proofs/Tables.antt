@@ -16,6 +16,7 @@ use Rattle.amqp_session.proofs.Places.{tabulate_long}
 use Rattle.amqp_session.proofs.Tables.{there, present}
 use Rattle.amqp_session.proofs.Tables as table
 
+-- what stands at the channels
 abbrev pub Table : Type 0
 Table = List (Slot SessionState)
 
@@ -27,9 +28,11 @@ free_from : (k n : ℕ) → tabulate k n free_place ++ Free ∷ [] ≡ tabulate 
 free_from k zero = refl
 free_from k (suc n) = ap (λ (rest : Table). Free ∷ rest) (free_from (suc k) n)
 
+-- one more free channel
 pub free_more : (n : ℕ) → tabulate 0 n free_place ++ Free ∷ [] ≡ tabulate 0 (n + 1) free_place
 free_more n = let e : suc n ≡ n + 1 = omega arith in free_from 0 n ∙ ap (λ (m : ℕ). tabulate 0 m free_place) e
 
+-- what an event makes of a table whose first channel is this
 abbrev pub From : ℕ → Happens SessionTerms SessionEvent → Table → Table
 From k x slots = places_from session_begins session_after k x slots
 
@@ -42,15 +45,19 @@ all_gone k (s ∷ slots) = ap (λ (rest : Table). Free ∷ rest) (all_gone (suc 
 pub none_after : (slots : Table) → From 0 Nothing slots ≡ slots
 none_after slots = table.none_after session_begins session_after slots
 
+-- a begin at a channel
 pub begins_at : (slots : Table) (i : ℕ) (terms : SessionTerms) → i < length slots → From 0 (Begins i terms) slots ≡ slice_set slots i (Live (session_begins terms))
 begins_at slots i terms l = table.begins_at session_begins session_after slots i terms (unwrap_or (slice_get slots i) Free) (present slots i l)
 
+-- an end of this side
 pub leaves_at : (slots : Table) (i : ℕ) → i < length slots → From 0 (Leaves i) slots ≡ slice_set slots i Waits
 leaves_at slots i l = table.leaves_at session_begins session_after slots i (unwrap_or (slice_get slots i) Free) (present slots i l)
 
+-- one of the peer
 pub gone_at : (slots : Table) (i : ℕ) → i < length slots → From 0 (Gone i) slots ≡ slice_set slots i Free
 gone_at slots i l = table.gone_at session_begins session_after slots i (unwrap_or (slice_get slots i) Free) (present slots i l)
 
+-- an event of the session there
 pub goes_on_at : (slots : Table) (i : ℕ) (e : SessionEvent) (t : SessionState) → slice_get slots i ≡ Some (Live t) → From 0 (GoesOn i e) slots ≡ slice_set slots i (Live (session_after t e))
 goes_on_at slots i e t at = table.goes_on_at session_begins session_after slots i e (Live t) at
 
@@ -92,5 +99,6 @@ module _ (config : Configured) (p : Phase) (failed closed : Bool) (slots : Table
       channel_ready x ≡ channel_ready (slot_at s channel)
   ready_at placed channel low x at = ap channel_ready (sym (slot_is channel x at (channel_low placed channel low)))
 
+-- a new table has a place for each channel that is offered
 pub free_placed : (config : Configured) (places : Table) → config.channel_max < 256 → places ≡ tabulate 0 (channels config) (λ k. Free) → IsPlaced config phase.Unopened places
 free_placed config places few e = record { long = ap length e ∙ tabulate_long 0 (channels config) free_place; limit = omega arith; few = few }

@@ -36,8 +36,8 @@ use Rattle.amqp_endpoint.specs.Replies.{joined, reply_on}
 use Rattle.amqp_endpoint.specs.Runs.{Call, Feed, InSession, Close, Heartbeat, Output, Held, Finish, Answer, Fed, Accepted, Dropped, HandedUp, Refused, MovedOut, Holds, Ended}
 use Rattle.amqp_endpoint.specs.Runs.{handed, link_handed, session_answer, accepted_answer, IsWritten, IsBeat, IsMoved, IsFinished, Does}
 use Rattle.amqp_endpoint.specs.Runs.{Run, IsStart, Happened, Acted, Called, Closed, Beat, Over, units_of, events, written}
-use Rattle.amqp_endpoint.specs.Steps.{EndpointState, IsTaken, IsKept, IsActed, Acts, Comes, Feeds, may_act, told_outcome, acted_after}
-use Rattle.amqp_endpoint.specs.Traces.{IsInRange, AreInRange, taken_by, moved_by, Told, Done, Ends, event_in, told_by, taken, heard, has_finished, tells, tellings, IsTraced}
+use Rattle.amqp_endpoint.specs.Steps.{EndpointState, IsTaken, IsKept, IsActed, Acts, Comes, FeedDone, may_act, told_outcome, acted_after}
+use Rattle.amqp_endpoint.specs.Traces.{IsInRange, AreInRange, taken_by, moved_by, Told, Done, Ends, event_in, told_by, all_taken, heard, has_finished, event_told, tellings, IsTraced}
 use Rattle.amqp_endpoint.proofs.Steps.{ConnectionBegins, ConnectionGoesOn}
 
 -- what is owed of units and calls
@@ -45,6 +45,7 @@ abbrev pub UnitsAccepted : Type 0
 UnitsAccepted = (config : Configured) (h : List ConnectionEvent) (u : StreamUnit) → Sound config h → is_dead (phase_of h) ≡ false → ((i : ℕ) → slice_index (bytes_of u) i < 256) →
     ConnectionMay (state_of config h) (event_on (state_of config h) (line_of (state_of config h) u))
 
+-- the law that calls which are not refused are accepted
 abbrev pub CallsAccepted : Type 0
 CallsAccepted = (config : Configured) (h : List ConnectionEvent) (unsent : List ℕ) (channel : ℕ) (c : session.Call) → Sound config h → IsCallInRange c →
     call_fault (state_of config h) unsent channel c ≡ None → ConnectionMay (state_of config h) (call_event (state_of config h) channel c)
@@ -337,7 +338,7 @@ grows config took moved told h old between piece used x live bytes g =
       each = subst (λ (w : List ℕ). AreBytes w) (sym g.filled) (bytes_append old.input.filled first x.each (bytes_take used piece bytes));
     }
 
-told_in : (s : ConnectionState) (e : Option Event) → event_in (told_outcome s e) ≡ tells e
+told_in : (s : ConnectionState) (e : Option Event) → event_in (told_outcome s e) ≡ event_told e
 told_in s (Some e) = refl
 told_in s None = silent (is_dead s.phase)
   where
@@ -374,7 +375,8 @@ module _ (goes_on : ConnectionGoesOn) (accepted : UnitsAccepted) (config : Confi
               (reply_on old.connection (line_of old.connection u)) new.unsent t.output
               (ap (λ (s : ConnectionState). reply_on s (line_of s u)) (sym t.state)) a.unsent;
           telling = ap (λ (v : List Told). v ++ event_in answer) t.telling ∙ ap (λ (v : List Told). tellings config h ++ v) (
-              ap event_in a.told ∙ told_in (acted_after old.connection u) (told_on old.connection (line_of old.connection u)) ∙ ap (λ (s : ConnectionState). tells (told_on s (line_of s u))) t.state);
+              ap event_in a.told ∙ told_in (acted_after old.connection u) (told_on old.connection (line_of old.connection u)) ∙ ap (λ (s : ConnectionState). event_told (told_on s
+              (line_of s u))) t.state);
         };
         each = subst (λ (v : List ℕ). AreBytes v) (sym a.input.filled) bytes_none;
       }
@@ -412,7 +414,7 @@ module _ (goes_on : ConnectionGoesOn) (accepted : UnitsAccepted) (config : Confi
       ]
 
   feeds : (took moved : List ℕ) (told : List Told) (h : List Happened) (dead : Bool) (old new : EndpointState) (piece : List ℕ) (used : ℕ) (answer : Outcome) → 8 ≤ config.max_frame →
-      IsAt config took moved told h old → is_dead old.connection.phase ≡ dead → AreBytes piece → Feeds dead old new piece used answer →
+      IsAt config took moved told h old → is_dead old.connection.phase ≡ dead → AreBytes piece → FeedDone dead old new piece used answer →
       Leads config (took ++ take used piece) moved (told ++ event_in answer) h new
   feeds took moved told h true old new piece used answer least x dead bytes f =
       let same : took ≡ took ++ take used piece = sym (append-nil took) ∙ ap (λ (n : ℕ). took ++ take n piece) (sym f.1) in
@@ -459,6 +461,7 @@ session_still s (session.Grant handle n) = refl
 session_still s (session.Drain handle) = refl
 session_still s (session.Settle id o) = refl
 
+-- no call of a session moves bytes out
 pub answer_still : (s : Slot SessionState) (c : session.Call) → moved_by (accepted_answer s c) ≡ []
 answer_still Free c = refl
 answer_still (Live s) c = session_still s c
@@ -484,7 +487,7 @@ pub record Moment (config : Configured) (took moved : List ℕ) (told : List Tol
   pub now : EndpointState
   pub so_far : Run s (take n asked) (take n answers) now
   pub goes_on : Run now (drop n asked) (drop n answers) last
-  pub traced : IsTraced config (took ++ taken (take n asked) (take n answers)) (moved ++ flat_map moved_by (take n answers)) (told ++ heard (take n asked) (take n answers)) past now
+  pub traced : IsTraced config (took ++ all_taken (take n asked) (take n answers)) (moved ++ flat_map moved_by (take n answers)) (told ++ heard (take n asked) (take n answers)) past now
   pub later : List Happened
   pub grown : whole ≡ later ++ past
 
@@ -494,7 +497,7 @@ pub record Follows (config : Configured) (took moved : List ℕ) (told : List To
   pub history : List Happened
   pub later : List Happened
   pub grown : history ≡ later ++ h
-  pub traced : IsTraced config (took ++ taken asked answers) (moved ++ flat_map moved_by answers) (told ++ heard asked answers) history last
+  pub traced : IsTraced config (took ++ all_taken asked answers) (moved ++ flat_map moved_by answers) (told ++ heard asked answers) history last
   pub pasts : ℕ → List Happened
   pub first : pasts 0 ≡ h
   pub each : (n : ℕ) → Moment config took moved told s asked answers last history (pasts n) n
@@ -524,14 +527,14 @@ pasts_from h pasts (suc n) = pasts n
 
 -- what one call and the others took, moved out and told
 joined_call : (config : Configured) (took moved : List ℕ) (told : List Told) (h : List Happened) (s : EndpointState) (c : Call) (a : Answer) (asked : List Call) (answers : List Answer) →
-    IsTraced config ((took ++ taken_by c a) ++ taken asked answers) ((moved ++ moved_by a) ++ flat_map moved_by answers) ((told ++ told_by c a) ++ heard asked answers) h s →
-    IsTraced config (took ++ taken (c ∷ asked) (a ∷ answers)) (moved ++ flat_map moved_by (a ∷ answers)) (told ++ heard (c ∷ asked) (a ∷ answers)) h s
+    IsTraced config ((took ++ taken_by c a) ++ all_taken asked answers) ((moved ++ moved_by a) ++ flat_map moved_by answers) ((told ++ told_by c a) ++ heard asked answers) h s →
+    IsTraced config (took ++ all_taken (c ∷ asked) (a ∷ answers)) (moved ++ flat_map moved_by (a ∷ answers)) (told ++ heard (c ∷ asked) (a ∷ answers)) h s
 joined_call config took moved told h s c a asked answers x =
     let bytes = moved_by a ++ flat_map moved_by answers in
     let words = told_by c a ++ heard asked answers in
-    subst (λ (v : List ℕ). IsTraced config v (moved ++ bytes) (told ++ words) h s) (append_assoc took (taken_by c a) (taken asked answers))
-    (subst (λ (v : List ℕ). IsTraced config ((took ++ taken_by c a) ++ taken asked answers) v (told ++ words) h s) (append_assoc moved (moved_by a) (flat_map moved_by answers))
-    (subst (λ (v : List Told). IsTraced config ((took ++ taken_by c a) ++ taken asked answers) ((moved ++ moved_by a) ++ flat_map moved_by answers) v h s)
+    subst (λ (v : List ℕ). IsTraced config v (moved ++ bytes) (told ++ words) h s) (append_assoc took (taken_by c a) (all_taken asked answers))
+    (subst (λ (v : List ℕ). IsTraced config ((took ++ taken_by c a) ++ all_taken asked answers) v (told ++ words) h s) (append_assoc moved (moved_by a) (flat_map moved_by answers))
+    (subst (λ (v : List Told). IsTraced config ((took ++ taken_by c a) ++ all_taken asked answers) ((moved ++ moved_by a) ++ flat_map moved_by answers) v h s)
     (append_assoc told (told_by c a) (heard asked answers)) x))
 
 one_call : (config : Configured) (took moved : List ℕ) (told : List Told) (h : List Happened) (s next : EndpointState) (c : Call) (a : Answer) (asked : List Call) (answers : List Answer)

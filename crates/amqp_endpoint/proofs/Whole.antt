@@ -7,7 +7,7 @@ use Rattle.amqp_endpoint.specs.Connections.{ConnectionState, slot_at}
 use Rattle.amqp_endpoint.specs.Runs.{Call, Answer, Run, IsStart, Happened, events}
 use Rattle.amqp_endpoint.specs.Steps.{EndpointState}
 use Rattle.amqp_endpoint.specs.Takings.{link_at}
-use Rattle.amqp_endpoint.specs.Traces.{AreInRange, moved_by, taken, Told, heard, message_in, IsTraced, HasHistory, IsWholeRun}
+use Rattle.amqp_endpoint.specs.Traces.{AreInRange, moved_by, all_taken, Told, heard, message_in, IsTraced, HasHistory, IsWholeRun}
 use Rattle.amqp_endpoint.proofs.Bounds.{IsHeldCount, IsHeldBound, within}
 use Rattle.amqp_endpoint.proofs.Messages.{OpenSelected, messages_told, taken_in_order}
 use Rattle.amqp_endpoint.proofs.Replies.{SaidLong}
@@ -32,7 +32,7 @@ pub record Owed : Type 0 where
 
 -- what holds of an endpoint with a history
 history_of : Owed → (config : Configured) (calls : List Call) (answers : List Answer) (last : EndpointState) (h : List Happened) →
-    IsTraced config (taken calls answers) (flat_map moved_by answers) (heard calls answers) h last → IsRoomy config last → HasHistory config calls answers last
+    IsTraced config (all_taken calls answers) (flat_map moved_by answers) (heard calls answers) h last → IsRoomy config last → HasHistory config calls answers last
 history_of law config calls answers last h x roomy =
     let past = events config h in
     record {

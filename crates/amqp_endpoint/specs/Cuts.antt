@@ -48,22 +48,22 @@ answer_at s channel c = answered_by (call_fault s [] channel c) (accepted_answer
 
 -- Topping up. ---------------------------------------------------------------------------------------------------------
 
-abbrev pub channel_of : Place → ℕ
-channel_of (WindowOf channel) = channel
-channel_of (CreditOf channel handle) = channel
+abbrev pub place_channel : Place → ℕ
+place_channel (WindowOf channel) = channel
+place_channel (CreditOf channel handle) = channel
 
 -- the call that gives a place so much
 abbrev pub call_for : Place → ℕ → session.Call
 call_for (WindowOf channel) n = Widen n
 call_for (CreditOf channel handle) n = Grant handle n
 
-abbrev pub given : ℕ → Made → Place → Made
-given zero m place = m
-given (suc n) m place = called m (channel_of place) (call_for place (suc n))
+abbrev pub topped_by : ℕ → Made → Place → Made
+topped_by zero m place = m
+topped_by (suc n) m place = called m (place_channel place) (call_for place (suc n))
 
 -- a place is given what it lacks
 abbrev pub topped : Policy → Made → Place → Made
-topped p m place = given (lack p m.connection place) m place
+topped p m place = topped_by (lack p m.connection place) m place
 
 -- these places, one after another
 abbrev pub all_topped : Policy → List Place → Made → Made

@@ -43,19 +43,19 @@ abbrev pub held_most : Configured → ℕ → ℕ → ℕ
 held_most config sessions links = config.max_frame + output_size + 64 * sessions + links * link_most config
 
 -- the parts of all channels
-abbrev pub parts : Configured → List ConnectionEvent → List (Slot (Life SessionTerms SessionEvent))
-parts config h = tabulate 0 (channels config) (λ channel. part channel h)
+abbrev pub session_parts : Configured → List ConnectionEvent → List (Slot (Life SessionTerms SessionEvent))
+session_parts config h = tabulate 0 (channels config) (λ channel. part channel h)
 
 -- what counts as held of a part
-abbrev pub part_bytes : Slot (Life SessionTerms SessionEvent) → ℕ
-part_bytes Free = 0
-part_bytes (Live l) = 64 + sum_by session.part_bytes (session.parts l.0 l.1)
-part_bytes Waits = 64
+abbrev pub session_part_bytes : Slot (Life SessionTerms SessionEvent) → ℕ
+session_part_bytes Free = 0
+session_part_bytes (Live l) = 64 + sum_by session.part_bytes (session.parts l.0 l.1)
+session_part_bytes Waits = 64
 
 -- What an endpoint with this history of its connection holds is counted, and bounded by its configuration.
 pub record HoldsWithin (config : Configured) (h : List ConnectionEvent) (s : EndpointState) : Type 0 where
   -- held are the bytes in the buffer, those in the output, and those that the parts of the history keep
-  pub counted : held s ≡ length s.input.filled + length s.unsent + sum_by part_bytes (parts config h)
+  pub counted : held s ≡ length s.input.filled + length s.unsent + sum_by session_part_bytes (session_parts config h)
   -- the buffer holds at most the longest frame
   pub buffer : length s.input.filled ≤ config.max_frame
   -- the output holds at most 8192 bytes

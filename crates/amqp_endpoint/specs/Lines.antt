@@ -8,7 +8,7 @@ use Rattle.amqp_perform.specs.declared.descriptor.Descriptor.{Descriptor}
 use Rattle.amqp_perform.specs.declared.fault.BodyFault.{BodyFault}
 use Rattle.amqp_perform.specs.declared.fault.BodyFault.TheVariants as body
 use Rattle.amqp_perform.specs.Cells.{Cell}
-use Rattle.amqp_perform.specs.Reading.{body_at, fault_of}
+use Rattle.amqp_perform.specs.BodyReading.{body_at, fault_of}
 use Rattle.amqp_session.specs.declared.fault.SessionFault.{SessionFault}
 use Rattle.amqp_session.specs.declared.news.News.{News}
 use Rattle.amqp_session.specs.declared.news.News.TheVariants as news

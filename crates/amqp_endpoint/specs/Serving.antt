@@ -20,6 +20,7 @@ use Rattle.amqp_endpoint.specs.declared.serving.ServeFault.{ServeFault}
 use Rattle.amqp_endpoint.specs.declared.serving.ServeFault.TheVariants as fault
 use Rattle.amqp_endpoint.specs.Configs.{Configured}
 use Rattle.amqp_endpoint.specs.Connections.{ConnectionState, channels, slot_at, is_dead}
+use Rattle.amqp_endpoint.specs.Lines.{line_of, may_grow_on}
 use Rattle.amqp_endpoint.specs.Runs.{Call, Feed, InSession, Output, Finish, Answer, Fed, Handed, HandedUp, MovedOut, Ended, Does, Run}
 use Rattle.amqp_endpoint.specs.Steps.{EndpointState}
 use Rattle.amqp_endpoint.specs.Takings.{link_in}
@@ -211,7 +212,15 @@ pub record BrokeOff (p : Policy) (e : ServeFault) (a : Stand) (bytes : List ℕ)
 abbrev pub IsIdle : EndpointState → Type 0
 IsIdle s = (u : StreamUnit) → Waits s.input u → ⊥
 
--- the same with no piece fed
+-- Memory was refused for the unit that waits. Nothing waits to be sent, and the connection is not over, so that a feed of no bytes tries it again.
+pub record IsStarved (s : EndpointState) : Type 0 where
+  pub unit : StreamUnit
+  pub waits : Waits s.input unit
+  pub wants : may_grow_on (line_of s.connection unit) ≡ true
+  pub sent : s.unsent ≡ []
+  pub alive : is_dead s.connection.phase ≡ false
+
+-- these were served with no piece fed
 pub record Works (p : Policy) (a b : Stand) (old new : EndpointState) (held now kept keeps : Option (List ℕ)) : Type 0 where
   pub served : Served p a b [] old new held now kept keeps
   pub input : IsUnchanged old.input new.input

@@ -83,9 +83,9 @@ pub record TakesAndActs (old new : EndpointState) (piece : List ℕ) (used : ℕ
   pub comes : Comes (record old { input = between }) new answer
 
 -- One feed. A connection that is over takes nothing.
-abbrev pub Feeds : Bool → EndpointState → EndpointState → List ℕ → ℕ → Outcome → Type 0
-Feeds true old new piece used answer = IsKept old new × (used ≡ 0) × (answer ≡ outcome.Dead)
-Feeds false old new piece used answer = TakesAndActs old new piece used answer
+abbrev pub FeedDone : Bool → EndpointState → EndpointState → List ℕ → ℕ → Outcome → Type 0
+FeedDone true old new piece used answer = IsKept old new × (used ≡ 0) × (answer ≡ outcome.Dead)
+FeedDone false old new piece used answer = TakesAndActs old new piece used answer
 
 abbrev pub IsFed : EndpointState → EndpointState → List ℕ → ℕ → Outcome → Type 0
-IsFed old new piece used answer = Feeds (is_dead old.connection.phase) old new piece used answer
+IsFed old new piece used answer = FeedDone (is_dead old.connection.phase) old new piece used answer

@@ -74,9 +74,9 @@ told_by Finish a = Ends ∷ []
 told_by c a = []
 
 -- all bytes that were taken, in order
-abbrev pub taken : List Call → List Answer → List ℕ
-taken (c ∷ calls) (a ∷ answers) = taken_by c a ++ taken calls answers
-taken calls answers = []
+abbrev pub all_taken : List Call → List Answer → List ℕ
+all_taken (c ∷ calls) (a ∷ answers) = taken_by c a ++ all_taken calls answers
+all_taken calls answers = []
 
 -- all that was told, in order
 abbrev pub heard : List Call → List Answer → List Told
@@ -92,12 +92,12 @@ has_finished (Over ∷ h) = true
 has_finished (x ∷ h) = has_finished h
 
 -- What is told of a unit is its event, a failure exactly where its line names a fault. An accepted call is answered by what the history before it gives: a take by the first message that is ready.
-abbrev pub tells : Option Event → List Told
-tells None = []
-tells (Some e) = Tells e ∷ []
+abbrev pub event_told : Option Event → List Told
+event_told None = []
+event_told (Some e) = Tells e ∷ []
 
 abbrev pub told_of : ConnectionState → Happened → List Told
-told_of s (Acted u) = tells (told_on s (line_of s u))
+told_of s (Acted u) = event_told (told_on s (line_of s u))
 told_of s (Called channel c) = Done (InSession channel c) (accepted_answer (slot_at s channel) c) ∷ []
 told_of s Closed = Done Close (Dropped (connection_ready s)) ∷ []
 told_of s Beat = Done Heartbeat Accepted ∷ []
@@ -149,7 +149,7 @@ pub record IsTraced (config : Configured) (took moved : List ℕ) (told : List T
 pub record HasHistory (config : Configured) (calls : List Call) (answers : List Answer) (last : EndpointState) : Type 0 where
   pub history : List Happened
   -- its state, the bytes that it took and gave, and what it told are those of the history
-  pub traced : IsTraced config (taken calls answers) (flat_map moved_by answers) (heard calls answers) history last
+  pub traced : IsTraced config (all_taken calls answers) (flat_map moved_by answers) (heard calls answers) history last
   -- what it holds is counted and bounded
   pub within : HoldsWithin config (events config history) last
   -- the messages that were handed up are those that the history hands up, in order

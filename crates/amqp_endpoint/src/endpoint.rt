@@ -101,6 +101,13 @@ impl<A: Allocator + Copy> Endpoint<A> {
         Fed { used, outcome }
     }
 
+    /// A law: the buffer has room for the eight bytes of a header.
+    pub(crate) fn holds_a_header(&self)
+        ensures { 8 ≤ self.now.input.limit }
+    {
+        let _ = &self.input; // what is known of every endpoint
+    }
+
     /// Acts upon the unit that waits, if one does.
     fn act(&mut self) -> Outcome
         requires { is_dead self.old.connection.phase ≡ false }

@@ -16,7 +16,7 @@ ghost use Rattle.amqp_endpoint.specs.Connections as connection;
 ghost use Rattle.amqp_endpoint.specs.Connections.{ConnectionState, ConnectionEvent, connection_after, connection_bytes, ConnectionMay, is_dead};
 ghost use Rattle.amqp_endpoint.specs.Credits.{credit_on, granted_to};
 ghost use Rattle.amqp_endpoint.specs.Fields.{read_in, read_of};
-ghost use Rattle.amqp_endpoint.specs.Held.{session_count, link_count, link_most, parts, part_bytes};
+ghost use Rattle.amqp_endpoint.specs.Held.{session_count, link_count, link_most, session_parts, session_part_bytes};
 ghost use Rattle.amqp_endpoint.specs.Lengths.{said_most};
 ghost use Rattle.amqp_perform.specs.Said.{Said, said_frame};
 ghost use Rattle.amqp_endpoint.specs.Histories.{phase_of, state_of, Sound, after_all, Accepted};
@@ -87,7 +87,7 @@ pub fn calls_are_accepted()
 
 /// The bytes that a connection keeps are those of its history: 64 for each session, and what each live one keeps.
 pub fn held_is_counted()
-    ensures { (config : Configured) (h : List ConnectionEvent) → connection_bytes (state_of config h) ≡ sum_by part_bytes (parts config h) }
+    ensures { (config : Configured) (h : List ConnectionEvent) → connection_bytes (state_of config h) ≡ sum_by session_part_bytes (session_parts config h) }
 {
     session::held_is_counted();
 }

@@ -7,7 +7,7 @@ ghost use Rattle.amqp_session.specs.Places.{tabulate};
 ghost use Rattle.amqp_endpoint.specs.Connections.{slot_at, is_dead};
 ghost use Rattle.amqp_endpoint.specs.Endpoints.{handed_in};
 ghost use Rattle.amqp_endpoint.specs.Takings.{link_in};
-ghost use Rattle.amqp_endpoint.specs.Serving.{Place, WindowOf, CreditOf, window_lack, credit_lack, session_places, all_places, Stand, ToppingUp, Receiving, reading, stand_told, record_of, record_head, IsPart, Works, Served, BrokeOff, IsServed, IsIdle};
+ghost use Rattle.amqp_endpoint.specs.Serving.{Place, WindowOf, CreditOf, window_lack, credit_lack, session_places, all_places, Stand, ToppingUp, Receiving, reading, stand_told, record_of, record_head, IsPart, Works, Served, BrokeOff, IsServed, IsIdle, IsStarved};
 
 use crate::endpoint::Endpoint;
 use crate::event::{End, Event, Outcome};
@@ -59,8 +59,8 @@ pub enum ServeFault {
 /// # Errors
 ///
 /// `Read`, `Write` and `Sink` where that device has failed, and `NoMemory` at the first feed that wants memory and is
-/// refused it. What was written until then begins what would be written; at `Read` and `NoMemory` it is all of it, and
-/// flushed.
+/// refused it: the unit that wanted it waits in the endpoint, and what of the piece stands behind it is lost with the
+/// piece. What was written until then begins what would be written; at `Read` and `NoMemory` it is all of it, and flushed.
 pub fn serve<A: Allocator + Copy, R: Read + Drop, W: Write + Drop, S: Write + Drop>(
     endpoint: &mut Endpoint<A>,
     reader: &mut Device<R>,
@@ -77,6 +77,9 @@ pub fn serve<A: Allocator + Copy, R: Read + Drop, W: Write + Drop, S: Write + Dr
 
     // Nothing waits to be written while it reads, and it reads only until the connection is over.
     ensures waited { result ≡ Err ServeFault.Read → (endpoint.new.unsent ≡ []) × (is_dead endpoint.new.connection.phase ≡ false) }
+
+    // Where memory was refused the unit that wants it waits in the endpoint.
+    ensures starved { result ≡ Err ServeFault.NoMemory → IsStarved endpoint.new }
 
     // What was written is flushed, unless the writer or the sink has failed.
     ensures flushed { ¬ (IsTrue (has_failed writer.new)) → ¬ (IsTrue (has_failed sink.new)) → is_flushed writer.new ≡ true }
@@ -120,6 +123,7 @@ fn feed_all<A: Allocator + Copy, W: Write + Drop, S: Write + Drop>(
     ensures write { (result ≡ Err ServeFault.Write) ↔ IsTrue (has_failed writer.new) }
     ensures sink { (result ≡ Err ServeFault.Sink) ↔ IsTrue (has_failed sink.new) }
     ensures flushed { result ≡ Err ServeFault.NoMemory → is_flushed writer.new ≡ true }
+    ensures starved { result ≡ Err ServeFault.NoMemory → IsStarved endpoint.new }
     ensures idle { OnOk result (IsIdle endpoint.new) }
     ensures served { OnOk result ((n : ℕ) × (is_dead endpoint.new.connection.phase ≡ false → n ≡ length piece.now)
         × Served policy reading reading (take n piece.now) endpoint.old endpoint.new (W.contents (device_inner writer.old)) (W.contents (device_inner writer.new))
@@ -151,6 +155,7 @@ fn feed_front<A: Allocator + Copy, W: Write + Drop, S: Write + Drop>(
     ensures write { (result ≡ Err ServeFault.Write) ↔ IsTrue (has_failed writer.new) }
     ensures sink { (result ≡ Err ServeFault.Sink) ↔ IsTrue (has_failed sink.new) }
     ensures flushed { result ≡ Err ServeFault.NoMemory → is_flushed writer.new ≡ true }
+    ensures starved { result ≡ Err ServeFault.NoMemory → IsStarved endpoint.new }
     ensures bound { IfOk result (λ n. n ≤ length piece.now) }
     ensures some { IsIdle endpoint.old → 0 < length piece.now → IfOk result (λ n. 0 < n) }
     ensures idle { OnOk result (IsIdle endpoint.new) }
@@ -160,7 +165,8 @@ fn feed_front<A: Allocator + Copy, W: Write + Drop, S: Write + Drop>(
         (S.contents (device_inner sink.old)) (S.contents (device_inner sink.new))) }
 {
     write_out(endpoint, writer)?;
-    are_bytes(piece); // a law, for the proof
+    are_bytes(piece); // two laws, for the proof
+    endpoint.holds_a_header();
     let fed = endpoint.feed(piece);
     follow(endpoint, fed.outcome, writer, sink, policy)?;
     Ok(fed.used)
@@ -180,7 +186,8 @@ fn follow<A: Allocator + Copy, W: Write + Drop, S: Write + Drop>(
     ensures write { (result ≡ Err ServeFault.Write) ↔ IsTrue (has_failed writer.new) }
     ensures sink { (result ≡ Err ServeFault.Sink) ↔ IsTrue (has_failed sink.new) }
     ensures flushed { result ≡ Err ServeFault.NoMemory → is_flushed writer.new ≡ true }
-    ensures starved { OnOk result (told ≢ Outcome.NoMemory) }
+    ensures fed { OnOk result (told ≢ Outcome.NoMemory) }
+    ensures starved { result ≡ Err ServeFault.NoMemory → (told ≡ Outcome.NoMemory) × (endpoint.new ≡ endpoint.old) }
     ensures works { OnOk result (Works policy (stand_told endpoint.old.connection.config told) reading endpoint.old endpoint.new (W.contents (device_inner writer.old))
         (W.contents (device_inner writer.new)) (S.contents (device_inner sink.old)) (S.contents (device_inner sink.new))) }
     ensures begun { IfErr result (λ e. BrokeOff policy e (stand_told endpoint.old.connection.config told) [] endpoint.old endpoint.new (W.contents (device_inner writer.old))

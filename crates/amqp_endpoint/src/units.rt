@@ -2,7 +2,7 @@
 ghost use Rattle.std.specs.Prelude.{◌≡◌, ℕ, List, ◌≤◌, ◌+◌, length, Some, None};
 ghost use Rattle.amqp_frame.specs.declared.units.FrameFault.{FrameFault};
 ghost use Rattle.amqp_frame.specs.Units.{HeaderUnit, FaultUnit};
-ghost use Rattle.amqp_perform.specs.Reading.{body_at};
+ghost use Rattle.amqp_perform.specs.BodyReading.{body_at};
 ghost use Rattle.amqp_endpoint.specs.Acting.{IsDone, HasDone};
 ghost use Rattle.amqp_endpoint.specs.Calls.{output_size, reply_room};
 ghost use Rattle.amqp_endpoint.specs.Connections.{is_closing};

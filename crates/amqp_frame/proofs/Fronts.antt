@@ -19,15 +19,19 @@ pub size-append : (xs ys : List ℕ) → 4 ≤ length xs → size_of (xs ++ ys) 
 unfolding size_of
 size-append xs ys h = big_from-append 4 xs ys h
 
+-- DOFF stands in the first eight bytes, whatever follows
 pub offset-append : (xs ys : List ℕ) → 8 ≤ length xs → offset_of (xs ++ ys) ≡ offset_of xs
 offset-append xs ys h = get_or_append_left xs ys 0 4 (omega arith)
 
+-- so does TYPE
 pub type-append : (xs ys : List ℕ) → 8 ≤ length xs → type_of (xs ++ ys) ≡ type_of xs
 type-append xs ys h = get_or_append_left xs ys 0 5 (omega arith)
 
+-- SIZE stays within its limits with more bytes behind it
 pub sized-append : (max : ℕ) (xs ys : List ℕ) → 4 ≤ length xs → IsSized max xs → IsSized max (xs ++ ys)
 sized-append max xs ys h s = let e = size-append xs ys h in record { least = omega arith; most = omega arith }
 
+-- and DOFF in its place
 pub placed-append : (xs ys : List ℕ) → 8 ≤ length xs → IsPlaced xs → IsPlaced (xs ++ ys)
 placed-append xs ys h s =
     let e = size-append xs ys (omega arith) in
@@ -56,6 +60,7 @@ verdict-type max size offset type a b c d h = grind (arith, nat_tests)
 verdict-none : (max size offset type : ℕ) → 8 ≤ size → size ≤ max → 2 ≤ offset → 4 * offset ≤ size → type ≡ 0 → verdict_of max size offset type ≡ None
 verdict-none max size offset type a b c d h = grind (arith, nat_tests)
 
+-- the fault that the first bytes of a frame show, as the splitter judges them
 abbrev pub verdict : ℕ → List ℕ → Option FrameFault
 verdict max s = verdict_of max (size_of s) (offset_of s) (type_of s)
 
@@ -129,11 +134,13 @@ header_length max s (HeaderUnit b) more h e = omega arith
 header_length max s (FrameUnit b) more h e = absurd h
 header_length max s (FaultUnit f b) more h e = absurd h
 
+-- the header's unit has eight bytes
 pub header_exact : (max : ℕ) (u : StreamUnit) → IsUnit max Header u → length (bytes_of u) ≡ 8
 header_exact max (HeaderUnit b) h = h
 header_exact max (FrameUnit b) h = absurd h
 header_exact max (FaultUnit f b) h = absurd h
 
+-- no header is shorter than eight bytes
 pub header_least : (max : ℕ) (s : List ℕ) → BeginsWith max Header s 8
 header_least max s = record { least = header_length max s }
 
@@ -146,6 +153,7 @@ frame_length max (FaultUnit TooLarge b) h = omega arith
 frame_length max (FaultUnit BadOffset b) h = omega arith
 frame_length max (FaultUnit BadType b) h = omega arith
 
+-- no unit at a frame's place is shorter than four bytes
 pub frame_least : (max : ℕ) (s : List ℕ) → BeginsWith max Frames s 4
 frame_least max s = record { least = λ u more h e. frame_length max u h }
 
@@ -158,6 +166,7 @@ sized_length max (FaultUnit TooLarge b) more s h = let e = size-append b more (o
 sized_length max (FaultUnit BadOffset b) more s h = omega arith
 sized_length max (FaultUnit BadType b) more s h = omega arith
 
+-- with a SIZE within its limits, none is shorter than eight
 pub sized_least : (max : ℕ) (s : List ℕ) → IsSized max s → BeginsWith max Frames s 8
 sized_least max s z = record { least = λ u more h e. sized_length max u more (subst (λ (w : List ℕ). IsSized max w) e z) h }
 
@@ -179,6 +188,7 @@ lawful_length max (FaultUnit BadOffset b) more s h =
     elim h.2 [ inl p ↦ absurd (omega arith) | inr p ↦ absurd (omega arith) ]
 lawful_length max (FaultUnit BadType b) more s h = let t = type-append b more (omega arith) in absurd (omega arith)
 
+-- with a lawful header of a frame, none is shorter than SIZE
 pub lawful_least : (max : ℕ) (s : List ℕ) → IsLawful max s → BeginsWith max Frames s (size_of s)
 lawful_least max s z = record {
   least = λ u more h e.
@@ -186,6 +196,7 @@ lawful_least max s z = record {
       subst (λ (w : List ℕ). size_of w ≤ length (bytes_of u)) (sym e) p;
 }
 
+-- what is lawful stays so with more bytes behind it
 pub lawful-append : (max : ℕ) (xs ys : List ℕ) → 8 ≤ length xs → IsLawful max xs → IsLawful max (xs ++ ys)
 lawful-append max xs ys h z = record {
   sized = sized-append max xs ys (omega arith) z.sized;
@@ -247,6 +258,7 @@ small_front max s l h =
     let p = length-take-le 4 s l in
     (p, omega arith)
 
+-- four bytes show a SIZE that is too large
 pub large_front : (max : ℕ) (s : List ℕ) → 4 ≤ length s → max < size_of s → IsUnit max Frames (FaultUnit TooLarge (take 4 s))
 large_front max s l h =
     let e = size_front 4 s (omega arith) l in
@@ -262,17 +274,20 @@ placed_front n s h l z =
     let o = offset_front n s h l in
     record { least = omega arith; within = omega arith }
 
+-- eight bytes show a DOFF that is out of its place
 pub offset_fault_front : (max : ℕ) (s : List ℕ) → 8 ≤ length s → IsSized max s → (offset_of s < 2) ⊎ (size_of s < 4 * offset_of s) → IsUnit max Frames (FaultUnit BadOffset (take 8 s))
 offset_fault_front max s l z h =
     let e = size_front 8 s (omega arith) l in
     let o = offset_front 8 s (omega arith) l in
     (length-take-le 8 s l, sized_front max 8 s (omega arith) l z, rw (e, o) h)
 
+-- eight bytes show a TYPE that is not 0
 pub type_fault_front : (max : ℕ) (s : List ℕ) → 8 ≤ length s → IsSized max s → IsPlaced s → 0 < type_of s → IsUnit max Frames (FaultUnit BadType (take 8 s))
 type_fault_front max s l z d h =
     let t = type_front 8 s (omega arith) l in
     (length-take-le 8 s l, sized_front max 8 s (omega arith) l z, placed_front 8 s (omega arith) l d, rw t h)
 
+-- as many bytes as SIZE says are a frame, where its header is lawful
 pub frame_front : (max : ℕ) (s : List ℕ) → IsLawful max s → size_of s ≤ length s → IsUnit max Frames (FrameUnit (take (size_of s) s))
 frame_front max s z l =
     let e = size_front (size_of s) s (omega arith) l in
@@ -364,12 +379,15 @@ wanted_to max n s m l here beyond = (
   },
 )
 
+-- below four bytes the rest of SIZE is wanted
 pub wants_size : (max : ℕ) (s : List ℕ) → 8 ≤ max → length s < 4 → IsProgress max s (Wants (4 - length s))
 wants_size max s m l = wanted_to max 4 s (omega arith) l (frame_least max s) (λ more. frame_least max (s ++ more))
 
+-- below eight the rest of the frame's header
 pub wants_header : (max : ℕ) (s : List ℕ) → 8 ≤ max → 4 ≤ length s → length s < 8 → IsSized max s → IsProgress max s (Wants (8 - length s))
 wants_header max s m f l z = wanted_to max 8 s m l (sized_least max s z) (λ more. sized_least max (s ++ more) (sized-append max s more f z))
 
+-- and then the rest of the frame
 pub wants_body : (max : ℕ) (s : List ℕ) → 8 ≤ length s → length s < size_of s → IsLawful max s → IsProgress max s (Wants (size_of s - length s))
 wants_body max s f l z =
     wanted_to max (size_of s) s (omega arith) l (lawful_least max s z) (λ more.
@@ -381,23 +399,29 @@ held_unit : (max : ℕ) (s : List ℕ) (n : ℕ) (f : FrameFault) → 8 ≤ max 
 held_unit max s n f m held h =
     subst (λ (w : List ℕ). IsUnit max Frames (FaultUnit f w)) (sym (held_front max Frames s (FaultUnit f (take n s)) (drop n s) m held h (cut n s))) h
 
+-- a SIZE below eight is the fault that progress says
 pub fails_small : (max : ℕ) (s : List ℕ) → 8 ≤ max → IsHeld max Frames s → 4 ≤ length s → size_of s < 8 → IsProgress max s (Fails TooSmall)
 fails_small max s m held l h = held_unit max s 4 TooSmall m held (small_front max s l h)
 
+-- so is one that is too large
 pub fails_large : (max : ℕ) (s : List ℕ) → 8 ≤ max → IsHeld max Frames s → 4 ≤ length s → max < size_of s → IsProgress max s (Fails TooLarge)
 fails_large max s m held l h = held_unit max s 4 TooLarge m held (large_front max s l h)
 
+-- so is a DOFF out of its place
 pub fails_offset : (max : ℕ) (s : List ℕ) → 8 ≤ max → IsHeld max Frames s → 8 ≤ length s → IsSized max s → (offset_of s < 2) ⊎ (size_of s < 4 * offset_of s) → IsProgress max s (Fails BadOffset)
 fails_offset max s m held l z h = held_unit max s 8 BadOffset m held (offset_fault_front max s l z h)
 
+-- so is a TYPE that is not 0
 pub fails_type : (max : ℕ) (s : List ℕ) → 8 ≤ max → IsHeld max Frames s → 8 ≤ length s → IsSized max s → IsPlaced s → 0 < type_of s → IsProgress max s (Fails BadType)
 fails_type max s m held l z d h = held_unit max s 8 BadType m held (type_fault_front max s l z d h)
 
+-- a lawful frame with all its bytes is whole
 pub is_whole : (max : ℕ) (s : List ℕ) → 8 ≤ max → IsHeld max Frames s → IsLawful max s → size_of s ≤ length s → IsProgress max s Whole
 is_whole max s m held z l =
     let h = frame_front max s z l in
     subst (λ (w : List ℕ). IsFrame max w) (sym (held_front max Frames s (FrameUnit (take (size_of s) s)) (drop (size_of s) s) m held h (cut (size_of s) s))) h
 
+-- no more than a header is held where one is due
 pub header_upto : (max : ℕ) (s : List ℕ) → IsHeld max Header s → length s ≤ 8
 header_upto max s (inl r) =
     elim (cases_lt 8 (length s)) [
@@ -406,6 +430,7 @@ header_upto max s (inl r) =
     ]
 header_upto max s (inr o) = let q = header_exact max o.unit o.stands.is in let e = ap length o.stands.whole in omega arith
 
+-- what lacks of a header is wanted
 pub wants_eight : (max : ℕ) (s : List ℕ) → 8 ≤ max → IsHeld max Header s → IsWanted max Header s (8 - length s)
 wants_eight max s m held =
     let l = header_upto max s held in
@@ -414,12 +439,15 @@ wants_eight max s m held =
       held = λ more h. part_upto max Header (s ++ more) 8 (header_least max (s ++ more)) (omega (arith, length-append s more));
     }
 
+-- eight bytes are the one unit where the header is due
 pub header_one : (max : ℕ) (s : List ℕ) → length s ≡ 8 → IsOne max Header s
 header_one max s h = record { unit = HeaderUnit s; stands = record { is = h; whole = refl } }
 
+-- a frame is one unit
 pub frame_one : (max : ℕ) (s : List ℕ) → IsFrame max s → IsOne max Frames s
 frame_one max s h = record { unit = FrameUnit s; stands = record { is = h; whole = refl } }
 
+-- the bytes that show a fault are one unit
 pub fault_one : (max : ℕ) (f : FrameFault) (s : List ℕ) → IsFault max f s → IsOne max Frames s
 fault_one max f s h = record { unit = FaultUnit f s; stands = record { is = h; whole = refl } }
 
@@ -430,6 +458,7 @@ wants_none max stage s l held = record {
   held = λ more h. rw (nothing_more more (omega arith), append-nil s) held;
 }
 
+-- a fault shows within eight bytes
 pub fault_length : (max : ℕ) (f : FrameFault) (s : List ℕ) → IsFault max f s → length s ≤ 8
 fault_length max TooSmall s h = omega arith
 fault_length max TooLarge s h = omega arith
@@ -504,6 +533,7 @@ rest_early max stage s piece n k m held l h =
     let size : 0 < length more = simp (length-take, length-drop) (omega arith) in
     rest_before max stage (s ++ take k piece) more m (subst (λ (w : List ℕ). IsHeld max stage w) joined held) size
 
+-- where a unit waits, or none is due any more, no byte is taken
 pub none_taken : (max : ℕ) (stage : Stage) (s piece : List ℕ) (n : ℕ) → 8 ≤ max → IsHeld max stage (s ++ take n piece) → n ≤ length piece → IsOne max stage s ⊎ IsOver stage → n ≡ 0
 none_taken max stage s piece n m held l full = sym (length-take-le n piece l) ∙ none_behind max stage s (take n piece) m held full
 
@@ -514,6 +544,7 @@ taken_more old now new piece at count e f =
     f ∙ ap (λ (w : List ℕ). now ++ take count w) rest ∙ ap (λ (w : List ℕ). w ++ take count (drop at piece)) e
     ∙ append_assoc old (take at piece) (take count (drop at piece)) ∙ ap (λ (w : List ℕ). old ++ w) (sym (take-add at count piece))
 
+-- what stands behind a place is as long as the piece lacks there
 pub length_rest : (piece : List ℕ) (at : ℕ) → length (take (length piece - at) (drop at piece)) ≡ length piece - at
 length_rest piece at = simp (length-take, length-drop) (omega arith)
 
@@ -523,6 +554,7 @@ pub record IsWholeAt (max : ℕ) (s : List ℕ) (n : ℕ) : Type 0 where
   pub eight : 8 ≤ n
   pub lawful : IsLawful max s
 
+-- a front that is a frame ends where progress says
 pub whole_at : (max : ℕ) (s : List ℕ) (n : ℕ) → n ≤ length s → IsFrame max (take n s) → IsWholeAt max s n
 whole_at max s n l h =
     let p = length-take-le n s l in
@@ -540,6 +572,7 @@ whole_at max s n l h =
       };
     }
 
+-- of an empty buffer four bytes are wanted
 pub judged_none : (max : ℕ) (stage : Stage) → 8 ≤ max → IsJudged max stage [] (Wants 4)
 judged_none max Header m = tt
 judged_none max Frames m = wants_size max [] m (omega arith)
@@ -556,6 +589,7 @@ whole_one max stage held piece new size w e =
     let frame : IsOne max Frames (take size piece) = frame_one max (take size piece) w.2.1 in
     rw (w.0, e, w.1) frame
 
+-- a frame that is taken whole out of a piece leaves a splitter in order
 pub whole_sound : (max : ℕ) (stage : Stage) (held piece new : List ℕ) (size reserved : ℕ) → 8 ≤ max → max ≤ reserved →
     IsWholeIn max stage held piece (Some size) → new ≡ held ++ take size piece → IsSound max stage new reserved Whole
 whole_sound max stage held piece new size reserved m r w e =

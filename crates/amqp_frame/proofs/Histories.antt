@@ -14,10 +14,12 @@ pub units_more : (max : ℕ) (stage : Stage) (us : List StreamUnit) (u : StreamU
 units_more max stage [] u each is = (is, tt)
 units_more max stage (v ∷ us) u each is = (each.0, units_more max (due_after v) us u each.1 is)
 
+-- what is due behind one more unit
 pub due_more : (stage : Stage) (us : List StreamUnit) (u : StreamUnit) → due_behind stage (us ++ u ∷ []) ≡ due_after u
 due_more stage [] u = refl
 due_more stage (v ∷ us) u = due_more (due_after v) us u
 
+-- the joined bytes of one more unit
 pub joined_more : (us : List StreamUnit) (u : StreamUnit) (rest : List ℕ) → flat_map bytes_of (us ++ u ∷ []) ++ rest ≡ flat_map bytes_of us ++ (bytes_of u ++ rest)
 joined_more us u rest =
     ap (λ (w : List ℕ). w ++ rest) (flat_map-append bytes_of us (u ∷ []) ∙ ap (λ (w : List ℕ). flat_map bytes_of us ++ w) (append-nil (bytes_of u)))

@@ -9,6 +9,7 @@ use Rattle.amqp_frame.specs.declared.units.Stage.TheVariants.{Header, Frames, Re
 use Rattle.amqp_frame.proofs.Fronts.{HasFront, front, frame_length, header_exact, one_front}
 use Rattle.amqp_frame.proofs.Histories.{units_more, due_more, joined_more}
 
+-- no unit is shorter than four bytes
 pub unit_length : (max : ℕ) (stage : Stage) (u : StreamUnit) → IsUnit max stage u → 4 ≤ length (bytes_of u)
 unit_length max Header u h = let e = header_exact max u h in omega arith
 unit_length max Frames u h = frame_length max u h
@@ -53,6 +54,7 @@ reads (suc n) max stage stream l =
       | inr f ↦ reads_more max stage stream f (reads n max (due_after f.unit) f.more (let s = shorter max stage stream f in omega arith))
     ]
 
+-- every stream has a reading as units
 pub each_is_read : (max : ℕ) (stage : Stage) (stream : List ℕ) → (us : List StreamUnit) × (rest : List ℕ) × IsReading max stage stream us rest
 each_is_read max stage stream = let r = reads (length stream) max stage stream (omega arith) in (r.units, r.rest, r.reading)
 

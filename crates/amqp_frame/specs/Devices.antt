@@ -1,6 +1,6 @@
 -- What a marked reader or writer shows.
 use Rattle.std.specs.Prelude.{ℕ, ◌+◌, Bool, if◌then◌else◌}
-use Rattle.amqp_frame.specs.declared.marked.Device.{Device}
+use Rattle.amqp_frame.specs.declared.device.Device.{Device}
 
 module _ {T : Type 0} where
   -- the reader or writer itself

@@ -8,13 +8,13 @@
 //! `specs/Units.antt` has what a unit is, `specs/Splits.antt` what a splitter holds.
 #![tactic(auto)]
 
+mod device;
 pub mod laws;
-mod marked;
 mod split;
 #[cfg(test)]
 mod tests;
 mod units;
 
-pub use marked::Device;
+pub use device::Device;
 pub use split::Splitter;
 pub use units::{Frame, FrameFault, HEADER, Stage};

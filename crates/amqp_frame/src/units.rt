@@ -24,6 +24,18 @@ pub enum FrameFault {
     BadType,
 }
 
+impl FrameFault {
+    /// Its name.
+    pub fn name(self) -> &'static str {
+        match self {
+            FrameFault::TooSmall => "TooSmall",
+            FrameFault::TooLarge => "TooLarge",
+            FrameFault::BadOffset => "BadOffset",
+            FrameFault::BadType => "BadType",
+        }
+    }
+}
+
 /// A whole frame, lent from the buffer that it came in (part 2, section 2.3.1).
 #[derive(Clone, Copy, Debug)]
 pub struct Frame<'a> {

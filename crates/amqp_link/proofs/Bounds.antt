@@ -98,10 +98,12 @@ stays terms credit count left draining o t link may less =
     gone : t.aborted ≡ true → goes_on t ≡ false
     gone e = and_right t.more (not t.aborted) (ap not e)
 
+-- a first transfer takes one credit
 pub cost_of_head : (p : Option Delivery) → is_none p ≡ true → cost p ≡ 1
 cost_of_head None e = refl
 cost_of_head (Some d) e = absurd (grind (arith, e))
 
+-- a later one takes none
 pub cost_of_rest : (p : Option Delivery) → is_none p ≡ false → cost p ≡ 0
 cost_of_rest None e = absurd (grind (arith, e))
 cost_of_rest (Some d) e = refl
@@ -126,6 +128,7 @@ one_turned : (terms : Terms) (turn : Delivery → Delivery) → ((d : Delivery) 
 one_turned terms turn same None all = tt
 one_turned terms turn same (Some d) all = (same d all.0, tt)
 
+-- a settle that is not refused keeps what holds of every link
 pub stays_for_receiver : (terms : Terms) (credit count : ℕ) (draining : Bool) (o : OpenSet) (first last : ℕ) → IsLink terms credit o → settle_fault first last o ≡ None →
     IsLink terms credit (receiver_settled_in first last o)
 stays_for_receiver terms credit count draining o first last link may = record {
@@ -137,6 +140,7 @@ stays_for_receiver terms credit count draining o first last link may = record {
   unfinished = link.unfinished;
 }
 
+-- so does a disposition of the sender
 pub stays_for_sender : (terms : Terms) (credit count : ℕ) (draining : Bool) (o : OpenSet) (first last : ℕ) → IsLink terms credit o → IsLink terms credit (sender_settled_in first last o)
 stays_for_sender terms credit count draining o first last link =
     let same : (d : Delivery) → IsShort terms d → IsShort terms (sender_settled_by first last d) = λ d s. record { delivery_tag = s.delivery_tag; message = s.message } in
@@ -152,6 +156,7 @@ stays_for_sender terms credit count draining o first last link =
 pub few_named : (first last : ℕ) (o : OpenSet) → named_count first last o ≤ how_many o
 few_named first last o = omega (arith, count_by-le-length (is_covered first last) o.awaiting)
 
+-- no more deliveries are settled than are open
 pub few_settled : (first last : ℕ) (o : OpenSet) → newly_settled first last o ≤ how_many o
 few_settled first last o =
     omega (

@@ -15,17 +15,21 @@ use Rattle.amqp_link.proofs.Selections.{taken_picked, opens_picked, count_select
 
 -- Lists. ---------------------------------------------------------------------------------------------------------
 
+-- a count over one more element
 pub count_cons : {X : Type 0} (p : X → Bool) (x : X) (xs : List X) → count_by p (x ∷ xs) ≡ one_if (p x) + count_by p xs
 count_cons p x xs = sum_by-cons (λ x. cond (p x) 1 0) x xs
 
+-- a count over three lists joined
 pub count_parts : {X : Type 0} (p : X → Bool) (xs ys zs : List X) → count_by p (xs ++ ys ++ zs) ≡ count_by p xs + count_by p ys + count_by p zs
 count_parts p xs ys zs = omega (arith, sum_by-append (λ x. cond (p x) 1 0) (xs ++ ys) zs, sum_by-append (λ x. cond (p x) 1 0) xs ys)
 
+-- a count over images by a test that does not tell them apart
 pub count_map : {X Y : Type 0} (p : Y → Bool) (q : X → Bool) (f : X → Y) → ((x : X) → p (f x) ≡ q x) → (xs : List X) → count_by p (map f xs) ≡ count_by q xs
 count_map p q f same [] = refl
 count_map p q f same (x ∷ xs) = count_cons p (f x) (map f xs) ∙ ap (λ (b : Bool). one_if b + count_by p (map f xs)) (same x)
     ∙ ap (λ (n : ℕ). one_if (q x) + n) (count_map p q f same xs) ∙ sym (count_cons q x xs)
 
+-- the image of an option as a list
 pub option_list : {X Y : Type 0} (f : X → Y) (o : Option X) → option_to_list (option_map f o) ≡ map f (option_to_list o)
 option_list f None = refl
 option_list f (Some x) = refl
@@ -122,6 +126,7 @@ sender_ids id first last s =
       count_map has has turn (λ d. refl) (option_to_list s.unfinished),
     )
 
+-- an open id comes by the event that begins with it
 pub ids_grow : (id : ℕ) (s : LinkState) (e : LinkEvent) → LinkMay s e → id_count id (link_after s e) ≤ id_count id s + begun_with id s e
 ids_grow id s (Transferred t) may = transfer_ids id s t
 ids_grow id s (HandedUp d) may = omega (arith, handed_up_ids id s.awaiting s.ready s.unfinished d may)
@@ -131,6 +136,7 @@ ids_grow id s e may = omega arith
 
 -- What a settle of the receiver names. -----------------------------------------------------------------------------
 
+-- as many open deliveries are named as the history has that a range names
 pub named_is : (terms : Terms) (h : List LinkEvent) (first last : ℕ) → named_count first last (open_set (state_of terms h)) ≡ length (filter (is_named_by terms h first last) (groups h))
 named_is terms h first last =
     let is_unsettled = λ (g : Group). not (is_settled terms h g) in
@@ -158,6 +164,7 @@ all_few : (h : List LinkEvent) (most : ℕ) (gs : List Group) → AllByRecursion
 all_few h most [] short tagged = tt
 all_few h most (g ∷ gs) short tagged = (kept_few h g most short.0 tagged.0, all_few h most gs short.1 tagged.1)
 
+-- the bytes held stay within the bound
 pub held_bounded : (terms : Terms) (h : List LinkEvent) → Sound terms h → link_bytes (state_of terms h) ≤ terms.bounds.allowed * (terms.bounds.max_message_size + 96)
 held_bounded terms h sound =
     let most = terms.bounds.max_message_size in

@@ -7,6 +7,7 @@ use Rattle.amqp_link.specs.Histories.{credit, draining, asks_to_drain, ends_drai
 use Rattle.amqp_link.specs.Laws.{NoneEnds, IsAskedToDrain}
 use Rattle.amqp_link.proofs.Steps.{credit_flowed}
 
+-- a flow tells of a drain exactly where one was asked for and no credit is left behind it
 pub drained_is : (terms : Terms) (h : List LinkEvent) (stated : Option ℕ) → (is_drained (state_of terms h) stated ≡ true) ↔ ((draining terms h ≡ true) × (credit terms (FlowStated stated ∷ h) ≡ 0))
 drained_is terms h stated = (
   λ e. let p = and_parts _ _ e in (p.0, sym (credit_flowed terms h stated) ∙ eqb-true _ 0 p.1),
@@ -42,6 +43,7 @@ draining_stays terms (e ∷ later) before on stays = one (asks_to_drain e) (ends
     one true b none rest = refl
     one false b none rest = rw none rest
 
+-- a link drains exactly where the history asks
 pub asked_is : (terms : Terms) (h : List LinkEvent) → (draining terms h ≡ true) ↔ IsAskedToDrain terms h
 asked_is terms h = (
   asked_from terms h,

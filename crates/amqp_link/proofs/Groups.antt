@@ -40,10 +40,12 @@ front_goes_on k u [] t e = rw e refl
 front_goes_on k u (g ∷ []) t e = joined_cond k u (is_unfinished g) _ _
 front_goes_on k u (g ∷ h ∷ gs) t e = refl
 
+-- a choice between the same
 pub same_either : {X : Type 0} (b : Bool) (x : X) → cond b x x ≡ x
 same_either true x = refl
 same_either false x = refl
 
+-- one more transfer grows the last group or begins one
 pub groups_more : (k : ℕ) (ts : List Sent) (t : Sent) → groups_from k (ts ++ t ∷ []) ≡ more k t (groups_from k ts)
 groups_more k [] t = same_either (goes_on t) _
 groups_more k (u ∷ ts) t = elim (cases_Bool (goes_on u)) [
@@ -66,6 +68,7 @@ alone_runs : (k : ℕ) (u : Sent) (gs : List Group) → goes_on u ≡ false → 
 alone_runs k u [] e r = refl
 alone_runs k u (g ∷ gs) e r = (refl, e, r)
 
+-- the groups of any transfers are numbered, and all but the last are finished
 pub groups_run : (k : ℕ) (ts : List Sent) → Runs k (groups_from k ts)
 groups_run k [] = tt
 groups_run k (u ∷ ts) = elim (cases_Bool (goes_on u)) [
@@ -73,6 +76,7 @@ groups_run k (u ∷ ts) = elim (cases_Bool (goes_on u)) [
   | inr e ↦ rw e (alone_runs k u (groups_from (suc k) ts) e (groups_run (suc k) ts))
 ]
 
+-- so are those of a history
 pub runs : (h : List LinkEvent) → Runs 0 (groups h)
 runs h = groups_run 0 (transfers h)
 
@@ -83,6 +87,7 @@ unfinished_not_whole t e = two t.more t.aborted e
     two true a e = refl
     two false a e = absurd (grind (arith, e))
 
+-- a choice in front of two lists joined
 pub cons_append : {X : Type 0} (b : Bool) (x : X) (xs ys : List X) → cond b (x ∷ (xs ++ ys)) (xs ++ ys) ≡ cond b (x ∷ xs) xs ++ ys
 cons_append true x xs ys = refl
 cons_append false x xs ys = refl
@@ -99,9 +104,11 @@ module _ (test : Group → Bool) (ended : (g : Group) → is_unfinished g ≡ tr
       let n : suc k + length (h ∷ gs) ≡ k + length (g ∷ h ∷ gs) = omega arith in
       rw (r.1, selected_more (suc k) t (h ∷ gs) r.2, n) (cons_append (test g) g (filter test (h ∷ gs)) _)
 
+-- what one more transfer adds to the whole deliveries
 pub wholes_more : (k : ℕ) (t : Sent) (gs : List Group) → Runs k gs → filter is_whole (more k t gs) ≡ filter is_whole gs ++ filter is_whole (target (k + length gs) t (find is_unfinished gs) ∷ [])
 wholes_more = selected_more is_whole (λ g e. unfinished_not_whole (latest g) e)
 
+-- the unfinished delivery behind one more transfer
 pub find_more : (k : ℕ) (t : Sent) (gs : List Group) → Runs k gs → find is_unfinished (more k t gs) ≡ find is_unfinished (target (k + length gs) t (find is_unfinished gs) ∷ [])
 find_more k t [] r = ap (λ (n : ℕ). find is_unfinished (alone n t ∷ [])) (omega arith)
 find_more k t (g ∷ []) r = elim (cases_Bool (is_unfinished g)) [
@@ -112,6 +119,7 @@ find_more k t (g ∷ h ∷ gs) r =
     let n : suc k + length (h ∷ gs) ≡ k + length (g ∷ h ∷ gs) = omega arith in
     rw (r.1, find_more (suc k) t (h ∷ gs) r.2, n) refl
 
+-- how many deliveries there are then
 pub length_more : (k : ℕ) (t : Sent) (gs : List Group) → Runs k gs → length (more k t gs) ≡ length gs + one_if (is_none (find is_unfinished gs))
 length_more k t [] r = refl
 length_more k t (g ∷ []) r = elim (cases_Bool (is_unfinished g)) [ inl e ↦ rw e refl | inr e ↦ rw e refl ]
@@ -137,6 +145,7 @@ pub latest_of_target : (k : ℕ) (t : Sent) (p : Option Group) → latest (targe
 latest_of_target k t None = refl
 latest_of_target k t (Some g) = last_more g.head g.behind t
 
+-- the message of a delivery with one more transfer
 pub message_more : (g : Group) (t : Sent) → message_of (grown g t) ≡ message_of g ++ adds t
 message_more g t = flat_map-append adds (all_of g) (t ∷ []) ∙ ap (λ (w : List ℕ). message_of g ++ w) (append-nil (adds t))
 
@@ -145,6 +154,7 @@ abbrev pub starts_behind : Bool → List Sent → Bool
 starts_behind starts [] = starts
 starts_behind starts (t ∷ ts) = starts_behind (not (goes_on t)) ts
 
+-- how many transfers begin a delivery, with one more
 pub heads_more : (b : Bool) (ts : List Sent) (t : Sent) → heads_from b (ts ++ t ∷ []) ≡ heads_from b ts + one_if (starts_behind b ts)
 heads_more b [] t = omega arith
 heads_more b (u ∷ ts) t = omega (arith, heads_more (not (goes_on u)) ts t)
@@ -173,6 +183,7 @@ abbrev pub IfAny : (Group → Type 0) → Option Group → Type 0
 IfAny P None = Unit {0}
 IfAny P (Some g) = P g
 
+-- what holds of all groups holds of one that is found
 pub all_found : (P : Group → Type 0) (test : Group → Bool) (gs : List Group) → AllByRecursion P gs → IfAny P (find test gs)
 all_found P test [] all = tt
 all_found P test (g ∷ gs) all = one (test g) (all_found P test gs all.1)

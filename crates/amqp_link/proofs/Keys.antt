@@ -13,6 +13,7 @@ use Rattle.amqp_link.specs.Keeping.{delivery_of, at_key, AreKeys}
 abbrev pub IsApart : ℕ → List ℕ → Type 0
 IsApart key keys = AllByRecursion (λ other. other ≢ key) keys
 
+-- a key apart from two lists joined is apart from each
 pub apart_append : (key : ℕ) (xs ys : List ℕ) → IsApart key (xs ++ ys) → IsApart key xs × IsApart key ys
 apart_append key [] ys a = (tt, a)
 apart_append key (x ∷ xs) ys a = let r = apart_append key xs ys a.1 in ((a.0, r.0), r.1)

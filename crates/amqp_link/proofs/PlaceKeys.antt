@@ -6,11 +6,13 @@ use Rattle.std.proofs.lemmas.List.{append-nil, take-append-drop, take-append-le,
 use Rattle.std.proofs.lemmas.List.Folds.{list_any-append}
 use Rattle.amqp_link.specs.Keeping.{keys_of}
 
+-- the keys of places joined
 pub keys_append : (xs ys : List (Option ℕ)) → keys_of (xs ++ ys) ≡ keys_of xs ++ keys_of ys
 keys_append [] ys = refl
 keys_append (None ∷ xs) ys = keys_append xs ys
 keys_append (Some key ∷ xs) ys = ap (λ ks. key ∷ ks) (keys_append xs ys)
 
+-- there are no more keys than places
 pub keys_length : (xs : List (Option ℕ)) → length (keys_of xs) ≤ length xs
 keys_length [] = omega arith
 keys_length (None ∷ xs) = omega (arith, keys_length xs)
@@ -22,11 +24,13 @@ keys_filter [] = refl
 keys_filter (None ∷ xs) = keys_filter xs
 keys_filter (Some key ∷ xs) = ap (λ ks. key ∷ ks) (keys_filter xs)
 
+-- filled places stay where empty ones are closed up
 pub filter_filled : (xs : List (Option ℕ)) → AllByRecursion IsSome xs → filter (λ place. is_some place) xs ≡ xs
 filter_filled [] all = refl
 filter_filled (None ∷ xs) all = absurd (grind (arith, all.0))
 filter_filled (Some key ∷ xs) all = ap (λ ks. Some key ∷ ks) (filter_filled xs all.1)
 
+-- filled places have a key each
 pub length_filled : (xs : List (Option ℕ)) → AllByRecursion IsSome xs → length (keys_of xs) ≡ length xs
 length_filled [] all = refl
 length_filled (None ∷ xs) all = absurd (grind (arith, all.0))
@@ -41,6 +45,7 @@ any_found {X} test (x ∷ xs) = by_test (test x) (any_found test xs)
     by_test true e = refl
     by_test false e = e
 
+-- a place is found exactly where some place passes
 pub found_any : {B X : Type 0} (show : B → X) (test : X → Bool) (r : Option B) (xs : List X) → option_map show r ≡ find test xs → is_some r ≡ list_any test xs
 found_any show test None xs e = ap is_some e ∙ sym (any_found test xs)
 found_any show test (Some x) xs e = ap is_some e ∙ sym (any_found test xs)
@@ -53,6 +58,7 @@ keys_split n xs = sym (keys_append (take n xs) (drop n xs)) ∙ ap keys_of (take
 pub to_the_end : (len n : ℕ) (xs : List (Option ℕ)) → len ≡ length xs → take (len - n) (drop n xs) ≡ drop n xs
 to_the_end len n xs e = take_all (len - n) (drop n xs) (omega (arith, e, length-drop n xs))
 
+-- the front that begins at no place
 pub from_the_start : (n : ℕ) (xs : List (Option ℕ)) → take (n - 0) xs ≡ take n xs
 from_the_start n xs = ap (λ (k : ℕ). take k xs) (omega arith)
 

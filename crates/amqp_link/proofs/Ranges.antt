@@ -13,6 +13,7 @@ use Rattle.amqp_link.proofs.Counts.{count_cons, count_parts, option_list}
 
 -- Ids. -----------------------------------------------------------------------------------------------------------
 
+-- a range covers the ids that stand in it as serial numbers
 pub covers_range : (first last id : ℕ) → (covers first last id ≡ true) ↔ IsInRange first last id
 covers_range first last id = (
   λ e. let p = and_parts _ _ e in (ltb-true _ _ p.0, leb-true _ _ p.1),

@@ -14,10 +14,12 @@ use Rattle.amqp_link.specs.Histories.{Group, groups, latest, is_aborted, is_whol
 use Rattle.amqp_link.specs.Histories.{is_open, shown, shown_awaiting, kept, kept_bytes, state_of}
 use Rattle.amqp_link.proofs.Groups.{Runs, runs, IfAny}
 
+-- the first of numbered groups has the first number
 pub runs_head : (k : ℕ) (g : Group) (gs : List Group) → Runs k (g ∷ gs) → g.number ≡ k
 runs_head k g [] r = r
 runs_head k g (h ∷ gs) r = r.0
 
+-- the others are numbered from the next one on
 pub runs_rest : (k : ℕ) (g : Group) (gs : List Group) → Runs k (g ∷ gs) → Runs (suc k) gs
 runs_rest k g [] r = tt
 runs_rest k g (h ∷ gs) r = r.2
@@ -30,6 +32,7 @@ pub data Way (t : Sent) : Type 0 where
   Whole : t.aborted ≡ false → completes t ≡ true → goes_on t ≡ false → Way t
   Unfinished : t.aborted ≡ false → completes t ≡ false → goes_on t ≡ true → Way t
 
+-- the three ways that a transfer can leave its delivery
 pub way_of : (t : Sent) → Way t
 way_of t = elim (cases_Bool t.aborted) [
   | inl a ↦ elim (cases_Bool t.more) [ inl m ↦ Given_up a (rw (a, m) refl) (rw (a, m) refl) | inr m ↦ Given_up a (rw (a, m) refl) (rw (a, m) refl) ]
@@ -108,6 +111,7 @@ picked_behind k m number g gs r l = elim (cases_Bool (is_whole g)) [
         ap (λ (b : Bool). b || has_number (take m (filter is_whole gs)) number) (ne_eqb g.number number other)
         ∙ ap (λ (n : ℕ). has_number (take n (filter is_whole gs)) number) less
 
+-- the selection by numbers is a front of the whole groups
 pub picks : (all : ℕ → Bool) (k m : ℕ) (gs : List Group) → Runs k gs → ((number : ℕ) → k ≤ number → all number ≡ has_number (take m (filter is_whole gs)) number) → Picks (λ g. all g.number) m gs
 picks all k m [] r same = tt
 picks all k m (g ∷ gs) r same = (
@@ -210,6 +214,7 @@ module _ (settled taken : Group → Bool) where
 pub taken_picked : (h : List LinkEvent) → Picks (is_handed_up h) (takes h) (groups h)
 taken_picked h = picks (has_number (handed_up_groups h)) 0 (takes h) (groups h) (runs h) (λ number l. refl)
 
+-- the open deliveries are those of the history that it says are open, as it shows them
 pub deliveries_selected : (terms : Terms) (h : List LinkEvent) → deliveries (state_of terms h) ≡ map (kept terms h) (filter (is_open terms h) (groups h))
 deliveries_selected terms h = sym (selected (is_settled terms h) (is_handed_up h) (shown terms h) (shown_awaiting terms h) (kept terms h) (λ g e. rw e refl) (λ g e. rw e refl) 0
     (takes h) (groups h) (runs h) (taken_picked h))
@@ -219,6 +224,7 @@ deliveries_selected terms h = sym (selected (is_settled terms h) (is_handed_up h
 three : (xs ys zs : List Delivery) → length (xs ++ ys ++ zs) ≡ length xs + length ys + length zs
 three xs ys zs = omega (arith, length-append (xs ++ ys) zs, length-append xs ys)
 
+-- so is their number
 pub count_selected : (terms : Terms) (h : List LinkEvent) → open_count (state_of terms h) ≡ length (filter (is_open terms h) (groups h))
 count_selected terms h =
     let s = state_of terms h in
@@ -231,6 +237,7 @@ sum_kept : (terms : Terms) (h : List LinkEvent) (gs : List Group) → sum_by del
 sum_kept terms h [] = refl
 sum_kept terms h (g ∷ gs) = omega (arith, sum_by-cons delivery_bytes (kept terms h g) (map (kept terms h) gs), sum_by-cons (kept_bytes h) g gs, bytes_kept terms h g, sum_kept terms h gs)
 
+-- and their bytes
 pub bytes_selected : (terms : Terms) (h : List LinkEvent) → link_bytes (state_of terms h) ≡ sum_by (kept_bytes h) (filter (is_open terms h) (groups h))
 bytes_selected terms h = ap (sum_by delivery_bytes) (deliveries_selected terms h) ∙ sum_kept terms h (filter (is_open terms h) (groups h))
 
@@ -250,6 +257,7 @@ passes_here any k (g ∷ gs) r same = (
       ∙ ap (λ (b : Bool). (b && test g) || list_any (λ x. nat_eq x.number number && test x) gs) (ne_eqb g.number number (λ e. omega (arith, runs_head k g gs r, l, e)))),
 )
 
+-- each group of a history is found by its own number
 pub all_pass : (h : List LinkEvent) → AllByRecursion (λ g. (test : Group → Bool) → passes test g.number h ≡ test g) (groups h)
 all_pass h = passes_here (λ test number. passes test number h) 0 (groups h) (runs h) (λ test number l. refl)
 

@@ -54,6 +54,7 @@ module _ (settled settled_then : Group → Bool) (bare bare_then : Group → Del
     ]
   ]
 
+-- what follows of each element follows of all
 pub all_from : {X : Type 0} (P Q : X → Type 0) → ((x : X) → P x → Q x) → (xs : List X) → AllByRecursion P xs → AllByRecursion Q xs
 all_from P Q f [] all = tt
 all_from P Q f (x ∷ xs) all = (f x all.0, all_from P Q f xs all.1)
@@ -169,6 +170,7 @@ later_shown : (terms : Terms) (h : List LinkEvent) (first last : ℕ) (g : Group
 unfolding made
 later_shown terms h first last g s = made_same (shown terms h g) _ _ _ _ (ap (λ (b : Bool). comes_settled g || b) (sym (later_named terms h first last g s))) (sym (later_told terms h first last g s))
 
+-- the receiver's settle leaves the state of the longer history
 pub named_state : (terms : Terms) (h : List LinkEvent) (first last : ℕ) → link_after (state_of terms h) (ReceiverSettled first last) ≡ state_of terms (ReceiverSettled first last ∷ h)
 unfolding stated
 named_state terms h first last =
@@ -195,6 +197,7 @@ covered_shown : (terms : Terms) (h : List LinkEvent) (first last : ℕ) (g : Gro
 unfolding made
 covered_shown terms h first last g s = made_same (shown terms h g) _ _ _ _ (sym (covered_settled terms h first last false g s)) refl
 
+-- so does the sender's
 pub covered_state : (terms : Terms) (h : List LinkEvent) (first last : ℕ) → link_after (state_of terms h) (SenderSettled first last) ≡ state_of terms (SenderSettled first last ∷ h)
 unfolding stated
 covered_state terms h first last =

@@ -16,6 +16,7 @@ use Rattle.amqp_link.specs.Keeping.{delivery_of, delivery_in, at_key, keys_of, A
 use Rattle.amqp_link.proofs.Keys.{IsApart, same_value, in_keys, to_keys, map_other, keys_other, apart_append, there_now, size_kept, keys_before, keys_behind}
 use Rattle.amqp_link.proofs.PlaceKeys.{keys_append, keys_length}
 
+-- a settle over two lists of deliveries joined
 pub settled_append : (s : Settling) (ds es : List Delivery) → settled_list s (ds ++ es) ≡ settled_list s ds ++ settled_list s es
 settled_append s ds es = ap (map (turned s)) (filter-append (λ d. not (ends s d)) ds es) ∙ map-append (turned s) (filter (λ d. not (ends s d)) ds) (filter (λ d. not (ends s d)) es)
 
@@ -37,6 +38,7 @@ left_list s d e = ap (λ b. map (turned s) (cond (not b) (d ∷ []) [])) e
 one_counted : (s : Settling) (d : Delivery) (n : ℕ) → n ≡ cond (counts s d) 1 0 → n ≡ count_by (counts s) (d ∷ [])
 one_counted s d n e = omega (arith, e)
 
+-- a count of one place is 1 or 0 by its test
 pub one_or_none : (n : ℕ) (b : Bool) (c : Bool) → n ≡ bool_byte b → b ≡ c → n ≡ cond c 1 0
 one_or_none n true c e same = e ∙ ap (λ x. cond x 1 0) same
 one_or_none n false c e same = e ∙ ap (λ x. cond x 1 0) same
@@ -56,6 +58,7 @@ same_append f g (x ∷ xs) ys e =
     pair : {x y : Delivery} {ds es : List Delivery} → x ≡ y → ds ≡ es → x ∷ ds ≡ y ∷ es
     pair e f = cc
 
+-- the keys of one place
 pub one_key : (place : Option ℕ) → keys_of (place ∷ []) ≡ option_to_list place
 one_key None = refl
 one_key (Some key) = refl

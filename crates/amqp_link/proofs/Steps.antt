@@ -23,19 +23,23 @@ use Rattle.amqp_link.proofs.Takes.{first_ready, one_on, took_one, took_given, ta
 
 -- Credit and count. ----------------------------------------------------------------------------------------------
 
+-- a grant adds to credit
 pub credit_granted : (terms : Terms) (h : List LinkEvent) (n : ℕ) → heads h + advances terms h ≤ grants h → credit terms (Granted n ∷ h) ≡ credit terms h + n
 credit_granted terms h n spent = rw (sum_by-cons granted_by (Granted n) h) (omega (arith, spent))
 
+-- and leaves the state of the longer history
 pub grant_state : (terms : Terms) (h : List LinkEvent) (n : ℕ) → heads h + advances terms h ≤ grants h → link_after (state_of terms h) (Granted n) ≡ state_of terms (Granted n ∷ h)
 unfolding stated
 grant_state terms h n spent = stated_same terms _ _ _ _ _ _ _ _ _ _ _ _ refl (sym (credit_granted terms h n spent)) refl refl refl refl
 
+-- a flow takes from credit what it moves the delivery-count
 pub credit_flowed : (terms : Terms) (h : List LinkEvent) (n : Option ℕ) → credit terms h - advance_by (delivery_count terms h) (credit terms h) n ≡ credit terms (FlowStated n ∷ h)
 credit_flowed terms h n = drawn (grants h) (heads h) (advances terms h) (advance_by (delivery_count terms h) (credit terms h) n)
   where
     drawn : (g n v a : ℕ) → (g - (n + v)) - a ≡ g - (n + (v + a))
     drawn g n v a = omega arith
 
+-- and leaves the state of the longer history
 pub count_state : (terms : Terms) (h : List LinkEvent) (n : Option ℕ) → link_after (state_of terms h) (FlowStated n) ≡ state_of terms (FlowStated n ∷ h)
 unfolding stated
 count_state terms h n =
@@ -47,6 +51,7 @@ count_state terms h n =
     moved : (f n v a : ℕ) → ((f + n + v) % 2 ^ 32 + a) % 2 ^ 32 ≡ (f + n + (v + a)) % 2 ^ 32
     moved f n v a = omega arith
 
+-- a flow moves the delivery-count no further than credit
 pub advance_within : (known here : ℕ) (stated : Option ℕ) → advance_by known here stated ≤ here
 advance_within known here None = omega arith
 advance_within known here (Some stated) = grind (arith, leb-true)
@@ -61,12 +66,15 @@ zero_moves known here told e = rw e (same_either {X = ℕ} (nat_le 0 here) 0)
 zero_within : (known here told : ℕ) → distance_of known told ≡ 0 → is_beyond known here (Some told) ≡ false
 zero_within known here told e = rw e (and_left (nat_lt here 0) (nat_lt 0 (2 ^ 31)) (le-ltb here 0 (omega arith)))
 
+-- a flow that states the known count does what one without a count does
 pub known_after : (s : LinkState) → s.delivery_count < 2 ^ 32 → link_after s (FlowStated (Some s.delivery_count)) ≡ link_after s (FlowStated None)
 known_after s l = ap (λ (d : ℕ). advanced s d) (zero_moves s.delivery_count s.credit s.delivery_count (no_distance s.delivery_count l))
 
+-- it may always come
 pub known_may : (s : LinkState) → s.delivery_count < 2 ^ 32 → LinkMay s (FlowStated (Some s.delivery_count))
 known_may s l = zero_within s.delivery_count s.credit s.delivery_count (no_distance s.delivery_count l)
 
+-- and it tells the same of a drain
 pub known_drained : (s : LinkState) → s.delivery_count < 2 ^ 32 → is_drained s (Some s.delivery_count) ≡ is_drained s None
 known_drained s l = ap (λ (d : ℕ). s.draining && nat_eq (s.credit - d) 0) (zero_moves s.delivery_count s.credit s.delivery_count (no_distance s.delivery_count l))
 
@@ -77,6 +85,7 @@ pub skip_some : (b : Bool) (x : LinkFault) (o : Option LinkFault) → cond b (So
 skip_some true x o e = absurd (grind (arith, e))
 skip_some false x o e = (refl, e)
 
+-- what holds of a transfer without a fault
 pub record Fits (s : LinkState) (t : Sent) : Type 0 where
   pub formed : is_formed s.terms s.unfinished t ≡ true
   pub paid : cost s.unfinished ≤ s.credit
@@ -90,6 +99,7 @@ short_enough : (a : Bool) (n m : ℕ) → not a && nat_lt n m ≡ false → (a �
 short_enough true n m e = inl refl
 short_enough false n m e = inr (ltb-false n m e)
 
+-- it does
 pub fits : (s : LinkState) (t : Sent) → fault_of s t ≡ None → Fits s t
 fits s t e =
     let a = skip_some t.resume NotImplemented (cond (not (is_formed s.terms s.unfinished t)) (Some InvalidField)
@@ -170,6 +180,7 @@ tag_short : (tag : Option (List ℕ)) → is_tag tag ≡ true → length (unwrap
 tag_short None e = omega arith
 tag_short (Some tag) e = leb-true (length tag) 32 e
 
+-- the tag of a well formed first transfer has at most 32 bytes
 pub head_tag : (terms : Terms) (t : Sent) → is_formed_head terms t ≡ true → length (unwrap_or t.delivery_tag []) ≤ 32
 head_tag terms t e = tag_short t.delivery_tag (and_parts _ _ (and_parts _ _ e).0).1
 
@@ -274,6 +285,7 @@ covered terms h first last sound may =
     let same = covered_state terms h first last in
     (same, still terms h (SenderSettled first last) sound refl refl sound.spent (within_state terms h (SenderSettled first last) sound may same))
 
+-- one more event of a link leaves the state of the longer history
 pub goes_on_sound : (terms : Terms) (h : List LinkEvent) (e : LinkEvent) → Sound terms h → LinkMay (state_of terms h) e → Goes terms h e
 goes_on_sound terms h (Granted n) sound may = granted terms h n sound may
 goes_on_sound terms h DrainAsked sound may = drains terms h sound
@@ -283,6 +295,7 @@ goes_on_sound terms h (HandedUp d) sound may = took terms h d sound may
 goes_on_sound terms h (ReceiverSettled first last) sound may = named terms h first last sound may
 goes_on_sound terms h (SenderSettled first last) sound may = covered terms h first last sound may
 
+-- a new link has the state of the empty history
 pub begins_sound : (terms : Terms) → terms.initial_delivery_count < 2 ^ 32 → (link_begins terms ≡ state_of terms []) × Sound terms []
 unfolding stated
 begins_sound terms l = (
@@ -290,6 +303,7 @@ begins_sound terms l = (
   record { spent = omega arith; begun = refl; front = refl; stood = refl; came = omega arith; within = omega arith; small = tt; tagged = tt },
 )
 
+-- after any list of accepted events a link has the state of the history
 pub all_sound : (terms : Terms) (h : List LinkEvent) → terms.initial_delivery_count < 2 ^ 32 → Accepted terms h → (after_all terms h ≡ state_of terms h) × Sound terms h
 all_sound terms [] l all = begins_sound terms l
 all_sound terms (e ∷ h) l all =
@@ -297,6 +311,7 @@ all_sound terms (e ∷ h) l all =
     let step = goes_on_sound terms h e before.1 (subst (λ (s : LinkState). LinkMay s e) before.0 all.1) in
     (ap (λ (s : LinkState). link_after s e) before.0 ∙ step.0, step.1)
 
+-- credit rises by what is granted at most
 pub credit_more : (terms : Terms) (h : List LinkEvent) (e : LinkEvent) → credit terms (e ∷ h) ≤ credit terms h + granted_by e
 credit_more terms h (Granted n) = rw (sum_by-cons granted_by (Granted n) h) (omega arith)
 credit_more terms h (Transferred t) = omega (arith, heads_came h t)

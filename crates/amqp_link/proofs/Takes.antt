@@ -22,9 +22,11 @@ first_of_map : (terms : Terms) (h : List LinkEvent) (d : Delivery) (gs : List Gr
 first_of_map terms h d [] e r = absurd (grind (arith, e))
 first_of_map terms h d (g ∷ gs) e r = record { group = g; later = gs; rest = r; is = sym (same_Some _ _ e) }
 
+-- what is handed up is the first whole delivery that was not
 pub first_ready : (terms : Terms) (h : List LinkEvent) (d : Delivery) → LinkMay (state_of terms h) (HandedUp d) → First terms h d
 first_ready terms h d may = first_of_map terms h d (ready_groups h) may refl
 
+-- a front that is one longer
 pub one_on : {X : Type 0} (n : ℕ) (xs : List X) (x : X) (ys : List X) → drop n xs ≡ x ∷ ys → (take (suc n) xs ≡ take n xs ++ x ∷ []) × (drop (suc n) xs ≡ ys)
 one_on zero [] x ys e = absurd (grind (arith, e))
 one_on {X = X} zero (z ∷ zs) x ys e = (ap (λ (w : X). w ∷ []) (first_same e), rest_same e)
@@ -37,9 +39,11 @@ one_on {X = X} zero (z ∷ zs) x ys e = (ap (λ (w : X). w ∷ []) (first_same e
 one_on (suc n) [] x ys e = absurd (grind (arith, e))
 one_on {X = X} (suc n) (z ∷ zs) x ys e = let r = one_on n zs x ys e in (ap (λ (w : List X). z ∷ w) r.0, r.1)
 
+-- one more is taken
 pub took_one : (h : List LinkEvent) (d : Delivery) → takes (HandedUp d ∷ h) ≡ suc (takes h)
 took_one h d = length-append (handed_up h) (d ∷ []) ∙ omega arith
 
+-- with it what was handed up is still what the history gives
 pub took_given : (terms : Terms) (h : List LinkEvent) (d : Delivery) → First terms h d → handed_up h ≡ given terms h → handed_up (HandedUp d ∷ h) ≡ given terms (HandedUp d ∷ h)
 took_given terms h d f same =
     ap (λ (ds : List Delivery). ds ++ d ∷ []) same
@@ -53,6 +57,7 @@ kept_one terms h g = one (is_settled terms h g)
     one true = refl
     one false = refl
 
+-- a take leaves the state of the longer history
 pub take_state : (terms : Terms) (h : List LinkEvent) (d : Delivery) → LinkMay (state_of terms h) (HandedUp d) → link_after (state_of terms h) (HandedUp d) ≡ state_of terms (HandedUp d ∷ h)
 unfolding stated
 take_state terms h d may =

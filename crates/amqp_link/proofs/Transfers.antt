@@ -23,9 +23,11 @@ none_passes test k number (g ∷ h ∷ gs) r l =
     let e : g.number ≡ number → ⊥ = λ e. omega (arith, r.0, l, e) in
     or_from _ _ (and_left _ _ (ne_eqb g.number number e)) (none_passes test (suc k) number (h ∷ gs) r.2 (omega (arith, l)))
 
+-- the groups behind one more transfer
 pub groups_came : (h : List LinkEvent) (t : Sent) → groups (Transferred t ∷ h) ≡ more 0 t (groups h)
 groups_came h t = groups_more 0 (transfers h) t
 
+-- how many they are
 pub begun_more : (h : List LinkEvent) (t : Sent) → length (groups (Transferred t ∷ h)) ≡ length (groups h) + one_if (is_none (find is_unfinished (groups h)))
 begun_more h t = ap length (groups_came h t) ∙ length_more 0 t (groups h) (runs h)
 
@@ -73,6 +75,7 @@ any_more : (f : Sent → Bool) (ts : List Sent) (t : Sent) → list_any f (ts ++
 any_more f [] t = or-false (f t)
 any_more f (u ∷ ts) t = ap (λ (b : Bool). f u || b) (any_more f ts t) ∙ or_assoc (f u) (list_any f ts) (f t)
 
+-- the delivery that it belongs to, as the state shows it
 pub delivery_shown : (terms : Terms) (h : List LinkEvent) (t : Sent) (p : Option Group) →
     shown terms (Transferred t ∷ h) (target (length (groups h)) t p) ≡ delivery_after terms (option_map (shown terms h) p) t
 unfolding made
@@ -95,6 +98,7 @@ delivery_shown terms h t (Some g) =
 abbrev pub target_of : List LinkEvent → Sent → Group
 target_of h t = target (length (groups h)) t (find is_unfinished (groups h))
 
+-- the whole deliveries behind it
 pub wholes_came : (h : List LinkEvent) (t : Sent) → wholes (Transferred t ∷ h) ≡ wholes h ++ filter is_whole (target_of h t ∷ [])
 wholes_came h t =
     let z : 0 + length (groups h) ≡ length (groups h) = omega arith in
@@ -105,10 +109,12 @@ part_came h t =
     let z : 0 + length (groups h) ≡ length (groups h) = omega arith in
     ap (find is_unfinished) (groups_came h t) ∙ find_more 0 t (groups h) (runs h) ∙ ap (λ (n : ℕ). find is_unfinished (target n t (find is_unfinished (groups h)) ∷ [])) z
 
+-- what it costs is what its delivery's beginning does
 pub cost_is : (terms : Terms) (h : List LinkEvent) (p : Option Group) → cost (option_map (shown terms h) p) ≡ one_if (is_none p)
 cost_is terms h None = refl
 cost_is terms h (Some g) = refl
 
+-- the heads behind it
 pub heads_came : (h : List LinkEvent) (t : Sent) → heads (Transferred t ∷ h) ≡ heads h + one_if (is_none (find is_unfinished (groups h)))
 heads_came h t = heads_more true (transfers h) t ∙ ap (λ (b : Bool). heads h + one_if b) (starts_is h)
 
@@ -130,16 +136,19 @@ option_one f false x = refl
 unfoldable pub stated : Terms → Bool → ℕ → ℕ → List Delivery → List Delivery → Option Delivery → LinkState
 stated terms m c n taken ready unfinished = record { terms = terms; credit = c; delivery_count = n; draining = m; awaiting = taken; ready = ready; unfinished = unfinished }
 
+-- two states are the same where their fields are
 pub stated_same : (terms : Terms) (a b : Bool) (c d n k : ℕ) (ts us rs ss : List Delivery) (p q : Option Delivery) → a ≡ b → c ≡ d → n ≡ k → ts ≡ us → rs ≡ ss → p ≡ q →
     stated terms a c n ts rs p ≡ stated terms b d k us ss q
 stated_same terms a b c d n k ts us rs ss p q e e0 e1 e2 e3 e4 = rw (e, e0, e1, e2, e3, e4) refl
 
+-- the delivery that it belongs to is the one that the state has unfinished, with it
 pub shown_one : (terms : Terms) (h : List LinkEvent) (t : Sent) → shown terms (Transferred t ∷ h) (target_of h t) ≡ delivery_after terms (state_of terms h).unfinished t
 shown_one terms h t = delivery_shown terms h t (find is_unfinished (groups h))
 
 latest_one : (h : List LinkEvent) (t : Sent) → latest (target_of h t) ≡ t
 latest_one h t = latest_of_target (length (groups h)) t (find is_unfinished (groups h))
 
+-- a transfer leaves the state of the longer history
 pub came_state : (terms : Terms) (h : List LinkEvent) (t : Sent) → takes h ≤ length (wholes h) → link_after (state_of terms h) (Transferred t) ≡ state_of terms (Transferred t ∷ h)
 unfolding stated
 came_state terms h t came =

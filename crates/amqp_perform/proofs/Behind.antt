@@ -17,11 +17,12 @@ use Rattle.amqp_types.specs.declared.fault.ReadFault.TheVariants.{BadBoolean, Ba
 use Rattle.amqp_types.specs.declared.window.Window.{Window}
 use Rattle.amqp_types.specs.Kinds.{width, is_partial}
 use Rattle.amqp_types.specs.Spelling.{size_len}
-use Rattle.amqp_types.specs.Reading.{Read, Block, block_of, ◌>>=◌, unless, place, number_fault, octets_fault, octets_at, big_at, form_at, number_at, sized_at, is_beyond_ascii}
+use Rattle.amqp_types.specs.InHand.{place}
+use Rattle.amqp_types.specs.Reading.{Read, Block, block_of, ◌>>=◌, unless, number_fault, octets_fault, octets_at, big_at, form_at, number_at, sized_at, is_beyond_ascii}
 use Rattle.amqp_types.proofs.Skips.{no_fault}
 use Rattle.amqp_perform.specs.Cells.{where_so}
-use Rattle.amqp_perform.specs.Reading.{byte_at, short_at, long_at}
-use Rattle.amqp_perform.specs.Reading.{octets_at as next_octets}
+use Rattle.amqp_perform.specs.BodyReading.{byte_at, short_at, long_at}
+use Rattle.amqp_perform.specs.BodyReading.{octets_at as next_octets}
 use Rattle.amqp_perform.proofs.Steps.{behind_size}
 
 -- what is read of n bytes, where so many are there
@@ -31,12 +32,15 @@ where_enough n len e x = elim (cases_lt len n) [
   | inr le ↦ rw (le-ltb len n le, le-leb n len le) refl
 ]
 
+-- a number read with a fault, without it
 pub big_is : (w : Window) (n : ℕ) (bytes : List ℕ) → result_ok (big_at w n bytes) ≡ where_so (leb n (length bytes)) (big_number n bytes, drop n bytes)
 big_is w n bytes = where_enough n (length bytes) w.short (big_number n bytes, drop n bytes)
 
+-- so with bytes
 pub octets_is : (w : Window) (n : ℕ) (bytes : List ℕ) → result_ok (octets_at w n bytes) ≡ next_octets n bytes
 octets_is w n bytes = where_enough n (length bytes) w.short (take n bytes, drop n bytes)
 
+-- and with one byte
 pub byte_is : (w : Window) (bytes : List ℕ) → result_ok (big_at w 1 bytes) ≡ byte_at bytes
 byte_is w [] = refl
 byte_is w (b ∷ bytes) =
@@ -49,15 +53,18 @@ module _ (faults : ℕ → Option ReadFault) where
   whole (Ok n) h = rw (h n.0) refl
   whole (Err e) h = refl
 
+-- a number of the short form is one byte
 pub number_one : (w : Window) (k : Kind) (bytes : List ℕ) → is_partial k ≡ false → result_ok (number_at w k form.OneByte bytes) ≡ byte_at bytes
 unfolding number_at form_at
 number_one w k bytes e = whole (number_fault k (place w bytes)) (big_at w 1 bytes) (λ n. no_fault k (place w bytes) n e) ∙ byte_is w bytes
 
+-- one of the full form has the kind's width
 pub number_full : (w : Window) (k : Kind) (bytes : List ℕ) → is_partial k ≡ false → result_ok (number_at w k form.Full bytes) ≡ where_so (leb (width k) (length bytes))
     (big_number (width k) bytes, drop (width k) bytes)
 unfolding number_at form_at
 number_full w k bytes e = whole (number_fault k (place w bytes)) (big_at w (width k) bytes) (λ n. no_fault k (place w bytes) n e) ∙ big_is w (width k) bytes
 
+-- a ubyte is one byte
 pub number_byte : (w : Window) (bytes : List ℕ) → result_ok (number_at w kind.Ubyte form.Full bytes) ≡ byte_at bytes
 unfolding number_at form_at
 number_byte w bytes = whole (number_fault kind.Ubyte (place w bytes)) (big_at w 1 bytes) (λ n. refl) ∙ byte_is w bytes
@@ -71,6 +78,7 @@ unless_not : {A : Type 0} (b : Bool) (e : ReadFault) (x : A) → result_ok (unle
 unless_not true e x = refl
 unless_not false e x = refl
 
+-- a boolean's byte is 0 or 1
 pub boolean_byte : (w : Window) (bytes : List ℕ) → result_ok (number_at w kind.Boolean form.Full bytes) ≡ checked (λ n. ltb n.0 2) (byte_at bytes)
 unfolding number_at form_at
 boolean_byte w bytes = tested (big_at w 1 bytes) ∙ ap (checked (λ (n : ℕ × List ℕ). ltb n.0 2)) (byte_is w bytes)
@@ -81,11 +89,13 @@ boolean_byte w bytes = tested (big_at w 1 bytes) ∙ ap (checked (λ (n : ℕ ×
 
 -- Octets behind their size. -------------------------------------------------------------------------------------------
 
+-- bytes that a kind of variable width may have
 abbrev pub are_of : Kind → List ℕ → Bool
 are_of kind.String octets = is_utf8 octets
 are_of kind.Symbol octets = not (is_some (position is_beyond_ascii octets))
 are_of _ octets = true
 
+-- bytes behind their size
 abbrev pub sized : SizeWidth → List ℕ → Option (List ℕ × List ℕ)
 sized size.One bytes = short_at bytes
 sized size.Four bytes = long_at bytes
@@ -103,6 +113,7 @@ all_checked : (k : Kind) (at : ℕ) (read : Read (List ℕ)) → result_ok (read
 all_checked k at (Ok x) = octets_checked k at x
 all_checked k at (Err e) = refl
 
+-- they are read as the grammar reads them
 pub sized_is : (w : Window) (k : Kind) (s : SizeWidth) (bytes : List ℕ) → result_ok (sized_at w k s bytes) ≡ checked (λ x. are_of k x.0) (sized s bytes)
 unfolding sized_at
 sized_is w k s bytes = from_size (big_at w (size_len s) bytes) ∙ widths s
@@ -118,11 +129,14 @@ sized_is w k s bytes = from_size (big_at w (size_len s) bytes) ∙ widths s
 
 -- Blocks. -------------------------------------------------------------------------------------------------------------
 
+-- the count of a list, as it is read
 abbrev pub counts_read : Read ℕ → Read ℕ
 counts_read read = read >>= λ count. Ok count
 
+-- its parts
 abbrev pub parts_read : Window → List ℕ → Read (List ℕ) → Result Block ReadFault
 parts_read w bytes read = read >>= λ parts. Ok (block_of w bytes parts)
 
+-- both, by a size
 abbrev pub block_read : Window → SizeWidth → List ℕ → Read ℕ → Result Block ReadFault
 block_read w s bytes read = read >>= λ size. cond (ltb size.0 (size_len s)) (Err (BadSize (place w bytes))) (parts_read w bytes (octets_at w size.0 size.1))

@@ -4,7 +4,8 @@ use Rattle.std.specs.Prelude.{IfOk, IfErr, IsOkAnd}
 use Rattle.std.proofs.lemmas.Bool.{and_parts, eqb-true}
 use Rattle.std.proofs.lemmas.List.{append-nil, nil_from_length, length-append}
 use Rattle.std.proofs.lemmas.Option.{same_Some, none-some, cond_some}
-use Rattle.amqp_types.specs.Reading.{Part, after, outermost, value_of}
+use Rattle.amqp_types.specs.InHand.{outermost}
+use Rattle.amqp_types.specs.Reading.{Part, after, value_of}
 use Rattle.amqp_types.specs.Trees.{Tree}
 use Rattle.amqp_types.proofs.Octets.{IsBytes}
 use Rattle.amqp_types.proofs.Fronts.{without_front}
@@ -16,7 +17,7 @@ use Rattle.amqp_perform.specs.declared.performative.Performative.{Performative}
 use Rattle.amqp_perform.specs.Bodies.{BodyOf, Body, IsFaultOf}
 use Rattle.amqp_perform.specs.Cells.{Cell, ◌>>=◌, where_so}
 use Rattle.amqp_perform.specs.Items.{Item, text_of, AreSpelled, SpellsDescribed}
-use Rattle.amqp_perform.specs.Reading.{ListAt, descriptor_at, list_at, fields_at, described_at, performative_at, body_at, fault_by, fault_of, IsRead}
+use Rattle.amqp_perform.specs.BodyReading.{ListAt, descriptor_at, list_at, fields_at, described_at, performative_at, body_at, fault_by, fault_of, IsRead}
 use Rattle.amqp_perform.specs.Performatives.{type_of, performative_cells}
 use Rattle.amqp_perform.specs.Tables.{Field, fields_of}
 use Rattle.amqp_perform.proofs.Steps.{bind_some, triple_is}
@@ -77,9 +78,11 @@ body_is bytes x fits e =
     let fields = all_items a.0.0 a.0.1.count a.0.1.items b.0 list.items_fit b.1 in
     subst (λ (y : Says). BodyOf bytes y.0 y.1 y.2) (same_Some (a.0.0, b.0, a.0.1.behind) x b.2) (says bytes a.0.0 a.0.1 fields.0 b.0 list fields.1 fields.2)
 
+-- what is read of a body is what it says
 pub body_found : (bytes : List ℕ) (d : Descriptor) (cells : List Cell) (payload : List ℕ) → IsBytes bytes → body_at bytes ≡ Some (d, cells, payload) → BodyOf bytes d cells payload
 body_found bytes d cells payload fits e = body_is bytes (d, cells, payload) fits e
 
+-- and whatever a body says is read
 pub body_only : (bytes : List ℕ) (d : Descriptor) (cells : List Cell) (payload : List ℕ) → BodyOf bytes d cells payload → body_at bytes ≡ Some (d, cells, payload)
 unfolding body_at described_at performative_at
 body_only bytes d cells payload (fields, items, text, table, parts, spelled, deep, are) =
@@ -90,6 +93,7 @@ body_only bytes d cells payload (fields, items, text, table, parts, spelled, dee
 
 -- Faults. -------------------------------------------------------------------------------------------------------------
 
+-- a body of which nothing is read has the fault that is answered
 pub faults : (bytes : List ℕ) → IsBytes bytes → body_at bytes ≡ None → IsFaultOf bytes (fault_of bytes)
 unfolding fault_of
 faults bytes fits none = by (value_of 32 None bytes) refl
@@ -112,16 +116,19 @@ payload_behind bytes d cells payload fits e =
     let b = body_found bytes d cells payload fits e in
     (omega (arith, ap length b.4, length-append b.2 payload), without_front bytes b.2 payload b.4)
 
+-- the same of what a call answers
 pub read_found : (bytes : List ℕ) (r : Result (Performative × ℕ) BodyFault) → IsBytes bytes → IsRead bytes r → IfOk r (λ x. Body bytes x.0 (drop x.1 bytes))
 read_found bytes (Ok x) fits is = body_found bytes (type_of x.0) (performative_cells x.0) (drop x.1 bytes) fits is
 read_found bytes (Err e) fits is = tt
 
+-- the same of a call, where a body says something
 pub read_only : (bytes : List ℕ) (r : Result (Performative × ℕ) BodyFault) (d : Descriptor) (cells : List Cell) (payload : List ℕ) → IsRead bytes r → BodyOf bytes d cells payload
     → IsOkAnd r (λ x. (type_of x.0 ≡ d) × (performative_cells x.0 ≡ cells) × (drop x.1 bytes ≡ payload))
 read_only bytes (Ok x) d cells payload is body =
     triple_is (type_of x.0) d (performative_cells x.0) cells (drop x.1 bytes) payload (sym is ∙ body_only bytes d cells payload body)
 read_only bytes (Err e) d cells payload is body = absurd (none-some (d, cells, payload) (sym is.0 ∙ body_only bytes d cells payload body))
 
+-- the same of a call, where it answers a fault
 pub read_fault : (bytes : List ℕ) (r : Result (Performative × ℕ) BodyFault) → IsBytes bytes → IsRead bytes r → IfErr r (IsFaultOf bytes)
 read_fault bytes (Ok x) fits is = tt
 read_fault bytes (Err e) fits is = subst (IsFaultOf bytes) (sym is.1) (faults bytes fits is.0)

@@ -12,24 +12,29 @@ use Rattle.amqp_types.specs.declared.kind.Kind.TheVariants as kind
 use Rattle.amqp_types.specs.declared.code.Form.TheVariants as form
 use Rattle.amqp_types.specs.declared.code.SizeWidth.TheVariants as size
 use Rattle.amqp_types.specs.Trees.{Tree, Number, Octets, IsOfKind}
-use Rattle.amqp_types.specs.Reading.{Read, Part, outermost, uncharged, number_at, form_at, sized_at, item_by, value_by, value_of, is_beyond_ascii}
+use Rattle.amqp_types.specs.InHand.{outermost}
+use Rattle.amqp_types.specs.Reading.{Read, Part, uncharged, number_at, form_at, sized_at, item_by, value_by, value_of, is_beyond_ascii}
 use Rattle.amqp_perform.specs.declared.descriptor.Descriptor.{Descriptor}
 use Rattle.amqp_perform.specs.Cells.{◌>>=◌, where_so}
 use Rattle.amqp_perform.specs.Descriptors.{symbol_of, all_descriptors, by_code, by_symbol, described_by}
-use Rattle.amqp_perform.specs.Reading.{byte_at, short_at, long_at, descriptor_from, descriptor_at}
+use Rattle.amqp_perform.specs.BodyReading.{byte_at, short_at, long_at, descriptor_from, descriptor_at}
 use Rattle.amqp_perform.proofs.Made.{Yields}
 use Rattle.amqp_perform.proofs.Behind.{checked, are_of, number_one, number_full, sized_is}
 use Rattle.amqp_perform.proofs.Rows.{RowOf, by_rows, codes_of, IsOther, rows_read, others_yield}
 
+-- a number of eight bytes
 abbrev pub eight_at : List ℕ → Option (ℕ × List ℕ)
 eight_at bytes = where_so (leb 8 (length bytes)) (big_number 8 bytes, drop 8 bytes)
 
+-- the descriptor of a number
 abbrev pub coded : Option (ℕ × List ℕ) → Option (Descriptor × List ℕ)
 coded read = read >>= λ n. by_code n.0 >>= λ d. Some (d, n.1)
 
+-- the descriptor of a symbol
 abbrev pub named : Option (List ℕ × List ℕ) → Option (Descriptor × List ℕ)
 named read = read >>= λ s. by_symbol s.0 >>= λ d. Some (d, s.1)
 
+-- how each constructor of a descriptor is read
 abbrev pub descriptor_rows : List (RowOf (Descriptor × List ℕ))
 descriptor_rows = (0x53, λ rest. coded (byte_at rest)) ∷ (0x80, λ rest. coded (eight_at rest)) ∷ (0xa3, λ rest. named (short_at rest)) ∷ (0xb3, λ rest. named (long_at rest)) ∷ []
 
@@ -131,6 +136,7 @@ unfolding value_by
 behind_zero [] = refl
 behind_zero (code ∷ rest) = rows_read described_behind descriptor_rows code rest (byte_row, (eight_row, (short_row, (long_row, tt)))) (other_none code rest)
 
+-- a descriptor is read by these rows
 pub descriptor_is : (bytes : List ℕ) → descriptor_at bytes ≡ (byte_at bytes >>= λ zero. cond (eqb zero.0 0) (byte_at zero.1 >>= λ x. by_rows descriptor_rows x.0 x.1) None)
 unfolding descriptor_at
 descriptor_is [] = refl
@@ -140,5 +146,6 @@ descriptor_is (code ∷ rest) = tested (eqb code 0)
     tested true = behind_zero rest
     tested false = refl
 
+-- without 00 in front there is none
 pub no_descriptor : (bytes rest : List ℕ) (b : ℕ) → byte_at bytes ≡ Some (b, rest) → (b ≡ 0 → ⊥) → descriptor_at bytes ≡ None
 no_descriptor bytes rest b e ne = descriptor_is bytes ∙ (rw (e, ne_eqb b 0 ne) refl)

@@ -6,7 +6,7 @@ use Rattle.amqp_types.specs.Trees.{depth_of_all}
 use Rattle.amqp_types.proofs.Octets.{IsBytes}
 use Rattle.amqp_perform.specs.Cells.{Cell, ◌>>=◌, typed_cell, absent_cell, with_absence, field_cell, cells_of}
 use Rattle.amqp_perform.specs.Items.{Item, trees_of, text_of, AreSpelled}
-use Rattle.amqp_perform.specs.Reading.{item_at, typed_at, field_at, fields_at}
+use Rattle.amqp_perform.specs.BodyReading.{item_at, typed_at, field_at, fields_at}
 use Rattle.amqp_perform.specs.Tables.{Field}
 use Rattle.amqp_perform.proofs.Steps.{bind_some, triple_is}
 use Rattle.amqp_perform.proofs.ItemLaws.{BeginsWith, item_found, item_again}
@@ -66,6 +66,7 @@ no_items fs bytes cells rest h =
     let none = nil_from_length h.items h.count in
     (h.parts ∙ ap (λ (xs : List Item). text_of xs ++ rest) none, ap (cells_of fs) (sym none) ∙ h.cells_are)
 
+-- fields that were read to the end leave no item
 pub all_read : (read : Option (List Cell × ℕ × List ℕ)) (cs : List Cell) (left : ℕ) (behind rest : List ℕ) → read ≡ Some (cs, left, behind) → left ≡ 0 → behind ≡ rest → read ≡ Some (cs, 0, rest)
 all_read read cs left behind rest e none same = e ∙ ap (λ (k : ℕ). Some (cs, k, behind)) none ∙ ap (λ (r : List ℕ). Some (cs, 0, r)) same
 
@@ -75,6 +76,7 @@ one_absent f fs c cs e others = rw (e, others) refl
 one_given : (f : Field) (fs : List Field) (x : Item) (xs : List Item) (c : Cell) (cs : List Cell) → field_cell f x ≡ Some c → cells_of fs xs ≡ Some cs → cells_of (f ∷ fs) (x ∷ xs) ≡ Some (c ∷ cs)
 one_given f fs x xs c cs e others = rw (e, others) refl
 
+-- fields that are read are spelled so
 pub fields_found : (fs : List Field) (left : ℕ) (bytes : List ℕ) (cells : List Cell) (rest : List ℕ) → IsBytes bytes → fields_at fs left bytes ≡ Some (cells, 0, rest) →
     AreItems fs left bytes cells rest
 fields_found [] left bytes cells rest fits e =
@@ -112,6 +114,7 @@ fields_found (f ∷ fs) left bytes cells rest fits e =
           cells_are = one_given f fs one.0.item rest_of.items x.0 cs one.0.cell rest_of.cells_are ∙ ap (λ (all : List Cell). Some all) same;
         }
 
+-- fields that are spelled are read so
 pub fields_again : (fs : List Field) (xs : List Item) (cells : List Cell) (rest : List ℕ) → AreSpelled xs → depth_of_all (trees_of xs) ≤ 30 → cells_of fs xs ≡ Some cells
     → fields_at fs (length xs) (text_of xs ++ rest) ≡ Some (cells, 0, rest)
 unfolding typed_at

@@ -21,7 +21,7 @@ use Rattle.amqp_perform.proofs.Writings.{writes-writes}
 
 -- The parts. ----------------------------------------------------------------------------------------------------------
 
--- a descriptor is spelled as a small ulong [1.6.5]
+-- a descriptor is spelled as a small ulong [1.6.6]
 code_text : (d : Descriptor) → canonical (Number kind.Ulong (code_of d)) ≡ 0x53 ∷ code_of d ∷ []
 code_text of_type.Open = refl
 code_text of_type.Begin = refl
@@ -67,6 +67,7 @@ list_len values content few is =
     ∙ ap (λ (n : ℕ). length (list_head n (length (concat texts))) + length (concat texts)) count
     ∙ ap (λ (n : ℕ). length (list_head (length values) n) + length (concat texts)) (sym is)
 
+-- the width of a list's size
 pub width_is : (values : List FieldText) (count content width : ℕ) → length values ≡ count → content ≡ length (concat (field_spellings values))
     → ((text : List ℕ) → length text ≡ content → width ≡ length (shortest (shell.List count) text)) → width ≡ length (list_text (field_spellings values))
 width_is values count content width few is widths =
@@ -81,6 +82,7 @@ body_parts d texts used payload same =
     ap (λ (code : List ℕ). 0 ∷ ((code ++ list_text (trimmed texts)) ++ payload)) (code_text d)
     ∙ ap (λ (x : List (List ℕ)). 0 ∷ 0x53 ∷ code_of d ∷ (list_text x ++ payload)) same
 
+-- how long a list's frame is
 pub frame_len : (channel : ℕ) (d : Descriptor) (texts used : List (List ℕ)) (payload : List ℕ) → trimmed texts ≡ used
     → length (list_frame channel d texts payload) ≡ 11 + length (list_text used) + length payload
 unfolding list_frame
@@ -156,12 +158,14 @@ pub same_texts : (channel : ℕ) (d : Descriptor) (texts others : List (List ℕ
     → IsWritten (list_frame channel d texts payload) r old new → IsWritten (list_frame channel d others payload) r old new
 same_texts channel d texts others payload r old new same w = subst (λ (x : List (List ℕ)). IsWritten (list_frame channel d x payload) r old new) same w
 
+-- what is written of the same performative is the same
 pub same_performative : (channel : ℕ) (p q : Performative) (payload : List ℕ) (r : Option ℕ) (old new : List ℕ) → p ≡ q
     → IsWritten (frame_of channel q payload) r old new → IsWritten (frame_of channel p payload) r old new
 same_performative channel p q payload r old new same w = subst (λ (x : Performative). IsWritten (frame_of channel x payload) r old new) (sym same) w
 
 -- One frame of the stream. --------------------------------------------------------------------------------------------
 
+-- a frame that is written is one of the stream
 pub one_frame : (max channel : ℕ) (body : List ℕ) → channel < 2 ^ 16 → length (frame_text channel body) < 2 ^ 32 → length (frame_text channel body) ≤ max
     → IsFrame max (frame_text channel body) × (channel_of (frame_text channel body) ≡ channel) × (body_of (frame_text channel body) ≡ body)
 unfolding size_of channel_of

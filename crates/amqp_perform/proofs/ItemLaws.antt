@@ -3,7 +3,8 @@ use Rattle.std.proofs.Common.{◌≡◌, ℕ, ◌-◌, ◌≤◌, Bool, true, fa
 use Rattle.std.proofs.lemmas.Bool.{eqb-true}
 use Rattle.std.proofs.lemmas.List.{take_at, length-append}
 use Rattle.std.proofs.lemmas.Option.{same_Some, some_pair_parts}
-use Rattle.amqp_types.specs.Reading.{Part, Budget, outermost, value_of}
+use Rattle.amqp_types.specs.InHand.{Budget, outermost}
+use Rattle.amqp_types.specs.Reading.{Part, value_of}
 use Rattle.amqp_types.specs.Spelling.{Spells}
 use Rattle.amqp_types.specs.Trees.{Tree, Number, Octets, ListOf, MapOf, ArrayOf, Described, depth_of}
 use Rattle.amqp_types.proofs.Octets.{IsBytes, IsBytes-rest}
@@ -13,7 +14,7 @@ use Rattle.amqp_perform.specs.declared.descriptor.Descriptor.{Descriptor}
 use Rattle.amqp_perform.specs.Cells.{◌>>=◌}
 use Rattle.amqp_perform.specs.Descriptors.{described_by}
 use Rattle.amqp_perform.specs.Items.{Item}
-use Rattle.amqp_perform.specs.Reading.{item_from, item_at, descriptor_from, descriptor_at}
+use Rattle.amqp_perform.specs.BodyReading.{item_from, item_at, descriptor_from, descriptor_at}
 use Rattle.amqp_perform.proofs.Steps.{bind_some}
 
 -- Items. --------------------------------------------------------------------------------------------------------------
@@ -35,6 +36,7 @@ item_read : (bytes : List ℕ) (read : Part Tree) (x : Item × List ℕ) → ite
 item_read bytes (Ok y) x e = (y, refl, same_Some (record { tree = y.0; text = take (length bytes - length y.2) bytes }, y.2) x e)
 item_read bytes (Err d) x e = absurd cc
 
+-- an item that is read stands there
 pub item_found : (bytes : List ℕ) (x : Item × List ℕ) → IsBytes bytes → item_at bytes ≡ Some x → BeginsWith bytes x
 item_found bytes x fits e =
     let i = item_read bytes (value_of 30 None bytes) x e in
@@ -47,6 +49,7 @@ item_found bytes x fits e =
       rest_fits = r.takes.rest_fits;
     })
 
+-- an item that is spelled is read so
 pub item_again : (tree : Tree) (text rest : List ℕ) → Spells tree text → depth_of tree ≤ 30 → item_at (text ++ rest) ≡ Some (record { tree = tree; text = text }, rest)
 item_again tree text rest spelled deep =
     let bytes = text ++ rest in
@@ -71,6 +74,7 @@ descriptor_read (Ok y) x e =
     (y, refl, b.1 ∙ ap (λ (d : Descriptor). Some d) same.0, same.1)
 descriptor_read (Err d) x e = absurd cc
 
+-- a descriptor that is read stands there
 pub descriptor_found : (bytes : List ℕ) (x : Descriptor × List ℕ) → IsBytes bytes → descriptor_at bytes ≡ Some x → DescribesAs bytes x.0 x.1
 unfolding descriptor_at
 descriptor_found [] x fits e = absurd cc
@@ -100,6 +104,7 @@ flat (MapOf ps) d e = absurd cc
 flat (ArrayOf ds k ts) d e = absurd cc
 flat (Described t u) d e = absurd cc
 
+-- one that is spelled is read so
 pub descriptor_again : (t : Tree) (d : Descriptor) (text rest : List ℕ) → Spells t text → described_by t ≡ Some d → descriptor_at (0 ∷ (text ++ rest)) ≡ Some (d, rest)
 unfolding descriptor_at
 descriptor_again t d text rest spelled describes =

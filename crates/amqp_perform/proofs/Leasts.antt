@@ -6,7 +6,7 @@ use Rattle.amqp_types.specs.declared.kind.Kind.TheVariants as kind
 use Rattle.amqp_types.specs.Trees.{Tree, Number, Octets, ListOf, MapOf, ArrayOf, Described}
 use Rattle.amqp_perform.specs.Cells.{Cell, Whole, ◌>>=◌, where_so, typed_cell}
 use Rattle.amqp_perform.specs.Items.{Item}
-use Rattle.amqp_perform.specs.Reading.{item_at, typed_at}
+use Rattle.amqp_perform.specs.BodyReading.{item_at, typed_at}
 use Rattle.amqp_perform.specs.Tables.{uint, uint_from}
 use Rattle.amqp_perform.proofs.Steps.{with_both}
 
@@ -29,9 +29,11 @@ least_cell least (MapOf ps) text = refl
 least_cell least (ArrayOf ds k ts) text = refl
 least_cell least (Described d t) text = refl
 
+-- a cell with the items left
 abbrev pub keep : Cell × ℕ × List ℕ → Cell → Option (Cell × ℕ × List ℕ)
 keep x c = Some (c, x.1, x.2)
 
+-- what is read of a number that is at least this
 abbrev pub from_least : ℕ → Option (Cell × ℕ × List ℕ) → Option (Cell × ℕ × List ℕ)
 from_least least read = read >>= λ x. at_least least x.0 >>= keep x
 

@@ -12,7 +12,7 @@ use Rattle.amqp_types.specs.declared.shell.Short.TheVariants as short
 use Rattle.amqp_types.specs.Spelling.{size_len}
 use Rattle.amqp_types.specs.Canonical.{number_text, shortest, block, full_code, is_small, narrowest, sized}
 use Rattle.amqp_perform.specs.declared.descriptor.Descriptor.{Descriptor}
-use Rattle.amqp_perform.specs.Frames.{null_text, kind_of, cell_text, before_nulls, trimmed, list_text, list_frame}
+use Rattle.amqp_perform.specs.Frames.{null_text, kind_of_field, cell_text, before_nulls, trimmed, list_text, list_frame}
 use Rattle.amqp_perform.specs.Said.{Said, said_texts, said_frame}
 use Rattle.amqp_perform.specs.Cells.{Whole, Bytes}
 use Rattle.amqp_perform.specs.Tables.{FieldType, uint}
@@ -20,9 +20,11 @@ use Rattle.amqp_perform.proofs.Framed.{frame_len}
 use Rattle.amqp_perform.proofs.Trims.{kept_or_null}
 use Rattle.amqp_perform.proofs.WrittenLaws.{some_shortest, list_long}
 
+-- a frame is its head, its list and its payload
 pub frame_parts : (channel : ℕ) (s : Said) (payload : List ℕ) → length (said_frame channel s payload) ≡ 11 + length (list_text (trimmed (said_texts s))) + length payload
 frame_parts channel s payload = frame_len channel s.type (said_texts s) (trimmed (said_texts s)) payload refl
 
+-- a payload adds its own length
 pub frame_payload : (channel : ℕ) (s : Said) (payload : List ℕ) → length (said_frame channel s payload) ≡ length (said_frame channel s []) + length payload
 frame_payload channel s payload = omega (arith, frame_parts channel s payload, frame_parts channel s [])
 
@@ -52,6 +54,7 @@ list_short n content = by (n == 0)
     by true = omega arith
     by false = let s = narrowest (is_small (shell.List n) content) in omega (arith, block_short s n content)
 
+-- the most that a frame takes
 pub frame_most : (channel : ℕ) (s : Said) (payload : List ℕ) → length (said_frame channel s payload) ≤ 20 + length (concat (said_texts s)) + length payload
 frame_most channel s payload =
     let t = trimmed (said_texts s) in
@@ -133,6 +136,7 @@ list_grows (x ∷ xs) (y ∷ ys) is =
       width_grows (length (x ∷ xs)) (length (y ∷ ys)) (length (concat (x ∷ xs))) (length (concat (y ∷ ys))) is.count is.bytes,
     )
 
+-- a null in place of a field never makes a frame longer
 pub null_adds_no_more : (channel : ℕ) (d : Descriptor) (before behind : List (List ℕ)) (text payload : List ℕ) → 0 < length text
     → length (list_frame channel d (before ++ null_text ∷ behind) payload) ≤ length (list_frame channel d (before ++ text ∷ behind) payload)
 null_adds_no_more channel d before behind text payload some =
@@ -147,13 +151,15 @@ null_adds_no_more channel d before behind text payload some =
 
 -- The fields. ---------------------------------------------------------------------------------------------------------
 
+-- a binary, a string or a symbol takes at most five bytes more than it has
 pub octets_short : (type : FieldType) (octets : List ℕ) → length (cell_text type (Bytes octets)) ≤ 5 + length octets
 octets_short type octets = by (ltb (length octets) 256)
   where
-    by : (b : Bool) → length (full_code (narrowest b) (kind_of type) ∷ (big_bytes (size_len (narrowest b)) (length octets) ++ octets)) ≤ 5 + length octets
+    by : (b : Bool) → length (full_code (narrowest b) (kind_of_field type) ∷ (big_bytes (size_len (narrowest b)) (length octets) ++ octets)) ≤ 5 + length octets
     by true = omega (arith, length-append (big_bytes 1 (length octets)) octets)
     by false = omega (arith, length-append (big_bytes 4 (length octets)) octets)
 
+-- a uint takes at most five bytes
 pub uint_short : (n : ℕ) → length (cell_text uint (Whole n)) ≤ 5
 uint_short n = by (n == 0) (ltb n 256)
   where

@@ -9,7 +9,8 @@ use Rattle.amqp_types.specs.declared.code.Constructor.TheVariants.{Fixed, Variab
 use Rattle.amqp_types.specs.declared.code.SizeWidth.{SizeWidth}
 use Rattle.amqp_types.specs.declared.fault.ReadFault.{ReadFault}
 use Rattle.amqp_types.specs.Codes.{find_code}
-use Rattle.amqp_types.specs.Reading.{block_at, count_at, outermost}
+use Rattle.amqp_types.specs.InHand.{outermost}
+use Rattle.amqp_types.specs.Reading.{block_at, count_at}
 use Rattle.amqp_types.specs.Spelling.{size_len, SpellsBlock}
 use Rattle.amqp_types.proofs.Octets.{IsBytes, IsBytes-rest}
 use Rattle.amqp_types.proofs.Compounds.{block_sound, count_sound, block_text}
@@ -17,7 +18,7 @@ use Rattle.amqp_types.proofs.Again.{block_again, count_again}
 use Rattle.amqp_perform.specs.declared.descriptor.Descriptor.{Descriptor}
 use Rattle.amqp_perform.specs.Cells.{◌>>=◌}
 use Rattle.amqp_perform.specs.Items.{Item, text_of, AreSpelled, SpellsList, SpellsDescribed}
-use Rattle.amqp_perform.specs.Reading.{ListAt, descriptor_at, block_in, list_by, list_at}
+use Rattle.amqp_perform.specs.BodyReading.{ListAt, descriptor_at, block_in, list_by, list_at}
 use Rattle.amqp_perform.proofs.Steps.{bind_some}
 use Rattle.amqp_perform.proofs.ItemLaws.{descriptor_again}
 
@@ -76,11 +77,13 @@ by_found code (Some (ListIn s)) bytes list fits is e =
       items_fit = b.items_fit;
     }
 
+-- a list that is read stands there
 pub list_found : (bytes : List ℕ) (list : ListAt) → IsBytes bytes → list_at bytes ≡ Some list → BeginsWithList bytes list
 unfolding list_at
 list_found [] list fits e = absurd cc
 list_found (code ∷ bytes) list fits e = by_found code (find_code code) bytes list (IsBytes-rest code bytes fits) refl e
 
+-- one that is spelled is read so
 pub list_again : (xs : List Item) (text rest : List ℕ) → SpellsList xs text → list_at (text ++ rest) ≡ Some (record { count = length xs; items = text_of xs; behind = rest })
 unfolding list_at
 list_again xs text rest (inl h) = rw (h.2, h.1, h.3) refl
@@ -113,6 +116,7 @@ pub record IsDescribed (d : Descriptor) (items : List Item) (text rest : List �
   pub list : list_at second ≡ Some (list_of_items items rest)
   pub spelled : AreSpelled items
 
+-- a described list that is spelled is read so
 pub described : (d : Descriptor) (items : List Item) (text rest : List ℕ) → SpellsDescribed d items text → IsDescribed d items text rest
 described d items text rest (t, first, second, joined, spelled, describes, list) = record {
   second = second ++ rest;

@@ -13,10 +13,11 @@ use Rattle.amqp_types.specs.declared.code.Constructor.TheVariants.{Fixed, Variab
 use Rattle.amqp_types.specs.declared.window.Window.{Window}
 use Rattle.amqp_types.specs.Codes.{constructors, find_code, kind_of}
 use Rattle.amqp_types.specs.Spelling.{size_len}
-use Rattle.amqp_types.specs.Reading.{Read, Block, octets_at, big_at, block_of, block_at, count_at, outermost}
+use Rattle.amqp_types.specs.InHand.{outermost}
+use Rattle.amqp_types.specs.Reading.{Read, Block, octets_at, big_at, block_of, block_at, count_at}
 use Rattle.amqp_perform.specs.Cells.{◌>>=◌, where_so}
-use Rattle.amqp_perform.specs.Reading.{ListAt, byte_at, short_at, long_at, list_by, list_at}
-use Rattle.amqp_perform.specs.Reading.{octets_at as next_octets}
+use Rattle.amqp_perform.specs.BodyReading.{ListAt, byte_at, short_at, long_at, list_by, list_at}
+use Rattle.amqp_perform.specs.BodyReading.{octets_at as next_octets}
 use Rattle.amqp_perform.proofs.Steps.{behind_size, count_in, list_of, list_in}
 use Rattle.amqp_perform.proofs.Behind.{big_is, byte_is, octets_is, sized, counts_read, parts_read, block_read}
 use Rattle.amqp_perform.proofs.Rows.{RowOf, by_rows, codes_of, IsOther, rows_read, not_accepted}
@@ -98,6 +99,7 @@ other_list code rest other = found (find_code code) refl
     found None e = refl
     found (Some c) e = no_list c rest (not_accepted list_kind (codes_of list_rows) constructors code c refl other e)
 
+-- a list is read by its rows
 pub list_is : (bytes : List ℕ) → list_at bytes ≡ (byte_at bytes >>= λ x. by_rows list_rows x.0 x.1)
 unfolding list_at
 list_is [] = refl

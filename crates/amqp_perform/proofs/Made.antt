@@ -9,7 +9,8 @@ use Rattle.amqp_types.specs.Kinds.{is_container}
 use Rattle.amqp_types.specs.Codes.{find_code, kind_of}
 use Rattle.amqp_types.specs.Spelling.{size_len}
 use Rattle.amqp_types.specs.Trees.{Tree, Number, Octets, ListOf, MapOf, ArrayOf, Described, none, IsOfKind}
-use Rattle.amqp_types.specs.Reading.{Part, Budget, Level, ◌>>=◌, allowed, charge, place, ended, number_at, sized_at, block_at, count_at, trees_at, pairs_at, head_at, list_at, map_at, array_at}
+use Rattle.amqp_types.specs.InHand.{Budget, place}
+use Rattle.amqp_types.specs.Reading.{Part, Level, ◌>>=◌, allowed, charge, ended, number_at, sized_at, block_at, count_at, trees_at, pairs_at, head_at, list_at, map_at, array_at}
 use Rattle.amqp_types.specs.Reading.{item_by, described_at, value_by}
 
 -- what is read, if anything, is such a value

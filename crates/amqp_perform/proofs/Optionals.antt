@@ -9,12 +9,14 @@ use Rattle.amqp_perform.specs.Cells.{Cell, Absent, Whole, Bytes, Span, with_abse
 use Rattle.amqp_perform.specs.Performatives.{optional_whole, sender_mode, receiver_mode}
 use Rattle.amqp_perform.specs.Tables.{optional, default}
 
+-- an optional field is what stands there
 pub optional_is : (c : Cell) → with_absence optional c ≡ Some c
 optional_is Absent = refl
 optional_is (Whole n) = refl
 optional_is (Bytes octets) = refl
 optional_is (Span text) = refl
 
+-- an absent field is its default
 pub default_is : (n : ℕ) (m : Option ℕ) → with_absence (default n) (optional_whole m) ≡ Some (Whole (unwrap_or m n))
 default_is n None = refl
 default_is n (Some m) = refl
@@ -24,6 +26,7 @@ pub sender_mode_is : (m : Option SenderSettleMode) → with_absence (default 2) 
 sender_mode_is None = refl
 sender_mode_is (Some m) = refl
 
+-- an absent rcv-settle-mode is first
 pub receiver_mode_is : (m : Option ReceiverSettleMode) → with_absence (default 0) (optional_whole (option_map receiver_mode m)) ≡ Some (Whole (receiver_mode (unwrap_or m receiver.First)))
 receiver_mode_is None = refl
 receiver_mode_is (Some m) = refl

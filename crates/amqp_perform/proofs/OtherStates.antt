@@ -3,7 +3,7 @@ use Rattle.std.proofs.Common.{◌≡◌, ℕ, ◌≤◌, false, List, [], ◌∷
 use Rattle.std.specs.Option.{unwrap_or}
 use Rattle.amqp_types.specs.declared.code.Constructor.{Constructor}
 use Rattle.amqp_types.specs.Codes.{find_code}
-use Rattle.amqp_types.specs.Reading.{outermost}
+use Rattle.amqp_types.specs.InHand.{outermost}
 use Rattle.amqp_types.specs.Spelling.{Spells}
 use Rattle.amqp_types.specs.Trees.{Tree, Number, Octets, ListOf, MapOf, ArrayOf, Described, depth_of}
 use Rattle.amqp_types.proofs.Again.{value_again}
@@ -14,7 +14,7 @@ use Rattle.amqp_perform.specs.Cells.{◌>>=◌}
 use Rattle.amqp_perform.specs.Conditions.{condition_of, cell_condition, error_items, is_error_type, is_error}
 use Rattle.amqp_perform.specs.Descriptors.{described_by}
 use Rattle.amqp_perform.specs.Outcomes.{outcome_of, outcome_by, is_state_type, is_state}
-use Rattle.amqp_perform.specs.Reading.{ListAt, descriptor_from, descriptor_at, list_at, described_at, typed_at}
+use Rattle.amqp_perform.specs.BodyReading.{ListAt, descriptor_from, descriptor_at, list_at, described_at, typed_at}
 use Rattle.amqp_perform.specs.Tables.{symbol}
 use Rattle.amqp_perform.proofs.Describing.{no_descriptor}
 use Rattle.amqp_perform.proofs.ListLaws.{described_parts}
@@ -85,6 +85,7 @@ of_list : (o : Option Descriptor) (second : List ℕ) → is_error_type o ≡ fa
 of_list None second other = refl
 of_list (Some k) second other = of_another k (list_at second) other
 
+-- the condition of what is no error is Other
 pub no_condition : (t : Tree) (text rest : List ℕ) → Spells t text → depth_of t ≤ 32 → is_error t ≡ false → condition_of (text ++ rest) ≡ condition.Other
 unfolding condition_of described_at Spells
 no_condition (Described d (ListOf ts)) text rest h deep other =
@@ -103,6 +104,7 @@ of_no_state (Some of_type.Released) second other = absurd cc
 of_no_state (Some of_type.Modified) second other = absurd cc
 of_no_state (Some _) second other = refl
 
+-- what is no state has no outcome
 pub no_outcome : (t : Tree) (text rest : List ℕ) → Spells t text → depth_of t ≤ 32 → is_state t ≡ false → outcome_of (text ++ rest) ≡ None
 unfolding outcome_of Spells
 no_outcome (Described d t) text rest h deep other =

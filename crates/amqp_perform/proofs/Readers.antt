@@ -8,9 +8,10 @@ use Rattle.amqp_types.specs.declared.kind.Kind.TheVariants as kind
 use Rattle.amqp_types.specs.declared.code.Form.TheVariants as form
 use Rattle.amqp_types.specs.declared.code.SizeWidth.TheVariants as size
 use Rattle.amqp_types.specs.Trees.{Octets}
-use Rattle.amqp_types.specs.Reading.{outermost, uncharged, number_at, form_at, sized_at, item_by, value_by, value_of}
+use Rattle.amqp_types.specs.InHand.{outermost}
+use Rattle.amqp_types.specs.Reading.{uncharged, number_at, form_at, sized_at, item_by, value_by, value_of}
 use Rattle.amqp_perform.specs.Cells.{Absent, Whole, Bytes, ◌>>=◌, where_so, typed_cell}
-use Rattle.amqp_perform.specs.Reading.{byte_at, word_at, short_at, long_at, code_at, typed_at}
+use Rattle.amqp_perform.specs.BodyReading.{byte_at, word_at, short_at, long_at, code_at, typed_at}
 use Rattle.amqp_perform.specs.Tables.{FieldType, boolean, ubyte_to, ushort, uint, binary, string, symbol}
 use Rattle.amqp_perform.proofs.Behind.{checked, number_one, number_byte, number_full, boolean_byte, are_of, sized_is}
 use Rattle.amqp_perform.proofs.Rows.{Row, typed_by, AreRead, null_read, read_by, number_row, octets_row}
@@ -20,6 +21,7 @@ null_row = (0x40, λ rest. Some (Absent, rest))
 
 -- Numbers. ------------------------------------------------------------------------------------------------------------
 
+-- how each constructor of a boolean is read
 abbrev pub boolean_rows : List Row
 boolean_rows =
     null_row ∷ (0x41, λ rest. Some (Whole 1, rest)) ∷ (0x42, λ rest. Some (Whole 0, rest))
@@ -41,9 +43,11 @@ boolean_read = (
   ),
 )
 
+-- a boolean is read by these rows
 pub boolean_is : (left : ℕ) (bytes : List ℕ) → typed_at boolean left bytes ≡ (code_at left bytes >>= typed_by boolean_rows)
 boolean_is = read_by boolean boolean_rows boolean_read refl refl
 
+-- those of a ubyte
 abbrev pub ubyte_rows : ℕ → List Row
 ubyte_rows most = null_row ∷ (0x50, λ rest. byte_at rest >>= λ n. where_so (leb n.0 most) (Whole n.0) >>= λ c. Some (c, n.1)) ∷ []
 
@@ -57,12 +61,15 @@ ubyte_read most = (
   ),
 )
 
+-- a ubyte is read by them
 pub ubyte_is : (most left : ℕ) (bytes : List ℕ) → typed_at (ubyte_to most) left bytes ≡ (code_at left bytes >>= typed_by (ubyte_rows most))
 ubyte_is most = read_by (ubyte_to most) (ubyte_rows most) (ubyte_read most) refl refl
 
+-- a number of two bytes
 abbrev pub two_at : List ℕ → Option (ℕ × List ℕ)
 two_at bytes = where_so (leb 2 (length bytes)) (big_number 2 bytes, drop 2 bytes)
 
+-- the rows of a ushort
 abbrev pub ushort_rows : List Row
 ushort_rows = null_row ∷ (0x60, λ rest. two_at rest >>= λ n. Some (Whole n.0, n.1)) ∷ []
 
@@ -77,9 +84,11 @@ ushort_read = (
   ),
 )
 
+-- a ushort is read by them
 pub ushort_is : (left : ℕ) (bytes : List ℕ) → typed_at ushort left bytes ≡ (code_at left bytes >>= typed_by ushort_rows)
 ushort_is = read_by ushort ushort_rows ushort_read refl refl
 
+-- those of a uint
 abbrev pub uint_rows : List Row
 uint_rows =
     null_row ∷ (0x43, λ rest. Some (Whole 0, rest)) ∷ (0x52, λ rest. byte_at rest >>= λ n. Some (Whole n.0, n.1))
@@ -103,6 +112,7 @@ uint_read = (
   ),
 )
 
+-- a uint is read by them
 pub uint_is : (left : ℕ) (bytes : List ℕ) → typed_at uint left bytes ≡ (code_at left bytes >>= typed_by uint_rows)
 uint_is = read_by uint uint_rows uint_read refl refl
 
@@ -141,11 +151,14 @@ symbol_read : AreRead symbol (octets_rows 0xa3 0xb3 (are_of kind.Symbol))
 unfolding value_by item_by
 symbol_read = octets_table symbol kind.Symbol 0xa3 0xb3 (λ rest. refl) (λ rest. refl) (λ octets text. refl)
 
+-- so is a binary by its two rows
 pub binary_is : (left : ℕ) (bytes : List ℕ) → typed_at binary left bytes ≡ (code_at left bytes >>= typed_by (octets_rows 0xa0 0xb0 (are_of kind.Binary)))
 binary_is = read_by binary (octets_rows 0xa0 0xb0 (are_of kind.Binary)) binary_read refl refl
 
+-- a string
 pub string_is : (left : ℕ) (bytes : List ℕ) → typed_at string left bytes ≡ (code_at left bytes >>= typed_by (octets_rows 0xa1 0xb1 (are_of kind.String)))
 string_is = read_by string (octets_rows 0xa1 0xb1 (are_of kind.String)) string_read refl refl
 
+-- and a symbol
 pub symbol_is : (left : ℕ) (bytes : List ℕ) → typed_at symbol left bytes ≡ (code_at left bytes >>= typed_by (octets_rows 0xa3 0xb3 (are_of kind.Symbol)))
 symbol_is = read_by symbol (octets_rows 0xa3 0xb3 (are_of kind.Symbol)) symbol_read refl refl

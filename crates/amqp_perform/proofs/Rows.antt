@@ -11,11 +11,12 @@ use Rattle.amqp_types.specs.declared.code.SizeWidth.{SizeWidth}
 use Rattle.amqp_types.specs.declared.code.Constructor.{Constructor}
 use Rattle.amqp_types.specs.Codes.{constructors, kind_of}
 use Rattle.amqp_types.specs.Trees.{Tree, Number, Octets, Described, IsOfKind}
-use Rattle.amqp_types.specs.Reading.{Read, Part, outermost, uncharged, number_at, form_at, sized_at, inside, item_by, value_by, value_of}
+use Rattle.amqp_types.specs.InHand.{outermost}
+use Rattle.amqp_types.specs.Reading.{Read, Part, uncharged, number_at, form_at, sized_at, inside, item_by, value_by, value_of}
 use Rattle.amqp_perform.specs.Cells.{Cell, Absent, Bytes, ◌>>=◌, typed_cell}
 use Rattle.amqp_perform.specs.Items.{Item}
-use Rattle.amqp_perform.specs.Reading.{code_at, item_from, item_at, typed_at}
-use Rattle.amqp_perform.specs.Tables.{FieldType, boolean, ubyte_to, ushort, uint_from, binary, string, symbol, anything}
+use Rattle.amqp_perform.specs.BodyReading.{code_at, item_from, item_at, typed_at}
+use Rattle.amqp_perform.specs.Tables.{FieldType, boolean, ubyte_to, ushort, uint_from, binary, string, symbol, spanned}
 use Rattle.amqp_perform.proofs.Steps.{with_rest, with_left, bind_bind}
 use Rattle.amqp_perform.proofs.Made.{Yields, value_yields}
 
@@ -23,6 +24,7 @@ use Rattle.amqp_perform.proofs.Made.{Yields, value_yields}
 abbrev pub RowOf : Type 0 → Type 0
 RowOf B = ℕ × (List ℕ → Option B)
 
+-- a code, and what is read behind it
 abbrev pub Row : Type 0
 Row = RowOf (Cell × List ℕ)
 
@@ -30,6 +32,7 @@ Row = RowOf (Cell × List ℕ)
 abbrev pub data_cell : FieldType → ℕ → List ℕ → Option (Cell × List ℕ)
 data_cell type code rest = item_at (code ∷ rest) >>= λ x. typed_cell type x.0 >>= with_rest x.1
 
+-- what the row of a code reads
 abbrev pub by_rows : {B : Type 0} → List (RowOf B) → ℕ → List ℕ → Option B
 by_rows [] code rest = None
 by_rows (row ∷ rows) code rest = cond (eqb code row.0) (row.1 rest) (by_rows rows code rest)
@@ -40,10 +43,12 @@ typed_by rows x = by_rows rows x.0 x.2 >>= with_left x.1
 
 -- A table of codes. ---------------------------------------------------------------------------------------------------
 
+-- the codes of rows
 abbrev pub codes_of : {B : Type 0} → List (RowOf B) → List ℕ
 codes_of [] = []
 codes_of (row ∷ rows) = row.0 ∷ codes_of rows
 
+-- a code that is none of these
 abbrev pub IsOther : List ℕ → ℕ → Type 0
 IsOther [] code = Unit {0}
 IsOther (k ∷ ks) code = (eqb code k ≡ false) × IsOther ks code
@@ -64,6 +69,7 @@ module _ {B : Type 0} (read : ℕ → List ℕ → Option B) where
       tested later true e = subst (λ (k : ℕ). read k rest ≡ row.1 rest) (sym (eqb-true code row.0 e)) (all.0 rest)
       tested later false e = later (λ others. none (e, others))
 
+-- rows that read a field of a type as the grammar does
 abbrev pub AreRead : FieldType → List Row → Type 0
 AreRead type rows = AreRows (data_cell type) rows
 
@@ -71,7 +77,7 @@ AreRead type rows = AreRows (data_cell type) rows
 
 -- the kinds that a field of the type reads
 abbrev pub accepts : FieldType → Kind → Bool
-accepts anything k = true
+accepts spanned k = true
 accepts type kind.Null = true
 accepts boolean kind.Boolean = true
 accepts (ubyte_to most) kind.Ubyte = true
@@ -82,6 +88,7 @@ accepts string kind.String = true
 accepts symbol kind.Symbol = true
 accepts type k = false
 
+-- whether a code is among them
 abbrev pub is_in : List ℕ → ℕ → Bool
 is_in [] code = false
 is_in (k ∷ ks) code = eqb code k || is_in ks code
@@ -100,6 +107,7 @@ refused true true e f = absurd cc
 refused true false e f = absurd cc
 refused false b e f = refl
 
+-- a code outside the rows is of no kind that the field accepts
 pub not_accepted : (accepted : Kind → Bool) (ks : List ℕ) (table : List (ℕ × Constructor)) (code : ℕ) (c : Constructor) → covered accepted ks table ≡ true → IsOther ks code
     → lookup (λ k. eqb code k) table ≡ Some c → accepted (kind_of c) ≡ false
 not_accepted accepted ks [] code c all others found = absurd cc
@@ -125,7 +133,7 @@ others_yield P accepted ks depth code rest all others described leaf =
     (λ c found t is. leaf t (kind_of c) is (not_accepted accepted ks constructors code c all others found))
 
 number_none : (type : FieldType) (k : Kind) (n : ℕ) (text : List ℕ) → accepts type k ≡ false → typed_cell type (record { tree = Number k n; text = text }) ≡ None
-number_none anything k n text e = absurd cc
+number_none spanned k n text e = absurd cc
 number_none type kind.Null n text e = absurd cc
 number_none boolean kind.Boolean n text e = absurd cc
 number_none (ubyte_to most) kind.Ubyte n text e = absurd cc
@@ -134,7 +142,7 @@ number_none (uint_from least) kind.Uint n text e = absurd cc
 number_none type k n text e = refl
 
 octets_none : (type : FieldType) (k : Kind) (octets text : List ℕ) → accepts type k ≡ false → typed_cell type (record { tree = Octets k octets; text = text }) ≡ None
-octets_none anything k octets text e = absurd cc
+octets_none spanned k octets text e = absurd cc
 octets_none binary kind.Binary octets text e = absurd cc
 octets_none string kind.String octets text e = absurd cc
 octets_none symbol kind.Symbol octets text e = absurd cc
@@ -146,7 +154,7 @@ is_leaf (Octets k octets) = true
 is_leaf t = false
 
 compound_none : (type : FieldType) (t : Tree) (text : List ℕ) → is_leaf t ≡ false → accepts type kind.List ≡ false → typed_cell type (record { tree = t; text = text }) ≡ None
-compound_none anything t text leaf any = absurd cc
+compound_none spanned t text leaf any = absurd cc
 compound_none type (Number k n) text leaf any = absurd cc
 compound_none type (Octets k octets) text leaf any = absurd cc
 compound_none type t text leaf any = refl
@@ -173,6 +181,7 @@ others_none type rows code rest all any others =
 
 -- A field by a table. -------------------------------------------------------------------------------------------------
 
+-- a null is an absent field
 pub null_read : (type : FieldType) (rest : List ℕ) → data_cell type 0x40 rest ≡ Some (Absent, rest)
 unfolding value_by item_by number_at form_at
 null_read type rest = rw (le-ltb (length rest) 0 (omega arith)) refl
@@ -220,6 +229,7 @@ number_row type code k f cell read rest is h e =
     ∙ number_read type k cell (code ∷ rest) (number_at (outermost (code ∷ rest)) k f rest) h
     ∙ ap (λ (o : Option (ℕ × List ℕ)). o >>= λ x. cell x.0 >>= with_rest x.1) e
 
+-- the row of bytes behind a size
 pub octets_row : (type : FieldType) (code : ℕ) (k : Kind) (s : SizeWidth) (read : Option (List ℕ × List ℕ)) (rest : List ℕ)
     → value_of 30 None (code ∷ rest) ≡ uncharged None (sized_at (outermost (code ∷ rest)) k s rest) (Octets k)
     → ((octets text : List ℕ) → typed_cell type (record { tree = Octets k octets; text = text }) ≡ Some (Bytes octets))

@@ -18,8 +18,8 @@ use Rattle.amqp_types.proofs.Calls.{ok_rest}
 use Rattle.amqp_types.proofs.Peeks.{never_empty}
 use Rattle.amqp_perform.specs.Cells.{Cell, Absent, Span, ◌>>=◌, is_null, typed_cell}
 use Rattle.amqp_perform.specs.Performatives.{span}
-use Rattle.amqp_perform.specs.Reading.{item_from, typed_at, octets_at}
-use Rattle.amqp_perform.specs.Tables.{anything}
+use Rattle.amqp_perform.specs.BodyReading.{item_from, typed_at, octets_at}
+use Rattle.amqp_perform.specs.Tables.{spanned}
 use Rattle.amqp_perform.proofs.Made.{Yields}
 use Rattle.amqp_perform.proofs.Rows.{others_yield}
 
@@ -42,11 +42,13 @@ null_after : (rest : List ℕ) → value_of 30 None (0x40 ∷ rest) ≡ Ok (Numb
 unfolding value_by item_by number_at form_at
 null_after rest = rw (le-ltb (length rest) 0 (omega arith)) refl
 
+-- the text of a null
 abbrev pub IsNullText : List ℕ → Type 0
 IsNullText text = text ≡ 0x40 ∷ []
 
+-- a span, out of what reading a value gives
 abbrev pub any_at : ℕ → List ℕ → Part Tree → Option (Cell × ℕ × List ℕ)
-any_at left bytes read = item_from bytes read >>= λ x. typed_cell anything x.0 >>= λ c. Some (c, left, x.1)
+any_at left bytes read = item_from bytes read >>= λ x. typed_cell spanned x.0 >>= λ c. Some (c, left, x.1)
 
 -- a value other than null
 span_read : (left len : ℕ) (bytes : List ℕ) (read : Part Tree) → len ≤ length bytes → Yields (λ t. is_null t ≡ false) read → after read ≡ Ok (drop len bytes)
@@ -64,34 +66,35 @@ first_is (suc len) code rest other e = let same : code ≡ 0x40 = cc in eqb-fals
 one_taken : (len : ℕ) (rest : List ℕ) → len ≤ length (0x40 ∷ rest) → rest ≡ drop len (0x40 ∷ rest) → len ≡ 1
 one_taken len rest within e = omega (arith, ap length e, length-drop len (0x40 ∷ rest))
 
-abbrev pub IsOpaque : ℕ → List ℕ → ℕ → Type 0
-IsOpaque left bytes len =
-    (IsNullText (take len bytes) × (typed_at anything (suc left) bytes ≡ Some (Absent, left, drop len bytes)))
-    ⊎ ((IsNullText (take len bytes) → ⊥) × (typed_at anything (suc left) bytes ≡ Some (Span (take len bytes), left, drop len bytes)))
+-- a value that is well spelled, of this length
+abbrev pub IsSpanned : ℕ → List ℕ → ℕ → Type 0
+IsSpanned left bytes len =
+    (IsNullText (take len bytes) × (typed_at spanned (suc left) bytes ≡ Some (Absent, left, drop len bytes)))
+    ⊎ ((IsNullText (take len bytes) → ⊥) × (typed_at spanned (suc left) bytes ≡ Some (Span (take len bytes), left, drop len bytes)))
 
-opaque_is : (left len : ℕ) (bytes : List ℕ) → len ≤ length bytes → after (value_of 30 None bytes) ≡ Ok (drop len bytes) → IsOpaque left bytes len
+opaque_is : (left len : ℕ) (bytes : List ℕ) → len ≤ length bytes → after (value_of 30 None bytes) ≡ Ok (drop len bytes) → IsSpanned left bytes len
 unfolding typed_at value_by
 opaque_is left len [] within e = absurd cc
 opaque_is left len (code ∷ rest) within e = tested (eqb code 0x40) refl
   where
-    tested : (b : Bool) → eqb code 0x40 ≡ b → IsOpaque left (code ∷ rest) len
+    tested : (b : Bool) → eqb code 0x40 ≡ b → IsSpanned left (code ∷ rest) len
     tested true is =
         let same = eqb-true code 0x40 is in
-        subst (λ (k : ℕ). IsOpaque left (k ∷ rest) len) (sym same) (null_here len within (subst (λ (k : ℕ). after (value_of 30 None (k ∷ rest)) ≡ Ok (drop len (k ∷ rest))) same e))
+        subst (λ (k : ℕ). IsSpanned left (k ∷ rest) len) (sym same) (null_here len within (subst (λ (k : ℕ). after (value_of 30 None (k ∷ rest)) ≡ Ok (drop len (k ∷ rest))) same e))
       where
-        null_here : (len : ℕ) → len ≤ length (code ∷ rest) → after (value_of 30 None (0x40 ∷ rest)) ≡ Ok (drop len (0x40 ∷ rest)) → IsOpaque left (0x40 ∷ rest) len
+        null_here : (len : ℕ) → len ≤ length (code ∷ rest) → after (value_of 30 None (0x40 ∷ rest)) ≡ Ok (drop len (0x40 ∷ rest)) → IsSpanned left (0x40 ∷ rest) len
         null_here len within e =
             let left_is : rest ≡ drop len (0x40 ∷ rest) = ok_rest rest (drop len (0x40 ∷ rest)) (sym (ap after (null_after rest)) ∙ e) in
             let one = one_taken len rest within left_is in
-            subst (λ (n : ℕ). IsOpaque left (0x40 ∷ rest) n) (sym one) (inl (refl, ap (any_at left (0x40 ∷ rest)) (null_after rest)))
+            subst (λ (n : ℕ). IsSpanned left (0x40 ∷ rest) n) (sym one) (inl (refl, ap (any_at left (0x40 ∷ rest)) (null_after rest)))
     tested false is = inr (first_is len code rest is, span_read left len (code ∷ rest) (value_of 30 None (code ∷ rest)) within (no_null code rest is) e)
 
 -- an absent field, by the text that was skipped
 pub null_span : (left len : ℕ) (bytes : List ℕ) → len ≤ length bytes → after (value_of 30 None bytes) ≡ Ok (drop len bytes) → IsNullText (take len bytes)
-    → typed_at anything (suc left) bytes ≡ Some (Absent, left, drop len bytes)
+    → typed_at spanned (suc left) bytes ≡ Some (Absent, left, drop len bytes)
 null_span left len bytes within e is = chosen (opaque_is left len bytes within e)
   where
-    chosen : IsOpaque left bytes len → typed_at anything (suc left) bytes ≡ Some (Absent, left, drop len bytes)
+    chosen : IsSpanned left bytes len → typed_at spanned (suc left) bytes ≡ Some (Absent, left, drop len bytes)
     chosen (inl h) = h.1
     chosen (inr h) = absurd (h.0 is)
 
@@ -101,10 +104,10 @@ span_of t (b ∷ text) h = refl
 
 -- any other
 pub other_span : (left len : ℕ) (bytes : List ℕ) (t : Tree) → len ≤ length bytes → after (value_of 30 None bytes) ≡ Ok (drop len bytes) → Spells t (take len bytes)
-    → (IsNullText (take len bytes) → ⊥) → typed_at anything (suc left) bytes ≡ Some (span (take len bytes), left, drop len bytes)
+    → (IsNullText (take len bytes) → ⊥) → typed_at spanned (suc left) bytes ≡ Some (span (take len bytes), left, drop len bytes)
 other_span left len bytes t within e spelled other = chosen (opaque_is left len bytes within e)
   where
-    chosen : IsOpaque left bytes len → typed_at anything (suc left) bytes ≡ Some (span (take len bytes), left, drop len bytes)
+    chosen : IsSpanned left bytes len → typed_at spanned (suc left) bytes ≡ Some (span (take len bytes), left, drop len bytes)
     chosen (inl h) = absurd (other h.0)
     chosen (inr h) = h.1 ∙ ap (λ (c : Cell). Some (c, left, drop len bytes)) (span_of t (take len bytes) spelled)
 
@@ -117,7 +120,7 @@ octets_parts n bytes o rest e =
 pub lent : (left len : ℕ) (bytes o rest : List ℕ) (r : Result ℕ ReadFault) → (left ≡ 0 → ⊥) → r ≡ Ok len → IfOk r (λ n. n ≤ length bytes) →
     IfOk r (λ n. (t : Tree) × Spells t (take n bytes) × (depth_of t ≤ 30))
     → Is (λ n. drop n bytes) r (after (value_of 30 None bytes)) → octets_at len bytes ≡ Some (o, rest)
-    → (IsNullText o → typed_at anything left bytes ≡ Some (Absent, left - 1, rest)) × ((IsNullText o → ⊥) → typed_at anything left bytes ≡ Some (span o, left - 1, rest))
+    → (IsNullText o → typed_at spanned left bytes ≡ Some (Absent, left - 1, rest)) × ((IsNullText o → ⊥) → typed_at spanned left bytes ≡ Some (span o, left - 1, rest))
 lent zero len bytes o rest r more is within found exact taken = absurd (more refl)
 lent (suc left) len bytes o rest r more is within found exact taken =
     let parts = octets_parts len bytes o rest taken in
@@ -129,5 +132,6 @@ lent (suc left) len bytes o rest r more is within found exact taken =
       λ other. other_span left len bytes spelled.0 few read spelled.1 (λ e. other (parts.0 ∙ e)) ∙ (rw (one, parts.0, parts.1) refl),
     )
 
+-- texts that compare as different are
 pub not_equal : (xs ys : List ℕ) → bytes_eq xs ys ≡ false → xs ≡ ys → ⊥
 not_equal xs ys e same = let yes = (bytes_eq-Decides xs ys).1 same in cc

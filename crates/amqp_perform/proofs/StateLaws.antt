@@ -15,8 +15,8 @@ use Rattle.amqp_perform.specs.Conditions.{condition_span, found_by_name, cell_co
 use Rattle.amqp_perform.specs.Descriptors.{by_code}
 use Rattle.amqp_perform.specs.Items.{Item, trees_of, text_of, AreSpelled, SpellsDescribed}
 use Rattle.amqp_perform.specs.Outcomes.{is_true, true_at, second_true, modified_by, outcome_span, outcome_of, outcome_by, is_true_tree, first_is_true, outcome_in}
-use Rattle.amqp_perform.specs.Reading.{descriptor_at, list_at, described_at, typed_at}
-use Rattle.amqp_perform.specs.Tables.{FieldType, boolean, symbol, anything}
+use Rattle.amqp_perform.specs.BodyReading.{descriptor_at, list_at, described_at, typed_at}
+use Rattle.amqp_perform.specs.Tables.{FieldType, boolean, symbol, spanned}
 use Rattle.amqp_perform.proofs.ItemLaws.{item_again}
 use Rattle.amqp_perform.proofs.ListLaws.{list_of_items, described}
 
@@ -45,6 +45,7 @@ first_names [] spelled deep = refl
 first_names (x ∷ xs) spelled deep =
     ap (λ (o : Option (Cell × ℕ × List ℕ)). unwrap_or (o >>= λ read. Some (cell_condition read.0)) condition.Other) (given symbol x xs spelled deep) ∙ named x (length xs) (text_of xs)
 
+-- the condition of an error that is spelled is that of its first field
 pub condition_found : (items : List Item) (text rest : List ℕ) → SpellsDescribed of_type.Error items text → depth_of (ListOf (trees_of items)) ≤ 31 → condition_of (text ++ rest) ≡ condition_in items
 unfolding condition_of described_at
 condition_found items text rest h deep =
@@ -67,7 +68,7 @@ first_is [] spelled deep = refl
 first_is (x ∷ xs) spelled deep = ap is_true (given boolean x xs spelled deep) ∙ truth x (length xs) (text_of xs)
 
 -- a value of any type is read, a null too
-passed : (x : Item) (n : ℕ) (rest : List ℕ) → option_map_or (λ (y : Cell × ℕ × List ℕ). true_at y.1 y.2) (typed_cell anything x >>= λ c. Some (c, n, rest)) false ≡ true_at n rest
+passed : (x : Item) (n : ℕ) (rest : List ℕ) → option_map_or (λ (y : Cell × ℕ × List ℕ). true_at y.1 y.2) (typed_cell spanned x >>= λ c. Some (c, n, rest)) false ≡ true_at n rest
 passed x n rest = by (is_null x.tree)
   where
     by : (b : Bool) → option_map_or (λ (y : Cell × ℕ × List ℕ). true_at y.1 y.2) (cond b (Some Absent) (Some (Span x.text)) >>= λ c. Some (c, n, rest)) false ≡ true_at n rest
@@ -78,7 +79,7 @@ second_is : (items : List Item) → AreSpelled items → depth_of_all (trees_of 
 unfolding typed_at true_at second_true
 second_is [] spelled deep = refl
 second_is (x ∷ xs) spelled deep =
-    ap (λ (o : Option (Cell × ℕ × List ℕ)). option_map_or (λ (y : Cell × ℕ × List ℕ). true_at y.1 y.2) o false) (given anything x xs spelled deep)
+    ap (λ (o : Option (Cell × ℕ × List ℕ)). option_map_or (λ (y : Cell × ℕ × List ℕ). true_at y.1 y.2) o false) (given spanned x xs spelled deep)
     ∙ passed x (length xs) (text_of xs)
     ∙ first_is xs spelled.1 (omega (arith, deep))
 
@@ -88,6 +89,7 @@ unfolding modified_by
 by_descriptor of_type.Modified items second rest list spelled deep = rw (list, first_is items spelled deep, second_is items spelled deep) refl
 by_descriptor _ items second rest list spelled deep = refl
 
+-- the outcome of a state that is spelled is that of its descriptor and flags
 pub outcome_found : (d : Descriptor) (items : List Item) (text rest : List ℕ) → SpellsDescribed d items text → depth_of (ListOf (trees_of items)) ≤ 31 → outcome_of (text ++ rest) ≡ outcome_in d items
 unfolding outcome_of
 outcome_found d items text rest h deep =
@@ -96,11 +98,13 @@ outcome_found d items text rest h deep =
 
 -- What is written is read, by computation. ----------------------------------------------------------------------------
 
+-- a condition is found in its own span
 pub condition_again : (c : Condition) → condition_of (condition_span c) ≡ c
 unfolding condition_of condition_span found_by_name by_code described_at descriptor_at list_at typed_at value_by inside item_by number_at form_at sized_at block_at count_at
 condition_again condition.Other = refl
 condition_again _ = refl
 
+-- so is an outcome
 pub outcome_again : (o : Outcome) → outcome_of (outcome_span o) ≡ Some o
 unfolding outcome_of outcome_span modified_by true_at second_true by_code descriptor_at list_at typed_at value_by inside item_by number_at form_at block_at count_at
 outcome_again (outcome.Modified true true) = refl

@@ -8,9 +8,11 @@ use Rattle.std.proofs.lemmas.Str.{IsUtf8-from_is_utf8}
 use Rattle.amqp_types.specs.Reading.{is_beyond_ascii}
 use Rattle.amqp_types.proofs.Sound.{IsAscii-from_position}
 
+-- bytes that are no UTF-8 fail its test
 pub utf8_fails : (octets : List ℕ) → (IsUtf8 octets → ⊥) → is_utf8 octets ≡ false
 utf8_fails octets never = false_from_ne_true (is_utf8 octets) (λ e. never (IsUtf8-from_is_utf8 octets e))
 
+-- a byte beyond ASCII fails its test
 pub ascii_fails : (octets : List ℕ) (i : ℕ) → 128 ≤ slice_index octets i → not (is_some (position is_beyond_ascii octets)) ≡ false
 ascii_fails octets i high = tested (position is_beyond_ascii octets) refl
   where

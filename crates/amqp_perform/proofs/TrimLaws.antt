@@ -15,6 +15,7 @@ use Rattle.amqp_perform.specs.Tables.{Field}
 use Rattle.amqp_perform.proofs.Steps.{bind_some}
 use Rattle.amqp_perform.proofs.Trims.{kept_or_null}
 
+-- the texts of items
 abbrev pub texts_of : List Item → List (List ℕ)
 texts_of xs = map (λ (x : Item). x.text) xs
 
@@ -26,6 +27,7 @@ pub record AreCells (fs : List Field) (items : List Item) (cells : List Cell) : 
 
 -- Nulls. --------------------------------------------------------------------------------------------------------------
 
+-- the text of a null spells it
 pub null_spelled : Spells (Number kind.Null 0) null_text
 unfolding Spells
 null_spelled = (0x40, form.Full, [], refl, refl, (omega arith, refl), tt)
@@ -51,6 +53,7 @@ one_more f fs x c cells spelled deep cell ys are =
           ([], sym gone.2, record { spelled = tt; deep = omega arith; cells_are = rw (null_is_absent f x c spelled gone.0 cell, others) refl })
     ]
 
+-- the fields without their nulls at the end are the items that are written
 pub trim : (fs : List Field) (xs : List Item) (cells : List Cell) → AreCells fs xs cells → (ys : List Item) × (texts_of ys ≡ trimmed (texts_of xs)) × AreCells fs ys cells
 trim fs [] cells are = ([], refl, are)
 trim [] (x ∷ xs) cells are = absurd (none-some cells are.cells_are)
@@ -64,6 +67,7 @@ trim (f ∷ fs) (x ∷ xs) cells are =
 
 -- Lengths. ------------------------------------------------------------------------------------------------------------
 
+-- texts whose lengths stay below this together
 abbrev pub AreBelow : ℕ → List (List ℕ) → Type 0
 AreBelow n [] = Unit {0}
 AreBelow n (text ∷ texts) = (length text < n) × AreBelow n texts

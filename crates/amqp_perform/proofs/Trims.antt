@@ -33,6 +33,7 @@ last_is values n d is_null same =
     let e : suc n - 1 ≡ n = omega arith in
     ap (λ (m : ℕ). bytes_eq (field_spelling (get_or values m d)) null_text) (sym e) ∙ sym same
 
+-- a last field that is no null stays
 pub trimmed_last : (values : List FieldText) (count : ℕ) (d : FieldText) (is_null : Bool) → 0 < count → count ≤ length values
     → is_null ≡ bytes_eq (field_spelling (get_or values (count - 1) d)) null_text → is_null ≡ true
     → trimmed (field_spellings (take count values)) ≡ trimmed (field_spellings (take (count - 1) values))
@@ -42,6 +43,7 @@ trimmed_last values (suc n) d is_null some le same is =
     ∙ null_trimmed (field_spellings (take n values)) (field_spelling (get_or values n d)) (last_is values n d is_null same ∙ is)
     ∙ ap (λ (m : ℕ). trimmed (field_spellings (take m values))) (omega arith)
 
+-- one that is a null goes
 pub trimmed_all : (values : List FieldText) (count : ℕ) (d : FieldText) (is_null : Bool) → 0 < count → count ≤ length values
     → is_null ≡ bytes_eq (field_spelling (get_or values (count - 1) d)) null_text → is_null ≡ false
     → trimmed (field_spellings (take count values)) ≡ field_spellings (take count values)

@@ -22,10 +22,10 @@ use Rattle.amqp_perform.specs.declared.performative.Performative.TheVariants as 
 use Rattle.amqp_perform.specs.Again.{IsOfField, AreOfFields}
 use Rattle.amqp_perform.specs.Bodies.{BodyOf, Body}
 use Rattle.amqp_perform.specs.Cells.{Cell, Absent, Whole, Bytes, Span, ◌>>=◌, is_null, value_cell, absent_cell, with_absence, field_cell, cells_of}
-use Rattle.amqp_perform.specs.Frames.{kind_of, last_written, disposition_written, written_cells}
+use Rattle.amqp_perform.specs.Frames.{kind_of_field, last_written, disposition_written, written_cells}
 use Rattle.amqp_perform.specs.Items.{Item, trees_of, text_of, AreSpelled, SpellsDescribed}
 use Rattle.amqp_perform.specs.Performatives.{optional_whole, disposition_cells, type_of, performative_cells}
-use Rattle.amqp_perform.specs.Tables.{FieldType, boolean, ubyte_to, ushort, uint_from, binary, string, symbol, anything, Absence, mandatory, optional, default, Field, field, uint, open_fields}
+use Rattle.amqp_perform.specs.Tables.{FieldType, boolean, ubyte_to, ushort, uint_from, binary, string, symbol, spanned, Absence, mandatory, optional, default, Field, field, uint, open_fields}
 use Rattle.amqp_perform.specs.Tables.{begin_fields, attach_fields, flow_fields, transfer_fields, disposition_fields, detach_fields, end_fields, close_fields, fields_of}
 use Rattle.amqp_perform.proofs.Steps.{bind_some}
 use Rattle.amqp_perform.proofs.ItemLaws.{descriptor_found}
@@ -80,9 +80,9 @@ octets_ranged k octets text is fits (code, s, data_, found, joined, sized, of_ki
 -- what is not absent in a field of the type
 abbrev IsOfType : FieldType → Cell → Type 0
 IsOfType type Absent = ⊥
-IsOfType type (Whole n) = IsRanged (Number (kind_of type) n) × (value_cell type (Number (kind_of type) n) [] ≡ Some (Whole n))
-IsOfType type (Bytes octets) = IsRanged (Octets (kind_of type) octets) × (value_cell type (Octets (kind_of type) octets) [] ≡ Some (Bytes octets))
-IsOfType type (Span text) = (type ≡ anything) × (t : Tree) × Spells t text × (depth_of t ≤ 30) × (is_null t ≡ false)
+IsOfType type (Whole n) = IsRanged (Number (kind_of_field type) n) × (value_cell type (Number (kind_of_field type) n) [] ≡ Some (Whole n))
+IsOfType type (Bytes octets) = IsRanged (Octets (kind_of_field type) octets) × (value_cell type (Octets (kind_of_field type) octets) [] ≡ Some (Bytes octets))
+IsOfType type (Span text) = (type ≡ spanned) × (t : Tree) × Spells t text × (depth_of t ≤ 30) × (is_null t ≡ false)
 
 of_field : (f : Field) (c : Cell) → IsOfType f.type c → IsOfField f c
 of_field f Absent h = absurd h
@@ -107,7 +107,7 @@ value_of_type (uint_from least) (Number kind.Uint n) text c spelled fits deep nu
 value_of_type binary (Octets kind.Binary octets) text c spelled fits deep null e = of_same binary (Bytes octets) c (octets_ranged kind.Binary octets text tt fits spelled, refl) e
 value_of_type string (Octets kind.String octets) text c spelled fits deep null e = of_same string (Bytes octets) c (octets_ranged kind.String octets text tt fits spelled, refl) e
 value_of_type symbol (Octets kind.Symbol octets) text c spelled fits deep null e = of_same symbol (Bytes octets) c (octets_ranged kind.Symbol octets text tt fits spelled, refl) e
-value_of_type anything t text c spelled fits deep null e = of_same anything (Span text) c (refl, t, spelled, deep, null) e
+value_of_type spanned t text c spelled fits deep null e = of_same spanned (Span text) c (refl, t, spelled, deep, null) e
 value_of_type _ _ text c spelled fits deep null e = absurd cc
 
 -- whether a default is a number of the field's type
@@ -190,6 +190,7 @@ defaults of_type.End fs e = ap all_suit (sym (same_Some end_fields fs e))
 defaults of_type.Close fs e = ap all_suit (sym (same_Some close_fields fs e))
 defaults _ fs e = absurd cc
 
+-- the fields of a body that was read are of their types
 pub read_of_fields : (bytes : List ℕ) (d : Descriptor) (fields : List Field) (cells : List Cell) (payload : List ℕ) → IsBytes bytes → BodyOf bytes d cells payload → fields_of d ≡ Some fields →
     AreOfFields fields cells
 read_of_fields bytes d fields cells payload fits (fs, items, text, table, parts, described, deep, are) same =
@@ -216,6 +217,7 @@ written_of_fields (performative.Disposition p) fields e h =
     (cells.0, (cells.1.0, (last_of_field (field (codes "last") uint optional) p.first p.last refl cells.1.1.0, cells.1.1.1)))
 written_of_fields _ fields e h = h
 
+-- so what was read may be written
 pub read_may_be_written : (bytes : List ℕ) (p : Performative) (fields : List Field) (payload : List ℕ) → IsBytes bytes → Body bytes p payload → fields_of (type_of p) ≡ Some fields →
     AreOfFields fields (written_cells p)
 read_may_be_written bytes p fields payload fits body table =

@@ -46,6 +46,7 @@ four_writes a b c d old s1 s2 s3 new fits w1 w2 w3 w4 =
 
 -- The spellings of values. --------------------------------------------------------------------------------------------
 
+-- the spellings of fields, joined
 abbrev pub joined : List FieldText → List ℕ
 joined values = concat (field_spellings values)
 

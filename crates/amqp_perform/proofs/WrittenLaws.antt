@@ -25,11 +25,11 @@ use Rattle.amqp_perform.specs.Again.{IsOfField, AreOfFields}
 use Rattle.amqp_perform.specs.Bodies.{BodyOf}
 use Rattle.amqp_perform.specs.Cells.{Cell, Absent, Whole, Bytes, Span, ◌>>=◌, is_null, value_cell, typed_cell, absent_cell, with_absence, field_cell, cells_of}
 use Rattle.amqp_perform.specs.Descriptors.{code_of, by_code}
-use Rattle.amqp_perform.specs.Frames.{null_text, kind_of, cell_text, written_text, field_text, field_texts, trimmed, list_text, described_text, performative_text, written_cells}
+use Rattle.amqp_perform.specs.Frames.{null_text, kind_of_field, cell_text, written_text, field_text, field_texts, trimmed, list_text, described_text, performative_text, written_cells}
 use Rattle.amqp_perform.specs.Items.{Item, text_of, AreSpelled, SpellsList}
 use Rattle.amqp_perform.specs.Performatives.{type_of}
 use Rattle.amqp_perform.specs.Said.{Said, said, said_texts, said_text, MayBeSaid}
-use Rattle.amqp_perform.specs.Tables.{FieldType, boolean, ubyte_to, ushort, uint_from, binary, string, symbol, anything, Absence, mandatory, optional, default, Field, open_fields, begin_fields}
+use Rattle.amqp_perform.specs.Tables.{FieldType, boolean, ubyte_to, ushort, uint_from, binary, string, symbol, spanned, Absence, mandatory, optional, default, Field, open_fields, begin_fields}
 use Rattle.amqp_perform.specs.Tables.{attach_fields, flow_fields, transfer_fields, disposition_fields, detach_fields, end_fields, close_fields, fields_of}
 use Rattle.amqp_perform.proofs.Steps.{bind_some}
 use Rattle.amqp_perform.proofs.TrimLaws.{texts_of, AreCells, null_spelled, trim, AreBelow, below}
@@ -46,8 +46,8 @@ record IsWritten (f : Field) (c : Cell) (text : List ℕ) : Type 0 where
 null_written : (f : Field) (c : Cell) → absent_cell f.absence ≡ Some c → IsWritten f c null_text
 null_written f c e = record { tree = Number kind.Null 0; spelled = null_spelled; deep = omega arith; cell = e }
 
-whole_cell : (type : FieldType) (n : ℕ) (text : List ℕ) → value_cell type (Number (kind_of type) n) [] ≡ Some (Whole n) → typed_cell type
-    (record { tree = Number (kind_of type) n; text = text }) ≡ Some (Whole n)
+whole_cell : (type : FieldType) (n : ℕ) (text : List ℕ) → value_cell type (Number (kind_of_field type) n) [] ≡ Some (Whole n) → typed_cell type
+    (record { tree = Number (kind_of_field type) n; text = text }) ≡ Some (Whole n)
 whole_cell boolean n text e = e
 whole_cell (ubyte_to most) n text e = e
 whole_cell ushort n text e = e
@@ -55,10 +55,10 @@ whole_cell (uint_from least) n text e = e
 whole_cell binary n text e = absurd cc
 whole_cell string n text e = absurd cc
 whole_cell symbol n text e = absurd cc
-whole_cell anything n text e = absurd cc
+whole_cell spanned n text e = absurd cc
 
-bytes_cell : (type : FieldType) (octets text : List ℕ) → value_cell type (Octets (kind_of type) octets) [] ≡ Some (Bytes octets) →
-    typed_cell type (record { tree = Octets (kind_of type) octets; text = text }) ≡ Some (Bytes octets)
+bytes_cell : (type : FieldType) (octets text : List ℕ) → value_cell type (Octets (kind_of_field type) octets) [] ≡ Some (Bytes octets) →
+    typed_cell type (record { tree = Octets (kind_of_field type) octets; text = text }) ≡ Some (Bytes octets)
 bytes_cell boolean octets text e = absurd cc
 bytes_cell (ubyte_to most) octets text e = absurd cc
 bytes_cell ushort octets text e = absurd cc
@@ -66,9 +66,9 @@ bytes_cell (uint_from least) octets text e = absurd cc
 bytes_cell binary octets text e = e
 bytes_cell string octets text e = e
 bytes_cell symbol octets text e = e
-bytes_cell anything octets text e = absurd cc
+bytes_cell spanned octets text e = absurd cc
 
-span_cell : (f : Field) (t : Tree) (text : List ℕ) → f.type ≡ anything → is_null t ≡ false → field_cell f (record { tree = t; text = text }) ≡ Some (Span text)
+span_cell : (f : Field) (t : Tree) (text : List ℕ) → f.type ≡ spanned → is_null t ≡ false → field_cell f (record { tree = t; text = text }) ≡ Some (Span text)
 span_cell f t text type null = rw (null, type) refl
 
 -- the bytes of a value are no more than its spelling
@@ -78,10 +78,10 @@ octets_long k octets =
     let l = length-append (big_bytes (size_len s) (length octets)) octets in
     omega (arith, l)
 
-octets_written : (f : Field) (octets : List ℕ) → IsOfField f (Bytes octets) → length (canonical (Octets (kind_of f.type) octets)) < 2 ^ 32 →
-    IsWritten f (Bytes octets) (canonical (Octets (kind_of f.type) octets))
+octets_written : (f : Field) (octets : List ℕ) → IsOfField f (Bytes octets) → length (canonical (Octets (kind_of_field f.type) octets)) < 2 ^ 32 →
+    IsWritten f (Bytes octets) (canonical (Octets (kind_of_field f.type) octets))
 octets_written f octets h lt =
-    let k = kind_of f.type in
+    let k = kind_of_field f.type in
     let room : ltb (length octets) (2 ^ 32) ≡ true = lt-ltb (length octets) (2 ^ 32) (omega (arith, octets_long k octets)) in
     record {
       tree = Octets k octets;
@@ -90,9 +90,9 @@ octets_written f octets h lt =
       cell = ap (λ (o : Option Cell). o >>= with_absence f.absence) (bytes_cell f.type octets (canonical (Octets k octets)) h.1);
     }
 
-whole_written : (f : Field) (n : ℕ) → IsOfField f (Whole n) → IsWritten f (Whole n) (canonical (Number (kind_of f.type) n))
+whole_written : (f : Field) (n : ℕ) → IsOfField f (Whole n) → IsWritten f (Whole n) (canonical (Number (kind_of_field f.type) n))
 whole_written f n h =
-    let k = kind_of f.type in
+    let k = kind_of_field f.type in
     record {
       tree = Number k n;
       spelled = canonical_spells (Number k n) tt h.0 tt;
@@ -106,7 +106,7 @@ by_default f n mandatory is h = whole_written f n h
 by_default f n optional is h = whole_written f n h
 by_default f n (default m) is h = test (eqb n m) refl
   where
-    test : (b : Bool) → eqb n m ≡ b → IsWritten f (Whole n) (cond b null_text (canonical (Number (kind_of f.type) n)))
+    test : (b : Bool) → eqb n m ≡ b → IsWritten f (Whole n) (cond b null_text (canonical (Number (kind_of_field f.type) n)))
     test true e = null_written f (Whole n) (ap absent_cell is ∙ ap (λ (k : ℕ). Some (Whole k)) (sym (eqb-true n m e)))
     test false e = whole_written f n h
 
@@ -255,6 +255,7 @@ described_says d fields cells payload table is h lt =
       left.2.cells_are,
     )
 
+-- what is written of a type and fields says these
 pub said_says : (s : Said) (payload : List ℕ) → MayBeSaid s → length (said_text s) < 2 ^ 32 → BodyOf (said_text s ++ payload) s.type s.cells payload
 said_says s payload may lt =
     let texts : said_texts s ≡ field_texts may.fields s.cells = ap (λ (o : Option (List Field)). field_texts (unwrap_or o []) s.cells) may.table in
@@ -262,6 +263,7 @@ said_says s payload may lt =
     subst (λ (b : List ℕ). BodyOf (b ++ payload) s.type s.cells payload) (sym text)
     (described_says s.type may.fields s.cells payload may.table (known s.type may.fields may.table) may.each (subst (λ (b : List ℕ). length b < 2 ^ 32) text lt))
 
+-- what is written of a performative says it
 pub written_says : (p : Performative) (fields : List Field) (payload : List ℕ) → fields_of (type_of p) ≡ Some fields → AreOfFields fields (written_cells p) → length (performative_text p) < 2 ^ 32
     → BodyOf (performative_text p ++ payload) (type_of p) (written_cells p) payload
 written_says p fields payload table each lt = said_says (said p) payload (record { fields = fields; table = table; each = each }) lt

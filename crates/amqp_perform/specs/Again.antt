@@ -4,16 +4,16 @@ use Rattle.amqp_types.specs.Canonical.{IsRanged}
 use Rattle.amqp_types.specs.Spelling.{Spells}
 use Rattle.amqp_types.specs.Trees.{Tree, Number, Octets, depth_of}
 use Rattle.amqp_perform.specs.Cells.{Cell, Absent, Whole, Bytes, Span, value_cell, is_null}
-use Rattle.amqp_perform.specs.Frames.{kind_of}
-use Rattle.amqp_perform.specs.Tables.{anything, optional, Field}
+use Rattle.amqp_perform.specs.Frames.{kind_of_field}
+use Rattle.amqp_perform.specs.Tables.{spanned, optional, Field}
 
 -- Such a cell is read in the field: a number or bytes of its type, or a span that spells a value other than
 -- null within the depth of a body.
 abbrev pub IsOfField : Field → Cell → Type 0
 IsOfField f Absent = f.absence ≡ optional
-IsOfField f (Whole n) = IsRanged (Number (kind_of f.type) n) × (value_cell f.type (Number (kind_of f.type) n) [] ≡ Some (Whole n))
-IsOfField f (Bytes octets) = IsRanged (Octets (kind_of f.type) octets) × (value_cell f.type (Octets (kind_of f.type) octets) [] ≡ Some (Bytes octets))
-IsOfField f (Span text) = (f.type ≡ anything) × (t : Tree) × Spells t text × (depth_of t ≤ 30) × (is_null t ≡ false)
+IsOfField f (Whole n) = IsRanged (Number (kind_of_field f.type) n) × (value_cell f.type (Number (kind_of_field f.type) n) [] ≡ Some (Whole n))
+IsOfField f (Bytes octets) = IsRanged (Octets (kind_of_field f.type) octets) × (value_cell f.type (Octets (kind_of_field f.type) octets) [] ≡ Some (Bytes octets))
+IsOfField f (Span text) = (f.type ≡ spanned) × (t : Tree) × Spells t text × (depth_of t ≤ 30) × (is_null t ≡ false)
 
 -- each cell is of the field in its place
 abbrev pub AreOfFields : List Field → List Cell → Type 0

@@ -1,7 +1,7 @@
 -- What the body of a frame says. (part 2, section 2.7)
 use Rattle.std.specs.Prelude.{◌≡◌, ℕ, ◌≤◌, List, ◌++◌, None, Some}
 use Rattle.amqp_types.specs.Misreading.{AValue, Misread}
-use Rattle.amqp_types.specs.Reading.{outermost}
+use Rattle.amqp_types.specs.InHand.{outermost}
 use Rattle.amqp_types.specs.Spelling.{Spells}
 use Rattle.amqp_types.specs.Trees.{Tree, ListOf, depth_of}
 use Rattle.amqp_perform.specs.declared.descriptor.Descriptor.{Descriptor}

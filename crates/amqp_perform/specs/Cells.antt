@@ -3,7 +3,7 @@ use Rattle.std.specs.Prelude.{ℕ, Bool, true, false, nat_le, if◌then◌else�
 use Rattle.amqp_types.specs.declared.kind.Kind.TheVariants as kind
 use Rattle.amqp_types.specs.Trees.{Tree, Number, Octets}
 use Rattle.amqp_perform.specs.Items.{Item}
-use Rattle.amqp_perform.specs.Tables.{FieldType, boolean, ubyte_to, ushort, uint_from, binary, string, symbol, anything, Absence, mandatory, optional, default, Field}
+use Rattle.amqp_perform.specs.Tables.{FieldType, boolean, ubyte_to, ushort, uint_from, binary, string, symbol, spanned, Absence, mandatory, optional, default, Field}
 
 pub data Cell : Type 0 where
   Absent : Cell
@@ -36,7 +36,7 @@ value_cell (uint_from least) (Number kind.Uint n) text = where_so (nat_le least 
 value_cell binary (Octets kind.Binary octets) text = Some (Bytes octets)
 value_cell string (Octets kind.String octets) text = Some (Bytes octets)
 value_cell symbol (Octets kind.Symbol octets) text = Some (Bytes octets)
-value_cell anything t text = Some (Span text)
+value_cell spanned t text = Some (Span text)
 value_cell _ _ _ = None
 
 -- what an item is to a field of the type: a null is an absent field

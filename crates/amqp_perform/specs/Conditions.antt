@@ -12,7 +12,7 @@ use Rattle.amqp_perform.specs.declared.descriptor.Descriptor.TheVariants as of_t
 use Rattle.amqp_perform.specs.Cells.{Cell, Bytes, ◌>>=◌}
 use Rattle.amqp_perform.specs.Descriptors.{code_of, described_by}
 use Rattle.amqp_perform.specs.Items.{Item}
-use Rattle.amqp_perform.specs.Reading.{ListAt, described_at, typed_at}
+use Rattle.amqp_perform.specs.BodyReading.{ListAt, described_at, typed_at}
 use Rattle.amqp_perform.specs.Tables.{symbol}
 
 abbrev pub name_of : Condition → List ℕ

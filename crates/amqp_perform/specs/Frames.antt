@@ -18,27 +18,27 @@ use Rattle.amqp_perform.specs.declared.performative.Disposition.{Disposition}
 use Rattle.amqp_perform.specs.Cells.{Cell, Absent, Whole, Bytes, Span}
 use Rattle.amqp_perform.specs.Descriptors.{code_of}
 use Rattle.amqp_perform.specs.Performatives.{flag, role, span, type_of, performative_cells}
-use Rattle.amqp_perform.specs.Tables.{FieldType, boolean, ubyte_to, ushort, uint_from, binary, string, symbol, anything, Absence, default, Field, fields_of}
+use Rattle.amqp_perform.specs.Tables.{FieldType, boolean, ubyte_to, ushort, uint_from, binary, string, symbol, spanned, Absence, default, Field, fields_of}
 
 abbrev pub null_text : List ℕ
 null_text = 0x40 ∷ []
 
-abbrev pub kind_of : FieldType → Kind
-kind_of boolean = kind.Boolean
-kind_of (ubyte_to most) = kind.Ubyte
-kind_of ushort = kind.Ushort
-kind_of (uint_from least) = kind.Uint
-kind_of binary = kind.Binary
-kind_of string = kind.String
-kind_of symbol = kind.Symbol
-kind_of anything = kind.Null
+abbrev pub kind_of_field : FieldType → Kind
+kind_of_field boolean = kind.Boolean
+kind_of_field (ubyte_to most) = kind.Ubyte
+kind_of_field ushort = kind.Ushort
+kind_of_field (uint_from least) = kind.Uint
+kind_of_field binary = kind.Binary
+kind_of_field string = kind.String
+kind_of_field symbol = kind.Symbol
+kind_of_field spanned = kind.Null
 
 -- The canonical spelling of what stands in a field. A span is written as it is, even where it spells its own default or is not
 -- the shortest.
 abbrev pub cell_text : FieldType → Cell → List ℕ
 cell_text type Absent = null_text
-cell_text type (Whole n) = canonical (Number (kind_of type) n)
-cell_text type (Bytes octets) = canonical (Octets (kind_of type) octets)
+cell_text type (Whole n) = canonical (Number (kind_of_field type) n)
+cell_text type (Bytes octets) = canonical (Octets (kind_of_field type) octets)
 cell_text type (Span text) = text
 
 abbrev pub is_default : Absence → Cell → Bool

@@ -4,7 +4,7 @@ pub mod Items
 pub mod Cells
 pub mod Performatives
 pub mod Bodies
-pub mod Reading
+pub mod BodyReading
 pub mod Frames
 pub mod Conditions
 pub mod Outcomes

@@ -11,8 +11,8 @@ use Rattle.amqp_perform.specs.declared.outcome.Outcome.TheVariants as outcome
 use Rattle.amqp_perform.specs.Cells.{Cell, Whole, ◌>>=◌}
 use Rattle.amqp_perform.specs.Descriptors.{code_of, described_by}
 use Rattle.amqp_perform.specs.Items.{Item}
-use Rattle.amqp_perform.specs.Reading.{ListAt, descriptor_at, typed_at, list_at}
-use Rattle.amqp_perform.specs.Tables.{boolean, anything}
+use Rattle.amqp_perform.specs.BodyReading.{ListAt, descriptor_at, typed_at, list_at}
+use Rattle.amqp_perform.specs.Tables.{boolean, spanned}
 
 abbrev pub true_tree : Tree
 true_tree = Number kind.Boolean 1
@@ -49,7 +49,7 @@ true_at left bytes = is_true (typed_at boolean left bytes)
 
 -- whether the one behind it is
 unfoldable pub second_true : ℕ → List ℕ → Bool
-second_true left bytes = option_map_or (λ (x : Cell × ℕ × List ℕ). true_at x.1 x.2) (typed_at anything left bytes) false
+second_true left bytes = option_map_or (λ (x : Cell × ℕ × List ℕ). true_at x.1 x.2) (typed_at spanned left bytes) false
 
 unfoldable pub modified_by : Option ListAt → Outcome
 modified_by None = outcome.Modified false false

@@ -15,7 +15,7 @@ pub data FieldType : Type 0 where
   string : FieldType
   symbol : FieldType
   -- a value of any type, which is only known to be well spelled
-  anything : FieldType
+  spanned : FieldType
 
 -- What an absent field is: a null, or one behind the last item. [1.4]
 pub data Absence : Type 0 where
@@ -52,15 +52,15 @@ receiver_settle_mode = ubyte_to 1
 abbrev pub open_fields : List Field
 open_fields =
     field (codes "container-id") string mandatory ∷
-    field (codes "hostname") anything optional ∷
+    field (codes "hostname") spanned optional ∷
     field (codes "max-frame-size") (uint_from 512) (default 4294967295) ∷
     field (codes "channel-max") ushort (default 65535) ∷
-    field (codes "idle-time-out") anything optional ∷
-    field (codes "outgoing-locales") anything optional ∷
-    field (codes "incoming-locales") anything optional ∷
-    field (codes "offered-capabilities") anything optional ∷
-    field (codes "desired-capabilities") anything optional ∷
-    field (codes "properties") anything optional ∷
+    field (codes "idle-time-out") spanned optional ∷
+    field (codes "outgoing-locales") spanned optional ∷
+    field (codes "incoming-locales") spanned optional ∷
+    field (codes "offered-capabilities") spanned optional ∷
+    field (codes "desired-capabilities") spanned optional ∷
+    field (codes "properties") spanned optional ∷
     []
 
 -- [2.7.2]
@@ -71,9 +71,9 @@ begin_fields =
     field (codes "incoming-window") uint mandatory ∷
     field (codes "outgoing-window") uint mandatory ∷
     field (codes "handle-max") uint (default 4294967295) ∷
-    field (codes "offered-capabilities") anything optional ∷
-    field (codes "desired-capabilities") anything optional ∷
-    field (codes "properties") anything optional ∷
+    field (codes "offered-capabilities") spanned optional ∷
+    field (codes "desired-capabilities") spanned optional ∷
+    field (codes "properties") spanned optional ∷
     []
 
 -- [2.7.3]
@@ -84,15 +84,15 @@ attach_fields =
     field (codes "role") boolean mandatory ∷
     field (codes "snd-settle-mode") sender_settle_mode (default 2) ∷
     field (codes "rcv-settle-mode") receiver_settle_mode (default 0) ∷
-    field (codes "source") anything optional ∷
-    field (codes "target") anything optional ∷
-    field (codes "unsettled") anything optional ∷
-    field (codes "incomplete-unsettled") anything optional ∷
+    field (codes "source") spanned optional ∷
+    field (codes "target") spanned optional ∷
+    field (codes "unsettled") spanned optional ∷
+    field (codes "incomplete-unsettled") spanned optional ∷
     field (codes "initial-delivery-count") uint optional ∷
-    field (codes "max-message-size") anything optional ∷
-    field (codes "offered-capabilities") anything optional ∷
-    field (codes "desired-capabilities") anything optional ∷
-    field (codes "properties") anything optional ∷
+    field (codes "max-message-size") spanned optional ∷
+    field (codes "offered-capabilities") spanned optional ∷
+    field (codes "desired-capabilities") spanned optional ∷
+    field (codes "properties") spanned optional ∷
     []
 
 -- [2.7.4]
@@ -108,7 +108,7 @@ flow_fields =
     field (codes "available") uint optional ∷
     field (codes "drain") boolean (default 0) ∷
     field (codes "echo") boolean (default 0) ∷
-    field (codes "properties") anything optional ∷
+    field (codes "properties") spanned optional ∷
     []
 
 -- [2.7.5]
@@ -121,10 +121,10 @@ transfer_fields =
     field (codes "settled") boolean optional ∷
     field (codes "more") boolean (default 0) ∷
     field (codes "rcv-settle-mode") receiver_settle_mode optional ∷
-    field (codes "state") anything optional ∷
+    field (codes "state") spanned optional ∷
     field (codes "resume") boolean (default 0) ∷
     field (codes "aborted") boolean (default 0) ∷
-    field (codes "batchable") anything optional ∷
+    field (codes "batchable") spanned optional ∷
     []
 
 -- [2.7.6]
@@ -134,8 +134,8 @@ disposition_fields =
     field (codes "first") uint mandatory ∷
     field (codes "last") uint optional ∷
     field (codes "settled") boolean (default 0) ∷
-    field (codes "state") anything optional ∷
-    field (codes "batchable") anything optional ∷
+    field (codes "state") spanned optional ∷
+    field (codes "batchable") spanned optional ∷
     []
 
 -- [2.7.7]
@@ -143,16 +143,16 @@ abbrev pub detach_fields : List Field
 detach_fields =
     field (codes "handle") uint mandatory ∷
     field (codes "closed") boolean (default 0) ∷
-    field (codes "error") anything optional ∷
+    field (codes "error") spanned optional ∷
     []
 
 -- [2.7.8]
 abbrev pub end_fields : List Field
-end_fields = field (codes "error") anything optional ∷ []
+end_fields = field (codes "error") spanned optional ∷ []
 
 -- [2.7.9]
 abbrev pub close_fields : List Field
-close_fields = field (codes "error") anything optional ∷ []
+close_fields = field (codes "error") spanned optional ∷ []
 
 -- the fields of a list that is described so, where it is a performative
 abbrev pub fields_of : Descriptor → Option (List Field)

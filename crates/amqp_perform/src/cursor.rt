@@ -11,7 +11,7 @@ pub struct Cursor<'a> {
 
 impl<'a> Cursor<'a> {
     ghost use Rattle.std.specs.Prelude.{◌≡◌, MatchOption, None, Some};
-    ghost use Rattle.amqp_perform.specs.Reading.{Takes, byte_at, octets_at, word_at, short_at, long_at, descriptor_at, list_at};
+    ghost use Rattle.amqp_perform.specs.BodyReading.{Takes, byte_at, octets_at, word_at, short_at, long_at, descriptor_at, list_at};
 
     /// The next byte.
     #[inline(always)]

@@ -77,6 +77,22 @@ impl Descriptor {
             .find(|descriptor| descriptor.symbol() == symbol)
     }
 
+    /// The name of the performative that it describes; `None` for an error and a delivery state. [2.7]
+    pub fn performative_name(self) -> Option<&'static str> {
+        match self {
+            Descriptor::Open => Some("open"),
+            Descriptor::Begin => Some("begin"),
+            Descriptor::Attach => Some("attach"),
+            Descriptor::Flow => Some("flow"),
+            Descriptor::Transfer => Some("transfer"),
+            Descriptor::Disposition => Some("disposition"),
+            Descriptor::Detach => Some("detach"),
+            Descriptor::End => Some("end"),
+            Descriptor::Close => Some("close"),
+            _ => None,
+        }
+    }
+
     /// The symbol that describes the type.
     fn symbol(self) -> &'static [u8]
         ensures { result.now ≡ symbol_of self }

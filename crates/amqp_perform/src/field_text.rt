@@ -32,12 +32,12 @@ impl<'a> FieldText<'a> {
     ghost use Rattle.amqp_perform.specs.Cells.{Whole};
     ghost use Rattle.amqp_perform.specs.Frames.{null_text, cell_text, written_text, field_spelling, Writes};
     ghost use Rattle.amqp_perform.specs.Performatives.{flag, optional_flag, optional_whole, optional_bytes, span};
-    ghost use Rattle.amqp_perform.specs.Tables.{boolean, ubyte_to, ushort, uint, binary, anything};
+    ghost use Rattle.amqp_perform.specs.Tables.{boolean, ubyte_to, ushort, uint, binary, spanned};
     ghost use Rattle.amqp_perform.specs.Tables as absence;
 
     /// A value that is spelled already; an empty span is an absent field.
-    pub fn opaque(text: &'a [u8]) -> FieldText<'a>
-        ensures { field_spelling result ≡ cell_text anything (span text.now) }
+    pub fn span(text: &'a [u8]) -> FieldText<'a>
+        ensures { field_spelling result ≡ cell_text spanned (span text.now) }
     {
         if text.is_empty() {
             FieldText::Null

@@ -1,7 +1,7 @@
 //! The fields of a described list, read from its items one after the other. [1.4]
 
 ghost use Rattle.std.specs.Prelude.{◌≡◌, None, Some, MatchOption};
-ghost use Rattle.amqp_perform.specs.Reading.{described_at};
+ghost use Rattle.amqp_perform.specs.BodyReading.{described_at};
 
 use crate::cursor::Cursor;
 use crate::descriptor::Descriptor;
@@ -32,8 +32,8 @@ impl<'a> Fields<'a> {
     ghost use Rattle.amqp_perform.specs.Cells.{Whole};
     ghost use Rattle.amqp_perform.specs.Outcomes.{true_at};
     ghost use Rattle.amqp_perform.specs.Performatives.{flag, is_receiver, sender_mode, receiver_mode, optional_flag, optional_whole, optional_bytes, span};
-    ghost use Rattle.amqp_perform.specs.Reading.{TakesFrom, code_at, typed_at, value_at};
-    ghost use Rattle.amqp_perform.specs.Tables.{boolean, ubyte_to, sender_settle_mode, receiver_settle_mode, ushort, uint, binary, string, symbol, anything, default};
+    ghost use Rattle.amqp_perform.specs.BodyReading.{TakesFrom, code_at, typed_at, value_at};
+    ghost use Rattle.amqp_perform.specs.Tables.{boolean, ubyte_to, sender_settle_mode, receiver_settle_mode, ushort, uint, binary, string, symbol, spanned, default};
 
     /// So many items, which these bytes spell.
     pub fn of(count: usize, items: &'a [u8]) -> Fields<'a>
@@ -218,10 +218,10 @@ impl<'a> Fields<'a> {
     }
 
     /// A value of any type, as the bytes that spell it; none where the field is absent.
-    #[tactic(auto, unfolding(crate::specs::Reading::typed_at))]
+    #[tactic(auto, unfolding(crate::specs::BodyReading::typed_at))]
     #[inline(always)]
-    pub fn opaque(&mut self) -> Option<&'a [u8]>
-        ensures { TakesFrom (λ s. span s.now) (typed_at anything) self.old self.new result }
+    pub fn span(&mut self) -> Option<&'a [u8]>
+        ensures { TakesFrom (λ s. span s.now) (typed_at spanned) self.old self.new result }
     {
         if self.left == 0 {
             return Some(&[]);
@@ -258,7 +258,7 @@ pub struct DescribedList<'a> {
 }
 
 /// The described list that the bytes begin with, where what describes it is known.
-#[tactic(auto, unfolding(crate::specs::Reading::described_at))]
+#[tactic(auto, unfolding(crate::specs::BodyReading::described_at))]
 #[inline(always)]
 pub fn described_list(bytes: &[u8]) -> Option<DescribedList<'_>>
     ensures { MatchOption result (described_at bytes.now ≡ None)

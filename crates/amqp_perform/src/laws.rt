@@ -18,7 +18,7 @@ ghost use Rattle.amqp_perform.specs.Frames.{null_text, cell_text, trimmed, list_
 ghost use Rattle.amqp_perform.specs.Items.{Item, trees_of, SpellsDescribed};
 ghost use Rattle.amqp_perform.specs.Outcomes.{outcome_span, outcome_of, outcome_in, is_state};
 ghost use Rattle.amqp_perform.specs.Performatives.{type_of};
-ghost use Rattle.amqp_perform.specs.Reading.{body_at, fault_of};
+ghost use Rattle.amqp_perform.specs.BodyReading.{body_at, fault_of};
 ghost use Rattle.amqp_perform.specs.Said.{Said, said, said_texts, said_text, said_frame, MayBeSaid};
 ghost use Rattle.amqp_perform.specs.Tables.{FieldType, uint, Field, fields_of};
 

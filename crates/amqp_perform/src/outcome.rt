@@ -2,7 +2,7 @@
 
 ghost use Rattle.std.specs.Prelude.{◌≡◌};
 ghost use Rattle.amqp_perform.specs.Outcomes.{true_at, second_true, modified_by};
-ghost use Rattle.amqp_perform.specs.Reading.{list_at};
+ghost use Rattle.amqp_perform.specs.BodyReading.{list_at};
 
 use crate::cursor::Cursor;
 use crate::descriptor::Descriptor;
@@ -96,7 +96,7 @@ fn flagged(mut fields: Fields<'_>) -> Outcome
     ensures { result ≡ Outcome.Modified (true_at fields.entry.left fields.entry.items.bytes.now) (second_true fields.entry.left fields.entry.items.bytes.now) }
 {
     let failed = fields.is_true();
-    let undeliverable = match fields.opaque() {
+    let undeliverable = match fields.span() {
         Some(_) => fields.is_true(),
         None => false,
     };

@@ -9,7 +9,7 @@ ghost use Rattle.amqp_perform.specs.declared.performative.Performative.TheVarian
 ghost use Rattle.amqp_perform.specs.Bodies.{Body, BodyOf, IsFaultOf};
 ghost use Rattle.amqp_perform.specs.Cells.{Cell, Whole};
 ghost use Rattle.amqp_perform.specs.Performatives.{span, flag, open_cells, begin_cells, attach_cells, flow_cells, transfer_cells, disposition_cells, detach_cells, end_cells, close_cells, type_of, performative_cells};
-ghost use Rattle.amqp_perform.specs.Reading.{TakesFrom, value_at, fields_at, IsPerformativeAt, body_at, fault_of, IsRead, IsOfOther};
+ghost use Rattle.amqp_perform.specs.BodyReading.{TakesFrom, value_at, fields_at, IsPerformativeAt, body_at, fault_of, IsRead, IsOfOther};
 ghost use Rattle.amqp_perform.specs.Tables.{uint_from, default, open_fields, begin_fields, attach_fields, flow_fields, transfer_fields, disposition_fields, detach_fields, end_fields, close_fields};
 
 use crate::descriptor::Descriptor;
@@ -28,12 +28,12 @@ fn read_open<'a>(fields: &mut Fields<'a>) -> Option<Open<'a>>
     ensures { TakesFrom open_cells (fields_at open_fields) fields.old fields.new result }
 {
     let container_id = fields.text()??;
-    let hostname = fields.opaque()?;
+    let hostname = fields.span()?;
     let max_frame_size = read_frame_size(fields)?;
     let channel_max = fields.ushort()?.unwrap_or(u16::MAX);
-    let idle_time_out = fields.opaque()?;
-    let outgoing_locales = fields.opaque()?;
-    let incoming_locales = fields.opaque()?;
+    let idle_time_out = fields.span()?;
+    let outgoing_locales = fields.span()?;
+    let incoming_locales = fields.span()?;
     let (offered_capabilities, desired_capabilities, properties) = read_capabilities(fields)?;
     Some(Open {
         container_id,
@@ -53,9 +53,9 @@ fn read_open<'a>(fields: &mut Fields<'a>) -> Option<Open<'a>>
 fn read_capabilities<'a>(fields: &mut Fields<'a>) -> Option<(&'a [u8], &'a [u8], &'a [u8])>
     ensures { TakesFrom (λ x. span x.0.now ∷ span x.1.now ∷ span x.2.now ∷ []) (fields_at (drop 7 open_fields)) fields.old fields.new result }
 {
-    let offered_capabilities = fields.opaque()?;
-    let desired_capabilities = fields.opaque()?;
-    let properties = fields.opaque()?;
+    let offered_capabilities = fields.span()?;
+    let desired_capabilities = fields.span()?;
+    let properties = fields.span()?;
     Some((offered_capabilities, desired_capabilities, properties))
 }
 
@@ -100,12 +100,12 @@ fn read_attach<'a>(fields: &mut Fields<'a>) -> Option<Attach<'a>>
     let role = fields.role()??;
     let snd_settle_mode = fields.sender_mode()?.unwrap_or(SenderSettleMode::Mixed);
     let rcv_settle_mode = fields.receiver_mode()?.unwrap_or(ReceiverSettleMode::First);
-    let source = fields.opaque()?;
-    let target = fields.opaque()?;
-    let unsettled = fields.opaque()?;
-    let incomplete_unsettled = fields.opaque()?;
+    let source = fields.span()?;
+    let target = fields.span()?;
+    let unsettled = fields.span()?;
+    let incomplete_unsettled = fields.span()?;
     let initial_delivery_count = fields.uint()?;
-    let max_message_size = fields.opaque()?;
+    let max_message_size = fields.span()?;
     let (offered_capabilities, desired_capabilities, properties) = read_capabilities(fields)?;
     Some(Attach {
         name,
@@ -139,7 +139,7 @@ fn read_flow<'a>(fields: &mut Fields<'a>) -> Option<Flow<'a>>
         available: fields.uint()?,
         drain: fields.flag()?,
         echo: fields.flag()?,
-        properties: fields.opaque()?,
+        properties: fields.span()?,
     })
 }
 
@@ -175,10 +175,10 @@ fn read_transfer<'a>(fields: &mut Fields<'a>) -> Option<Transfer<'a>>
 fn read_transfer_state<'a>(fields: &mut Fields<'a>) -> Option<(&'a [u8], bool, bool, &'a [u8])>
     ensures { TakesFrom (λ x. span x.0.now ∷ flag x.1 ∷ flag x.2 ∷ span x.3.now ∷ []) (fields_at (drop 7 transfer_fields)) fields.old fields.new result }
 {
-    let state = fields.opaque()?;
+    let state = fields.span()?;
     let resume = fields.flag()?;
     let aborted = fields.flag()?;
-    let batchable = fields.opaque()?;
+    let batchable = fields.span()?;
     Some((state, resume, aborted, batchable))
 }
 
@@ -190,8 +190,8 @@ fn read_disposition<'a>(fields: &mut Fields<'a>) -> Option<Disposition<'a>>
         first: fields.uint()??,
         last: fields.uint()?,
         settled: fields.flag()?,
-        state: fields.opaque()?,
-        batchable: fields.opaque()?,
+        state: fields.span()?,
+        batchable: fields.span()?,
     })
 }
 
@@ -201,7 +201,7 @@ fn read_detach<'a>(fields: &mut Fields<'a>) -> Option<Detach<'a>>
     Some(Detach {
         handle: fields.uint()??,
         closed: fields.flag()?,
-        error: fields.opaque()?,
+        error: fields.span()?,
     })
 }
 
@@ -209,7 +209,7 @@ fn read_end<'a>(fields: &mut Fields<'a>) -> Option<End<'a>>
     ensures { TakesFrom end_cells (fields_at end_fields) fields.old fields.new result }
 {
     Some(End {
-        error: fields.opaque()?,
+        error: fields.span()?,
     })
 }
 
@@ -217,11 +217,11 @@ fn read_close<'a>(fields: &mut Fields<'a>) -> Option<Close<'a>>
     ensures { TakesFrom close_cells (fields_at close_fields) fields.old fields.new result }
 {
     Some(Close {
-        error: fields.opaque()?,
+        error: fields.span()?,
     })
 }
 
-#[tactic(auto, unfolding(crate::specs::Reading::performative_at))]
+#[tactic(auto, unfolding(crate::specs::BodyReading::performative_at))]
 fn read_performative<'a>(
     descriptor: Descriptor,
     fields: &mut Fields<'a>,
@@ -248,7 +248,7 @@ fn read_performative<'a>(
 }
 
 /// The transfer that a body begins with, and what follows it.
-#[tactic(auto, unfolding(crate::specs::Reading::body_at, crate::specs::Reading::performative_at))]
+#[tactic(auto, unfolding(crate::specs::BodyReading::body_at, crate::specs::BodyReading::performative_at))]
 #[inline(always)]
 fn transfer_at(bytes: &[u8]) -> Option<(Transfer<'_>, &[u8])>
     ensures { MatchOption result (IsOfOther Descriptor.Transfer (body_at bytes.now)) (λ x. body_at bytes.now ≡ Some (Descriptor.Transfer, transfer_cells x.0, x.1.now)) }
@@ -278,7 +278,7 @@ pub fn read_transfer_body(bytes: &[u8]) -> Option<(Transfer<'_>, usize)>
 }
 
 /// The performative that a body begins with, and what follows it.
-#[tactic(auto, unfolding(crate::specs::Reading::body_at))]
+#[tactic(auto, unfolding(crate::specs::BodyReading::body_at))]
 fn body_at(bytes: &[u8]) -> Option<(Performative<'_>, &[u8])>
     ensures { MatchOption result (body_at bytes.now ≡ None) (λ x. body_at bytes.now ≡ Some (type_of x.0, performative_cells x.0, x.1.now)) }
 {
@@ -310,7 +310,7 @@ pub fn read_body(bytes: &[u8]) -> Result<(Performative<'_>, usize), BodyFault>
 }
 
 /// Why a body that begins with no performative does not.
-#[tactic(auto, unfolding(crate::specs::Reading::fault_of))]
+#[tactic(auto, unfolding(crate::specs::BodyReading::fault_of))]
 fn fault_in(bytes: &[u8]) -> BodyFault
     ensures { result ≡ fault_of bytes.now }
 {

@@ -40,15 +40,15 @@ fn open_texts<'a>(p: &Open<'a>) -> [FieldText<'a>; 10]
 {
     [
         FieldText::String(p.container_id),
-        FieldText::opaque(p.hostname),
+        FieldText::span(p.hostname),
         FieldText::uint_unless(p.max_frame_size, u32::MAX),
         FieldText::ushort_unless(p.channel_max, u16::MAX),
-        FieldText::opaque(p.idle_time_out),
-        FieldText::opaque(p.outgoing_locales),
-        FieldText::opaque(p.incoming_locales),
-        FieldText::opaque(p.offered_capabilities),
-        FieldText::opaque(p.desired_capabilities),
-        FieldText::opaque(p.properties),
+        FieldText::span(p.idle_time_out),
+        FieldText::span(p.outgoing_locales),
+        FieldText::span(p.incoming_locales),
+        FieldText::span(p.offered_capabilities),
+        FieldText::span(p.desired_capabilities),
+        FieldText::span(p.properties),
     ]
 }
 
@@ -61,9 +61,9 @@ fn begin_texts<'a>(p: &Begin<'a>) -> [FieldText<'a>; 8]
         FieldText::Uint(p.incoming_window),
         FieldText::Uint(p.outgoing_window),
         FieldText::uint_unless(p.handle_max, u32::MAX),
-        FieldText::opaque(p.offered_capabilities),
-        FieldText::opaque(p.desired_capabilities),
-        FieldText::opaque(p.properties),
+        FieldText::span(p.offered_capabilities),
+        FieldText::span(p.desired_capabilities),
+        FieldText::span(p.properties),
     ]
 }
 
@@ -76,15 +76,15 @@ fn attach_texts<'a>(p: &Attach<'a>) -> [FieldText<'a>; 14]
         FieldText::Boolean(p.role.is_receiver()),
         FieldText::ubyte_unless(p.snd_settle_mode.number(), 2),
         FieldText::ubyte_unless(p.rcv_settle_mode.number(), 0),
-        FieldText::opaque(p.source),
-        FieldText::opaque(p.target),
-        FieldText::opaque(p.unsettled),
-        FieldText::opaque(p.incomplete_unsettled),
+        FieldText::span(p.source),
+        FieldText::span(p.target),
+        FieldText::span(p.unsettled),
+        FieldText::span(p.incomplete_unsettled),
         FieldText::optional_uint(p.initial_delivery_count),
-        FieldText::opaque(p.max_message_size),
-        FieldText::opaque(p.offered_capabilities),
-        FieldText::opaque(p.desired_capabilities),
-        FieldText::opaque(p.properties),
+        FieldText::span(p.max_message_size),
+        FieldText::span(p.offered_capabilities),
+        FieldText::span(p.desired_capabilities),
+        FieldText::span(p.properties),
     ]
 }
 
@@ -102,7 +102,7 @@ fn flow_texts<'a>(p: &Flow<'a>) -> [FieldText<'a>; 11]
         FieldText::optional_uint(p.available),
         FieldText::flag(p.drain),
         FieldText::flag(p.echo),
-        FieldText::opaque(p.properties),
+        FieldText::span(p.properties),
     ]
 }
 
@@ -117,10 +117,10 @@ fn transfer_texts<'a>(p: &Transfer<'a>) -> [FieldText<'a>; 11]
         FieldText::optional_boolean(p.settled),
         FieldText::flag(p.more),
         receiver_mode_text(p.rcv_settle_mode),
-        FieldText::opaque(p.state),
+        FieldText::span(p.state),
         FieldText::flag(p.resume),
         FieldText::flag(p.aborted),
-        FieldText::opaque(p.batchable),
+        FieldText::span(p.batchable),
     ]
 }
 
@@ -132,8 +132,8 @@ fn disposition_texts<'a>(p: &Disposition<'a>) -> [FieldText<'a>; 6]
         FieldText::Uint(p.first),
         last_text(p.first, p.last),
         FieldText::flag(p.settled),
-        FieldText::opaque(p.state),
-        FieldText::opaque(p.batchable),
+        FieldText::span(p.state),
+        FieldText::span(p.batchable),
     ]
 }
 
@@ -146,7 +146,7 @@ fn stated_texts<'a>(p: &Disposition<'a>) -> [FieldText<'a>; 5]
         FieldText::Uint(p.first),
         last_text(p.first, p.last),
         FieldText::flag(p.settled),
-        FieldText::opaque(p.state),
+        FieldText::span(p.state),
     ]
 }
 
@@ -176,20 +176,20 @@ fn detach_texts<'a>(p: &Detach<'a>) -> [FieldText<'a>; 3]
     [
         FieldText::Uint(p.handle),
         FieldText::flag(p.closed),
-        FieldText::opaque(p.error),
+        FieldText::span(p.error),
     ]
 }
 
 fn end_texts<'a>(p: &End<'a>) -> [FieldText<'a>; 1]
     ensures { field_spellings result ≡ field_texts end_fields (end_cells p.now) }
 {
-    [FieldText::opaque(p.error)]
+    [FieldText::span(p.error)]
 }
 
 fn close_texts<'a>(p: &Close<'a>) -> [FieldText<'a>; 1]
     ensures { field_spellings result ≡ field_texts close_fields (close_cells p.now) }
 {
-    [FieldText::opaque(p.error)]
+    [FieldText::span(p.error)]
 }
 
 /// Writes a frame at the front of `out`: the canonical spelling of the performative on the channel, and the
@@ -287,7 +287,7 @@ pub fn write_disposition(
         channel,
         descriptor: Descriptor::Disposition,
     };
-    if p.batchable.is_empty() && !FieldText::opaque(p.state).is_null() {
+    if p.batchable.is_empty() && !FieldText::span(p.state).is_null() {
         write_full_list(head, &stated_texts(p), payload, out)
     } else {
         write_six(head, p, payload, out)

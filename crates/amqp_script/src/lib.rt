@@ -1,6 +1,6 @@
 //! `amqp replay`: a script of calls, run on a new endpoint, with a line for each answer.
 //!
-//! [`replay_script`] reads a script whole and checks each of its lines before it runs the first. `docs/PROTOCOL.md` has
+//! [`replay_script`] reads a script whole and checks each of its lines before it runs the first. `docs/COMMANDS.md` has
 //! the lines' format.
 //! The tests stand in `endpoint_tests`.
 #![tactic(auto)]

@@ -144,6 +144,7 @@ module _ (laws : Lengths) (null : NullIsLeast) where
 
 -- What is told. -------------------------------------------------------------------------------------------------------
 
+-- a sender that ends keeps what its history gives
 pub ended_is : (terms : SendTerms) (h : List Deed) (s : Sending) (c : Condition) → Keeps terms h s → Keeps terms h (ended c s)
 ended_is terms h s c k = record { is = record { terms_are = k.is.terms_are; flow_is = k.is.flow_is; messages = k.is.messages; begun = k.is.begun; bytes = k.is.bytes }; all = k.all; least = k.least }
 

@@ -15,6 +15,7 @@ use Rattle.amqp_send.specs.Flows.{most, credit}
 use Rattle.amqp_send.specs.Sendings.{Message, frame, open_said, begin_said, attach_said, flow_said, close_said, head_said, later_said, transfer_said, is_last, share, next_frame}
 use Rattle.amqp_send.specs.Lengths.{Lengths, NullIsLeast}
 
+-- a close takes 12 bytes
 pub close_long : length (frame close_said) ≡ 12
 unfolding list_frame described_text
 close_long = refl

@@ -323,6 +323,7 @@ split (suc n) s (c ∷ calls) [] last r = absurd r
 split (suc n) s (c ∷ calls) (a ∷ answers) last r =
     let more = split n r.0 calls answers last r.2 in record { now = more.now; so_far = (r.0, r.1, more.so_far); goes_on = more.goes_on }
 
+-- a run has a history after each of its calls
 pub moments : EventLaws → (terms : SendTerms) (calls : List Call) (answers : List Answer) (start last : SenderState) (n : ℕ)
     → IsStart terms start → Run start calls answers last → HasMoment terms start calls answers last n
 moments laws terms calls answers start last n new run =

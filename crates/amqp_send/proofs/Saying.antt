@@ -12,7 +12,7 @@ use Rattle.amqp_perform.specs.Again.{IsOfField}
 use Rattle.amqp_perform.specs.Cells.{Whole, Bytes, Span, where_so}
 use Rattle.amqp_perform.specs.Performatives.{flag, optional_whole}
 use Rattle.amqp_perform.specs.Said.{MayBeSaid}
-use Rattle.amqp_perform.specs.Tables.{Field, string, uint, boolean, anything, mandatory, optional, default, open_fields, begin_fields}
+use Rattle.amqp_perform.specs.Tables.{Field, string, uint, boolean, spanned, mandatory, optional, default, open_fields, begin_fields}
 use Rattle.amqp_perform.specs.Tables.{attach_fields, flow_fields, transfer_fields, close_fields}
 use Rattle.amqp_serial.specs.Numbers.{distance_of}
 use Rattle.amqp_send.specs.declared.flow_state.FlowState.{FlowState}
@@ -44,6 +44,7 @@ credit_small f = by (nat_lt (distance_of f.delivery_count f.credit_end) (2 ^ 31)
 text_cell : (text : List ℕ) → IsText text → IsOfField (record { name = []; type = string; absence = mandatory }) (Bytes text)
 text_cell text is = (is, refl)
 
+-- its open may be written, and is read as it was
 pub open_may : (container_id : List ℕ) → IsText container_id → MayBeSaid (open_said container_id)
 open_may container_id is = record {
   fields = open_fields;
@@ -54,6 +55,7 @@ open_may container_id is = record {
   );
 }
 
+-- so may its begin
 pub begin_may : MayBeSaid begin_said
 begin_may = record {
   fields = begin_fields;
@@ -65,10 +67,11 @@ begin_may = record {
 abbrev terminus : ℕ → Tree
 terminus code = Described (Number kind.Ulong code) (ListOf none)
 
-terminus_cell : ((t : Tree) → IsLawful t → IsRanged t → Fits t → Spells t (canonical t)) → (code : ℕ) → code < 256 ^ 8 → IsOfField (record { name = []; type = anything; absence = optional })
+terminus_cell : ((t : Tree) → IsLawful t → IsRanged t → Fits t → Spells t (canonical t)) → (code : ℕ) → code < 256 ^ 8 → IsOfField (record { name = []; type = spanned; absence = optional })
     (Span (canonical (terminus code)))
 terminus_cell spells code few = (refl, terminus code, spells (terminus code) (tt, tt) ((λ e. absurd (cc e), few, tt), tt) (tt, (refl, tt)), omega arith, refl)
 
+-- its attach
 pub attach_may : ((t : Tree) → IsLawful t → IsRanged t → Fits t → Spells t (canonical t)) → (name : List ℕ) → IsText name → MayBeSaid (attach_said name)
 attach_may spells name is = record {
   fields = attach_fields;
@@ -94,6 +97,7 @@ attach_may spells name is = record {
   );
 }
 
+-- its flows
 pub flow_may : (f : FlowState) (drain : Bool) → IsSmall f.peer_next_outgoing_id → f.next_outgoing_id < 2 ^ 32 → f.delivery_count < 2 ^ 32 → MayBeSaid (flow_said f drain)
 flow_may f drain peer next count = record {
   fields = flow_fields;
@@ -124,6 +128,7 @@ octet (x ∷ xs) a (suc i) = octet xs a.1 i
 tag_octets : (id : ℕ) → AllByRecursion (λ b. b < 256) (big_bytes 4 id)
 tag_octets id = (omega arith, (omega arith, (omega arith, (omega arith, tt))))
 
+-- its transfers
 pub transfer_may : (id : ℕ) (begun more : Bool) → id < 2 ^ 32 → MayBeSaid (transfer_said id begun more)
 transfer_may id true more lt = record {
   fields = transfer_fields;
@@ -160,5 +165,6 @@ transfer_may id false more lt = record {
   );
 }
 
+-- and its close
 pub close_may : MayBeSaid close_said
 close_may = record { fields = close_fields; table = refl; each = (refl, tt) }

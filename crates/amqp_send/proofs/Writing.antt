@@ -39,6 +39,7 @@ stays_of s (Some m) is e = by (is_talking s.talk) (may_go s.flow s.unsent m) ref
     by true false et eg f = rw (et, eg) same
     by true true et eg f = absurd (cc f)
 
+-- where nothing may be written nothing is
 pub stays : (s : Sending) → can_write s ≡ false → wrote s ≡ s
 stays s e = stays_of s s.message refl e
 

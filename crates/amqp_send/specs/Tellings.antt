@@ -9,7 +9,7 @@ use Rattle.amqp_perform.specs.declared.outcome.Outcome.{Outcome}
 use Rattle.amqp_perform.specs.Cells.{Cell, Absent, Whole, Span}
 use Rattle.amqp_perform.specs.Conditions.{condition_of}
 use Rattle.amqp_perform.specs.Outcomes.{outcome_of}
-use Rattle.amqp_perform.specs.Reading.{body_at}
+use Rattle.amqp_perform.specs.BodyReading.{body_at}
 use Rattle.amqp_send.specs.declared.telling.Told.{Told}
 use Rattle.amqp_send.specs.declared.telling.Told.TheVariants.{Nothing, Opened, Begun, Flowed, Disposed, Left, Closed, Unread}
 

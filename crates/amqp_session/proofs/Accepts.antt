@@ -145,6 +145,7 @@ settled_ok : (s : SessionState) (b : Bool) (first last : ℕ) → SessionMay s (
 settled_ok s true first last = (tt, tt, λ place t e. tt)
 settled_ok s false first last = (tt, tt, tt)
 
+-- a frame without a fault is an event that the session may take
 pub frame_ok : (s : SessionState) (f : Frame) → HasHandles s → IsInRange s.terms.handle_max f → session_fault s f ≡ None → SessionMay s (event_of s f)
 frame_ok s (Attaches a) table range none = attach_ok s a table range none
 frame_ok s (Flows f) table range none = named_ok s f f.handle none
@@ -161,6 +162,7 @@ at_live Free test e = absurd (grind (arith, e))
 at_live (Live l) test e = (l, refl, e)
 at_live Waits test e = absurd (grind (arith, e))
 
+-- a live link stands in the table at its handle
 pub live_at : (s : SessionState) (handle : ℕ) (l : LiveLink) → slot_at s handle ≡ Live l → slice_get s.links handle ≡ Some (Live l)
 live_at s handle l here = found (slice_get s.links handle) (Live l) here tt
 
@@ -191,6 +193,7 @@ settle_ok s id apart small none = (tt, tt, by (standing_in id s.links) refl none
     by Told e none = absurd (grind (arith, none))
     by (Awaiting mode) e none = settles_everywhere s id mode apart small e
 
+-- so is a call that is not refused
 pub call_ok : (s : SessionState) (c : Call) → IsApart s → IsCallInRange c → call_fault s c ≡ None → SessionMay s (call_event s c)
 call_ok s (Widen n) apart range none =
     let less = leb-false (2 ^ 31) (s.window + n) (not_so (nat_le (2 ^ 31) (s.window + n)) refused.WindowTooWide none) in (less, tt, tt)
@@ -204,10 +207,12 @@ call_ok s (Detach handle) apart range none =
 
 -- Of a history. --------------------------------------------------------------------------------------------------------------
 
+-- after any accepted events a frame without a fault is accepted
 pub frames_accepted : (terms : SessionTerms) (h : List SessionEvent) (f : Frame) → Sound terms h → IsInRange terms.handle_max f → session_fault (state_of terms h) f ≡ None →
     SessionMay (state_of terms h) (event_of (state_of terms h) f)
 frames_accepted terms h f sound range none = frame_ok (state_of terms h) f (tabulate_long 0 (handles terms) (λ handle. life_state live_state (part handle h))) range none
 
+-- so is a call that is not refused
 pub calls_accepted : (terms : SessionTerms) (h : List SessionEvent) (c : Call) → Sound terms h → IsCallInRange c → call_fault (state_of terms h) c ≡ None →
     SessionMay (state_of terms h) (call_event (state_of terms h) c)
 calls_accepted terms h c sound range none = call_ok (state_of terms h) c sound.apart range none

@@ -20,13 +20,16 @@ use Rattle.amqp_session.proofs.Places.{sums_same, sums_within}
 abbrev pub LinkBound : Type 0
 LinkBound = (terms : Terms) (h : List LinkEvent) → link.Sound terms h → link_bytes (link.state_of terms h) ≤ terms.bounds.allowed * (terms.bounds.max_message_size + 96)
 
+-- the law of a link's bytes, which stands in its crate
 abbrev pub LinkBytes : Type 0
 LinkBytes = (terms : Terms) (h : List LinkEvent) → link_bytes (link.state_of terms h) ≡ sum_by (link.kept_bytes h) (filter (link.is_open terms h) (link.groups h))
 
+-- that of what a disposition settles of a link
 abbrev pub LinkSettles : Type 0
 LinkSettles = (terms : Terms) (h : List LinkEvent) (first last : ℕ) →
     newly_settled first last (open_set (link.state_of terms h)) ≡ length (filter (link.is_settled_by terms h first last) (link.groups h))
 
+-- that of what a range names of a link
 abbrev pub LinkNames : Type 0
 LinkNames = (terms : Terms) (h : List LinkEvent) (first last : ℕ) →
     named_count first last (open_set (link.state_of terms h)) ≡ length (filter (is_named_by terms h first last) (link.groups h))
@@ -50,6 +53,7 @@ part_within bound terms (Live l) sound =
     let same : most_of l.0.terms.bounds ≡ most_of terms.bounds = ap most_of sound.attached.bounds in omega (arith, kept, same, sound.attached.name, sound.attached.ends)
 part_within bound terms Waits sound = omega arith
 
+-- bytes held stay within the bound by the handles in use
 pub held_within : LinkBound → (terms : SessionTerms) (h : List SessionEvent) → Sound terms h →
     session_bytes (state_of terms h) ≤ 64 + used_count (state_of terms h) * (1407 + terms.bounds.allowed * (terms.bounds.max_message_size + 96))
 held_within bound terms h sound =
@@ -66,6 +70,7 @@ bytes_same law Free = refl
 bytes_same law (Live l) = omega (arith, law l.0.terms l.1)
 bytes_same law Waits = refl
 
+-- they are counted over the parts of the history
 pub bytes_counted : LinkBytes → (terms : SessionTerms) (h : List SessionEvent) → session_bytes (state_of terms h) ≡ 64 + sum_by part_bytes (parts terms h)
 bytes_counted law terms h =
     let all = of_parts slot_bytes part_bytes terms h (bytes_same law) in omega (arith, all)
@@ -75,6 +80,7 @@ settled_same law first last Free = refl
 settled_same law first last (Live l) = law l.0.terms l.1 first last
 settled_same law first last Waits = refl
 
+-- so is what a disposition settles
 pub settled_counted : LinkSettles → (terms : SessionTerms) (h : List SessionEvent) (first last : ℕ) →
     settled_count (state_of terms h) first last ≡ sum_by (part_settled first last) (parts terms h)
 settled_counted law terms h first last =
@@ -85,6 +91,7 @@ named_same law first last Free = refl
 named_same law first last (Live l) = law l.0.terms l.1 first last
 named_same law first last Waits = refl
 
+-- and what a range names
 pub named_counted : LinkNames → (terms : SessionTerms) (h : List SessionEvent) (first last : ℕ) → named_total first last (state_of terms h) ≡ sum_by (part_named first last) (parts terms h)
 named_counted law terms h first last =
     of_parts (slot_named first last) (part_named first last) terms h (named_same law first last)

@@ -11,6 +11,7 @@ use Rattle.amqp_types.specs.Trees.{Tree, Number, Octets, ListOf, MapOf, ArrayOf,
 use Rattle.amqp_session.specs.Frames.{is_coordinator_type, is_coordinator_in}
 use Rattle.amqp_session.specs.Coordinators.{peeks_coordinator}
 
+-- what cannot be read is no coordinator
 pub misread : (read : Part Tree) (e : ReadFault) → after read ≡ Err e → false ≡ is_coordinator_in read
 misread (Ok x) e same = absurd cc
 misread (Err f) e same = refl
@@ -31,6 +32,7 @@ other (MapOf ps) is = refl
 other (ArrayOf ds k ts) is = refl
 other (Described d t) is = absurd is
 
+-- the outermost case of a value shows whether it is one
 pub peeked : (t : Tree) (text : List ℕ) (p : Peek) → IsOutermost t text p → is_coordinator_type t ≡ peeks_coordinator p
 peeked t text peek.Null is = ap is_coordinator_type is
 peeked t text (peek.Boolean b) is = ap is_coordinator_type is

@@ -15,15 +15,18 @@ no_transfer x n e = absurd (grind (arith, e))
 
 -- The window. ---------------------------------------------------------------------------------------------------------------
 
+-- the window and the places used are the opening places and the widenings
 pub places_counted : (terms : SessionTerms) (h : List SessionEvent) → Sound terms h → (state_of terms h).window + transfers h ≡ terms.incoming_window + widenings h
 places_counted terms h sound = omega (arith, sound.spent)
 
+-- a transfer uses one place
 pub place_used : (s : SessionState) (e : SessionEvent) → SessionMay s e → is_transfer e ≡ true → (session_after s e).window + 1 ≡ s.window
 place_used s (event.TransferCame handle t) may e = omega (arith, may.0)
 place_used s (event.TransferEnded handle) may e = omega (arith, may.0)
 place_used s (event.TransferDropped handle) may e = omega (arith, may.0)
 place_used s x may e = absurd (grind (arith, e))
 
+-- an event that states an id uses none
 pub place_kept : (s : SessionState) (e : SessionEvent) (n : ℕ) → stated_by e ≡ Some n → (session_after s e).window ≡ s.window
 place_kept s e n stated =
     let none = no_transfer e n stated in
@@ -41,6 +44,7 @@ stated_on terms (e ∷ later) h none =
     let since : restarted (stated_by e) (since_stated (later ++ h)) ≡ since_stated (later ++ h) = ap (λ (o : Option ℕ). restarted o (since_stated (later ++ h))) none.0 in
     (last ∙ rest.0, omega (arith, since, rest.1))
 
+-- the next-incoming-id is the one that was stated last and the transfers since
 pub counted_since : (terms : SessionTerms) (next : ℕ) (later h : List SessionEvent) → IsStatedBefore next later h → next_id terms h ≡ (next + transfers later) % 2 ^ 32
 counted_since terms next later h stated =
     let all = stated_on terms later (stated.event ∷ stated.before) stated.since in
@@ -57,6 +61,7 @@ from_begin terms (e ∷ h) none =
     let last : last_stated terms (e ∷ h) ≡ last_stated terms h = ap (λ (o : Option ℕ). counted_from o (last_stated terms h)) none.0 in
     let since : restarted (stated_by e) (since_stated h) ≡ since_stated h = ap (λ (o : Option ℕ). restarted o (since_stated h)) none.0 in (last ∙ rest.0, omega (arith, since, rest.1))
 
+-- before any was stated it is the begin's and the transfers
 pub counted_from_begin : (terms : SessionTerms) (h : List SessionEvent) → NoneStates h → next_id terms h ≡ (terms.next_outgoing_id + transfers h) % 2 ^ 32
 counted_from_begin terms h none =
     let both = from_begin terms h none in ap (λ (n : ℕ). n % 2 ^ 32) (omega (arith, both.0, both.1))

@@ -64,6 +64,7 @@ detach_answered handle closed Free e = absurd (grind (arith, e))
 detach_answered handle closed (Live l) e = refl
 detach_answered handle closed Waits e = absurd (grind (arith, e))
 
+-- where no link lives a detach is not answered
 pub detach_unanswered : (handle : ℕ) (closed : Bool) (x : Slot LiveLink) → is_live x ≡ false → detach_answer handle closed x ≡ []
 detach_unanswered handle closed Free e = refl
 detach_unanswered handle closed (Live l) e = absurd (grind (arith, e))

@@ -17,6 +17,7 @@ use Rattle.amqp_session.proofs.Standings.{parts_count, none_has, AreSmall, first
 
 -- The place. -----------------------------------------------------------------------------------------------------------
 
+-- what was found at a handle stands there
 pub stands_there : (slots : List (Slot LiveLink)) (k : ℕ) (x : Slot LiveLink) → x ≡ get_or slots k x → k < length slots → at_place slots k ≡ x
 stands_there slots k x e l = ap (λ (o : Option (Slot LiveLink)). unwrap_or o Free) (there slots k x e l)
 

@@ -32,6 +32,7 @@ room id = one_if (nat_lt id (2 ^ 32))
 
 -- Where none has the id. -----------------------------------------------------------------------------------------------------
 
+-- where no delivery has an id none is counted
 pub none_has : (id : ℕ) (ds : List Delivery) → list_any (has_id id) ds ≡ false → count_by (has_id id) ds ≡ 0
 none_has id [] e = refl
 none_has id (d ∷ ds) e =
@@ -44,9 +45,11 @@ slot_none id Free e = refl
 slot_none id (Live l) e = none_has id (deliveries l.link) e
 slot_none id Waits e = refl
 
+-- the count over a table with one more handle
 pub table_cons : (id : ℕ) (s : Slot LiveLink) (slots : List (Slot LiveLink)) → table_count id (s ∷ slots) ≡ slot_count id s + table_count id slots
 table_cons id s slots = sum_by-cons (slot_count id) s slots
 
+-- where no link has an id none is counted
 pub table_none : (id : ℕ) (slots : List (Slot LiveLink)) → list_any (slot_has id) slots ≡ false → table_count id slots ≡ 0
 table_none id [] e = refl
 table_none id (s ∷ slots) e =
@@ -248,9 +251,11 @@ free_none : (id k n : ℕ) → table_count id (place.tabulate k n (λ j. Free)) 
 free_none id k zero = refl
 free_none id k (suc n) = let rest = free_none id (suc k) n in omega (arith, table_cons id Free (place.tabulate (suc k) n (λ j. Free)), rest)
 
+-- a new session has no two deliveries of one id
 pub begins_apart : (terms : SessionTerms) → IsApart (session_begins terms)
 begins_apart terms = λ id. let none = free_none id 0 (suc terms.handle_max) in omega (arith, none)
 
+-- nor has any after accepted events
 pub all_apart : IdsGrow → (terms : SessionTerms) (h : List SessionEvent) → Accepted terms h → IsApart (after_all terms h)
 all_apart grow terms [] all = begins_apart terms
 all_apart grow terms (e ∷ h) all = stays_apart grow (after_all terms h) e (all_apart grow terms h all.0) all.1

@@ -17,7 +17,7 @@ use Rattle.amqp_types.specs.Trees.{Number, Octets}
 use Rattle.amqp_perform.specs.declared.descriptor.Descriptor.TheVariants as of_type
 use Rattle.amqp_perform.specs.Frames.{null_text, cell_text, field_texts, before_nulls, trimmed, list_text, described_text, list_frame, FitsFrame}
 use Rattle.amqp_perform.specs.Performatives.{span, is_receiver, sender_mode, receiver_mode}
-use Rattle.amqp_perform.specs.Tables.{attach_fields, anything}
+use Rattle.amqp_perform.specs.Tables.{attach_fields, spanned}
 use Rattle.amqp_perform.specs.Said.{said_frame}
 use Rattle.amqp_session.specs.Frames.{Attaching, attach_said, other_role}
 
@@ -27,6 +27,7 @@ number_short k n (Some (short.Code code)) l = omega arith
 number_short k n (Some (short.Byte code byte)) l = omega arith
 number_short k n None l = omega (arith, l)
 
+-- a ulong takes at most nine bytes
 pub ulong_short : (n : ℕ) → length (canonical (Number kind.Ulong n)) ≤ 9
 ulong_short n = number_short kind.Ulong n (short_form kind.Ulong n) (let e : length (bytes_high_first 8 n) ≡ 8 = refl in omega (arith, e))
 
@@ -119,7 +120,7 @@ numbered : (b : Bool) (text : List ℕ) → length text ≤ 9 → length (if b t
 numbered true text l = omega arith
 numbered false text l = l
 
-span_short : (text : List ℕ) → length (cell_text anything (span text)) ≤ 1 + length text
+span_short : (text : List ℕ) → length (cell_text spanned (span text)) ≤ 1 + length text
 span_short [] = omega arith
 span_short (b ∷ text) = omega arith
 

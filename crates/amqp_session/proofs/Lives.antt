@@ -18,9 +18,11 @@ use Rattle.amqp_session.proofs.Accepts.{live_at}
 use Rattle.amqp_session.proofs.Places.{got, get_at, none_above}
 use Rattle.amqp_session.proofs.Tables.{elsewhere, hit, get_after}
 
+-- an event of another handle leaves a handle's part as it was
 pub part_elsewhere : (handle : ℕ) (h : List SessionEvent) (e : SessionEvent) → IsElsewhere handle (happens e) → part handle (e ∷ h) ≡ part handle h
 part_elsewhere handle h e away = elsewhere new_life lived_on handle (happens e) (part handle h) away
 
+-- an attach begins a part
 pub part_anew : (handle : ℕ) (a : Attached) (h : List SessionEvent) → part handle (LinkAttached handle a ∷ h) ≡ Live (a, [])
 part_anew handle a h = hit new_life lived_on handle (Live (new_life a)) (part handle h)
 
@@ -30,6 +32,7 @@ slot_get s e handle =
     let same : 0 + handle ≡ handle = omega arith in
     get_after live_begins live_after 0 handle (happens e) s.links ∙ ap (λ (j : ℕ). option_map (slot_after live_begins live_after j (happens e)) (slice_get s.links handle)) same
 
+-- an event of another handle leaves what stands at a handle
 pub slot_elsewhere : (s : SessionState) (handle : ℕ) (e : SessionEvent) → IsElsewhere handle (happens e) → slot_at (session_after s e) handle ≡ slot_at s handle
 slot_elsewhere s handle e away = ap (λ (o : Option (Slot LiveLink)). unwrap_or o Free) (slot_get s e handle) ∙ by (slice_get s.links handle)
   where
@@ -37,6 +40,7 @@ slot_elsewhere s handle e away = ap (λ (o : Option (Slot LiveLink)). unwrap_or 
     by None = refl
     by (Some x) = elsewhere live_begins live_after handle (happens e) x away
 
+-- an attach puts a new link there
 pub slot_anew : (s : SessionState) (handle : ℕ) (a : Attached) → SessionMay s (LinkAttached handle a) → slot_at (session_after s (LinkAttached handle a)) handle ≡ Live (live_begins a)
 slot_anew s handle a may =
     ap (λ (o : Option (Slot LiveLink)). unwrap_or o Free) (slot_get s (LinkAttached handle a) handle)
@@ -61,18 +65,22 @@ link_within terms h handle l sound here =
 after_here : (handle : ℕ) (x : Happens Attached LinkEvent) (e : SessionEvent) (h : List SessionEvent) → happens e ≡ x → part handle (e ∷ h) ≡ life_after handle x (part handle h)
 after_here handle x e h is = ap (λ (y : Happens Attached LinkEvent). life_after handle y (part handle h)) is
 
+-- an event of a link is added to its part
 pub part_goes_on : (handle : ℕ) (h : List SessionEvent) (e : SessionEvent) (a : Attached) (before : List LinkEvent) (x : LinkEvent) → happens e ≡ GoesOn handle x → part handle h ≡ Live (a, before) →
     part handle (e ∷ h) ≡ Live (a, x ∷ before)
 part_goes_on handle h e a before x is live =
     after_here handle (GoesOn handle x) e h is ∙ hit new_life lived_on handle _ (part handle h) ∙ ap (λ (p : Slot (Life Attached LinkEvent)). slot_map (λ life. lived_on life x) p) live
 
+-- an event of all links is added to each part
 pub part_all_go_on : (handle : ℕ) (h : List SessionEvent) (e : SessionEvent) (a : Attached) (before : List LinkEvent) (x : LinkEvent) → happens e ≡ AllGoOn x → part handle h ≡ Live (a, before) →
     part handle (e ∷ h) ≡ Live (a, x ∷ before)
 part_all_go_on handle h e a before x is live = after_here handle (AllGoOn x) e h is ∙ ap (λ (p : Slot (Life Attached LinkEvent)). slot_map (λ life. lived_on life x) p) live
 
+-- a part ends where this side detaches
 pub part_leaves : (handle : ℕ) (h : List SessionEvent) (e : SessionEvent) → happens e ≡ Leaves handle → part handle (e ∷ h) ≡ Waits
 part_leaves handle h e is = after_here handle (Leaves handle) e h is ∙ hit new_life lived_on handle Waits (part handle h)
 
+-- and is gone once the peer has
 pub part_gone : (handle : ℕ) (h : List SessionEvent) (e : SessionEvent) → happens e ≡ Gone handle → part handle (e ∷ h) ≡ Free
 part_gone handle h e is = after_here handle (Gone handle) e h is ∙ hit new_life lived_on handle Free (part handle h)
 
@@ -82,6 +90,7 @@ part_gone handle h e is = after_here handle (Gone handle) e h is ∙ hit new_lif
 abbrev pub CreditMost : Type 0
 CreditMost = (terms : Terms) (h : List LinkEvent) (e : LinkEvent) → link.credit terms (e ∷ h) ≤ link.credit terms h + link.granted_by e
 
+-- the law that a grant raises credit by exactly as much
 abbrev pub CreditGranted : Type 0
 CreditGranted = (terms : Terms) (h : List LinkEvent) (n : ℕ) → link.Sound terms h → link.credit terms (Granted n ∷ h) ≡ link.credit terms h + n
 
@@ -118,6 +127,7 @@ slot_of_part terms h handle l = ap (λ (o : Option (Slot LiveLink)). unwrap_or o
 slot_above : (terms : SessionTerms) (h : List SessionEvent) (handle : ℕ) → handles terms ≤ handle → slot_at (state_of terms h) handle ≡ Free
 slot_above terms h handle l = ap (λ (o : Option (Slot LiveLink)). unwrap_or o Free) (none_above 0 (handles terms) (λ k. life_state live_state (part k h)) handle l)
 
+-- nothing else raises credit
 pub credit_most : CreditMost → (terms : SessionTerms) (h : List SessionEvent) (e : SessionEvent) (handle : ℕ) →
     credit_at (state_of terms (e ∷ h)) handle ≤ credit_at (state_of terms h) handle + granted_at handle e
 credit_most law terms h e handle = elim (cases_Bool (nat_lt handle (handles terms))) [

@@ -95,6 +95,7 @@ table_least id mode l (s ∷ slots) small e =
     by rest (Awaiting m) is e =
         let here = slot_least id m l s (λ n m. let none = small n m in omega (arith, none, table_cons n s slots)) is in omega (arith, here, sum_by-cons (slot_named id id) s slots)
 
+-- an id that awaits its outcome names one delivery
 pub names_one : (s : SessionState) (id : ℕ) (mode : ReceiverSettleMode) → IsApart s → id < 2 ^ 32 → standing_in id s.links ≡ Awaiting mode → named_total id id s ≡ 1
 names_one s id mode apart l stands =
     let small : TableSmall s.links = λ n m. none n m in

@@ -201,10 +201,12 @@ table_without id [] e = refl
 table_without id (s ∷ slots) e =
     rw (slot_without id s (omega (arith, e, table_cons id s slots)), table_without id slots (omega (arith, e, table_cons id s slots))) refl
 
+-- in mode first a settle ends the delivery
 pub settled_is_gone : (s : SessionState) (id : ℕ) → IsApart s → id < 2 ^ 32 → standing_in id s.links ≡ Awaiting First → is_open_id (session_after s (Settled id id)) id ≡ false
 settled_is_gone s id apart l stands =
     let room : one_if (nat_lt id (2 ^ 32)) ≡ 1 = ap one_if (lt-ltb id (2 ^ 32) l) in
     let most = apart id in table_without id (all_settled id 0 s.links) (table_gone id 0 l s.links (omega (arith, most, room)) stands)
 
+-- in mode second it stays until its sender settles it
 pub told_stays : (s : SessionState) (id : ℕ) → id < 2 ^ 32 → standing_in id s.links ≡ Awaiting Second → standing_in id (session_after s (Settled id id)).links ≡ Told
 told_stays s id l stands = table_told id 0 l s.links stands

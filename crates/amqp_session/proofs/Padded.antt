@@ -14,6 +14,7 @@ use Rattle.amqp_session.proofs.Tables as table
 
 -- What stands in it. -----------------------------------------------------------------------------------------------------------
 
+-- what stands at a handle of a table filled up with free ones
 pub padded_get : (n : ℕ) (slots : List (Slot LiveLink)) (i : ℕ) → length slots ≤ n → unwrap_or (slice_get (padded n slots) i) Free ≡ unwrap_or (slice_get slots i) Free
 padded_get zero [] i l = refl
 padded_get zero (s ∷ slots) i l = absurd (omega (arith, l))
@@ -22,23 +23,27 @@ padded_get (suc n) [] (suc i) l = padded_get n [] i (omega arith)
 padded_get (suc n) (s ∷ slots) zero l = refl
 padded_get (suc n) (s ∷ slots) (suc i) l = padded_get n slots i (omega (arith, l))
 
+-- such a table has all handles
 pub padded_long : (n : ℕ) (slots : List (Slot LiveLink)) → length (padded n slots) ≡ n
 padded_long zero slots = refl
 padded_long (suc n) [] = ap suc (padded_long n [])
 padded_long (suc n) (s ∷ slots) = ap suc (padded_long n slots)
 
+-- a sum over it is one over the table
 pub padded_sum : (f : Slot LiveLink → ℕ) (n : ℕ) (slots : List (Slot LiveLink)) → f Free ≡ 0 → length slots ≤ n → sum_by f (padded n slots) ≡ sum_by f slots
 padded_sum f zero [] free l = refl
 padded_sum f zero (s ∷ slots) free l = absurd (omega (arith, l))
 padded_sum f (suc n) [] free l = omega (arith, sum_by-cons f Free (padded n []), free, padded_sum f n [] free (omega arith))
 padded_sum f (suc n) (s ∷ slots) free l = omega (arith, sum_by-cons f s (padded n slots), sum_by-cons f s slots, padded_sum f n slots free (omega (arith, l)))
 
+-- so is a test of any
 pub padded_any : (p : Slot LiveLink → Bool) (n : ℕ) (slots : List (Slot LiveLink)) → p Free ≡ false → length slots ≤ n → list_any p (padded n slots) ≡ list_any p slots
 padded_any p zero [] free l = refl
 padded_any p zero (s ∷ slots) free l = absurd (omega (arith, l))
 padded_any p (suc n) [] free l = ap (λ (b : Bool). b || list_any p (padded n [])) free ∙ padded_any p n [] free (omega arith)
 padded_any p (suc n) (s ∷ slots) free l = ap (λ (b : Bool). p s || b) (padded_any p n slots free (omega (arith, l)))
 
+-- and the standing of an id
 pub padded_standing : (id n : ℕ) (slots : List (Slot LiveLink)) → length slots ≤ n → standing_in id (padded n slots) ≡ standing_in id slots
 padded_standing id zero [] l = refl
 padded_standing id zero (s ∷ slots) l = absurd (omega (arith, l))
@@ -76,6 +81,7 @@ padded_set (suc n) (t ∷ slots) (suc i) s new e most = ap (λ (rest : List (Slo
 abbrev Table : Type 0
 Table = List (Slot LiveLink)
 
+-- what an event makes of a table whose first handle is this
 abbrev pub From : ℕ → Happens Attached LinkEvent → List (Slot LiveLink) → List (Slot LiveLink)
 From k x slots = places_from live_begins live_after k x slots
 
@@ -83,20 +89,24 @@ From k x slots = places_from live_begins live_after k x slots
 pub none_after : (slots : List (Slot LiveLink)) → From 0 Nothing slots ≡ slots
 none_after slots = table.none_after live_begins live_after slots
 
+-- an attach at a place of it
 pub begins_at : (n : ℕ) (slots : List (Slot LiveLink)) (i : ℕ) (a : Attached) (s : Slot LiveLink) → slice_get slots i ≡ Some s → length slots ≤ n →
     From 0 (Begins i a) (padded n slots) ≡ padded n (slice_set slots i (Live (live_begins a)))
 begins_at n slots i a s e most =
     table.begins_at live_begins live_after (padded n slots) i a s (padded_there n slots i s e most) ∙ padded_set n slots i s (Live (live_begins a)) e most
 
+-- an event of the link at a place
 pub goes_on_at : (n : ℕ) (slots : List (Slot LiveLink)) (i : ℕ) (e : LinkEvent) (s : Slot LiveLink) → slice_get slots i ≡ Some s → length slots ≤ n →
     From 0 (GoesOn i e) (padded n slots) ≡ padded n (slice_set slots i (slot_map (λ l. live_after l e) s))
 goes_on_at n slots i e s at most =
     table.goes_on_at live_begins live_after (padded n slots) i e s (padded_there n slots i s at most) ∙ padded_set n slots i s (slot_map (λ l. live_after l e) s) at most
 
+-- a detach of this side
 pub leaves_at : (n : ℕ) (slots : List (Slot LiveLink)) (i : ℕ) (s : Slot LiveLink) → slice_get slots i ≡ Some s → length slots ≤ n →
     From 0 (Leaves i) (padded n slots) ≡ padded n (slice_set slots i Waits)
 leaves_at n slots i s e most = table.leaves_at live_begins live_after (padded n slots) i s (padded_there n slots i s e most) ∙ padded_set n slots i s Waits e most
 
+-- one of the peer
 pub gone_at : (n : ℕ) (slots : List (Slot LiveLink)) (i : ℕ) (s : Slot LiveLink) → slice_get slots i ≡ Some s → length slots ≤ n → From 0 (Gone i) (padded n slots) ≡ padded n (slice_set slots i Free)
 gone_at n slots i s e most = table.gone_at live_begins live_after (padded n slots) i s (padded_there n slots i s e most) ∙ padded_set n slots i s Free e most
 
@@ -106,6 +116,7 @@ all_from k zero e slots = refl
 all_from k (suc n) e [] = ap (λ (rest : Table). Free ∷ rest) (all_from (suc k) n e [])
 all_from k (suc n) e (s ∷ slots) = ap (λ (rest : Table). slot_map (λ l. live_after l e) s ∷ rest) (all_from (suc k) n e slots)
 
+-- an event of all links
 pub all_after : (n : ℕ) (e : LinkEvent) (slots : List (Slot LiveLink)) → From 0 (AllGoOn e) (padded n slots) ≡ padded n (map (slot_map (λ l. live_after l e)) slots)
 all_after n e slots = all_from 0 n e slots
 

@@ -53,6 +53,7 @@ got_from {A} k (suc n) f (suc i) a e =
     let r = got_from (suc k) n f i a e in
     let z : suc k + i ≡ k + suc i = omega arith in (omega (arith, r.0), subst (λ (j : ℕ). f j ≡ a) z r.1)
 
+-- what is found in a table of values stands there
 pub got : {A : Type 0} (n : ℕ) (f : ℕ → A) (i : ℕ) (a : A) → slice_get (tabulate 0 n f) i ≡ Some a → (i < n) × (f i ≡ a)
 got {A} n f i a e =
     let r = got_from 0 n f i a e in
@@ -66,6 +67,7 @@ get_from {A} k (suc n) f zero l =
 get_from {A} k (suc n) f (suc i) l =
     let z : suc k + i ≡ k + suc i = omega arith in get_from (suc k) n f i (omega (arith, l)) ∙ ap (λ (j : ℕ). Some (f j)) z
 
+-- each place within has its value
 pub get_at : {A : Type 0} (n : ℕ) (f : ℕ → A) (i : ℕ) → i < n → slice_get (tabulate 0 n f) i ≡ Some (f i)
 get_at {A} n f i l =
     let z : 0 + i ≡ i = omega arith in get_from 0 n f i l ∙ ap (λ (j : ℕ). Some (f j)) z

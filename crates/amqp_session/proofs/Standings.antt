@@ -21,9 +21,11 @@ use Rattle.amqp_session.proofs.Ids.{table_cons}
 
 -- Counts. --------------------------------------------------------------------------------------------------------------------
 
+-- 1 where a delivery has the id
 abbrev pub one : ℕ → Delivery → ℕ
 one id d = link.one_if (has_id id d)
 
+-- the count over one more delivery
 pub count_cons : (id : ℕ) (d : Delivery) (ds : List Delivery) → count_by (has_id id) (d ∷ ds) ≡ link.one_if (has_id id d) + count_by (has_id id) ds
 count_cons id d ds = sum_by-cons (one id) d ds
 
@@ -61,6 +63,7 @@ some_has id (d ∷ ds) e = elim (cases_Bool (has_id id d)) [
 abbrev pub AreSmall : List Delivery → Type 0
 AreSmall ds = (n : ℕ) → 2 ^ 32 ≤ n → count_by (has_id n) ds ≡ 0
 
+-- the first of deliveries with ids of 32 bits has one
 pub first_small : (d : Delivery) (ds : List Delivery) → AreSmall (d ∷ ds) → d.delivery_id < 2 ^ 32
 first_small d ds small = elim (cases_Bool (nat_lt d.delivery_id (2 ^ 32))) [
   | inl e ↦ ltb-true d.delivery_id (2 ^ 32) e
@@ -70,6 +73,7 @@ first_small d ds small = elim (cases_Bool (nat_lt d.delivery_id (2 ^ 32))) [
       )
 ]
 
+-- so have the others
 pub rest_small : (d : Delivery) (ds : List Delivery) → AreSmall (d ∷ ds) → AreSmall ds
 rest_small d ds small = λ n l. let none = small n l in omega (arith, none, count_cons n d ds)
 
@@ -154,6 +158,7 @@ link_settles l id small few quiet =
 
 -- The session. ---------------------------------------------------------------------------------------------------------------
 
+-- of a link without the id it is absent
 pub absent_none : (id : ℕ) (s : Slot LiveLink) → slot_count id s ≡ 0 → slot_standing id s ≡ Absent
 absent_none id Free e = refl
 absent_none id (Live l) e =

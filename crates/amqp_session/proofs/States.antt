@@ -275,6 +275,7 @@ pub stated_flow : (terms : SessionTerms) (w n : ℕ) (slots : List (Slot LiveLin
 stated_flow terms w n slots h new stated said reached low is same =
     flow_is (session_of terms w n (slice_set slots h new)) h new stated said (slot_put terms w n slots h new reached low) is same
 
+-- a take of a link is one of what stands at its handle
 pub hands_up : {A : Type 0} (x new : Slot LiveLink) (t : Taken A) → IsTaken x new t → HandsUp x t
 hands_up {A} Free new t is = absurd is
 hands_up {A} (Live l) new t is = by_first (first_ready l.link) is
@@ -371,16 +372,19 @@ told_none h f Free e = absurd e
 told_none h f (Live l) e = absurd (grind (arith, e))
 told_none h f Waits e = refl
 
+-- a flow that tells something found a live link
 pub told_some : (h : ℕ) (f : Flowing) (x : Slot LiveLink) (news : News) → IsFlowTold h f x (Some news) → (is_live x ≡ true) × (news ≡ flow_news h f x)
 told_some h f Free news e = absurd e
 told_some h f (Live l) news e = (refl, grind (arith, e))
 told_some h f Waits news e = absurd (grind (arith, e))
 
+-- a live handle is in use
 pub live_used : (x : Slot LiveLink) → is_live x ≡ true → is_free x ≡ false
 live_used Free e = absurd (grind (arith, e))
 live_used (Live l) e = refl
 live_used Waits e = absurd (grind (arith, e))
 
+-- a flow leaves a free one
 pub free_kept : (f : Flowing) (x : Slot LiveLink) → is_free x ≡ true → slot_flowed f x ≡ x
 free_kept f Free e = refl
 free_kept f (Live l) e = absurd (grind (arith, e))
@@ -445,5 +449,6 @@ module _ (terms : SessionTerms) (w n : ℕ) (slots : List (Slot LiveLink)) (s : 
 pub reached_more : (terms : SessionTerms) (slots slots1 : List (Slot LiveLink)) → IsReached terms slots → length slots1 ≤ handles terms → IsReached terms slots1
 reached_more terms slots slots1 reached most = record { reached = most; handles = reached.handles }
 
+-- a change at one handle leaves every other within the handles offered
 pub reached_set : (terms : SessionTerms) (slots : List (Slot LiveLink)) (h : ℕ) (x : Slot LiveLink) → IsReached terms slots → IsReached terms (slice_set slots h x)
 reached_set terms slots h x reached = record { reached = omega (arith, reached.reached, length-set slots h x); handles = reached.handles }

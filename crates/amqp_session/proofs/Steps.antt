@@ -17,6 +17,7 @@ use Rattle.amqp_session.proofs.Places.{places_step}
 abbrev pub LinkBegins : Type 0
 LinkBegins = (terms : Terms) → terms.initial_delivery_count < 2 ^ 32 → (link_begins terms ≡ link.state_of terms []) × link.Sound terms []
 
+-- the law that a link goes on by its history, which stands in its crate
 abbrev pub LinkGoesOn : Type 0
 LinkGoesOn = (terms : Terms) (h : List LinkEvent) (e : LinkEvent) → link.Sound terms h → LinkMay (link.state_of terms h) e →
     (link_after (link.state_of terms h) e ≡ link.state_of terms (e ∷ h)) × link.Sound terms (e ∷ h)
@@ -25,6 +26,7 @@ LinkGoesOn = (terms : Terms) (h : List LinkEvent) (e : LinkEvent) → link.Sound
 abbrev pub SessionBegins : Type 0
 SessionBegins = (terms : SessionTerms) → terms.incoming_window < 2 ^ 31 → terms.next_outgoing_id < 2 ^ 32 → (session_begins terms ≡ state_of terms []) × Sound terms []
 
+-- the same law of a session
 abbrev pub SessionGoesOn : Type 0
 SessionGoesOn = (terms : SessionTerms) (h : List SessionEvent) (e : SessionEvent) → Sound terms h → SessionMay (state_of terms h) e →
     (session_after (state_of terms h) e ≡ state_of terms (e ∷ h)) × Sound terms (e ∷ h)
@@ -72,6 +74,7 @@ narrow_on : (terms : SessionTerms) (h : List SessionEvent) (e : SessionEvent) �
 narrow_on terms h (event.Widened n) sound room = omega (arith, sound.spent, room)
 narrow_on terms h e sound room = omega (arith, sound.narrow)
 
+-- a new session has the state of the empty history
 pub begins_sound : SessionBegins
 unfolding made
 begins_sound terms narrow first = (
@@ -79,6 +82,7 @@ begins_sound terms narrow first = (
   record { spent = omega arith; narrow = omega (arith, narrow); links = λ k l. tt; apart = begins_apart terms },
 )
 
+-- one more event leaves the state of the longer history
 pub goes_on_sound : LinkBegins → LinkGoesOn → IdsGrow → SessionGoesOn
 unfolding made
 goes_on_sound begins step grow terms h e sound may =
@@ -96,6 +100,7 @@ goes_on_sound begins step grow terms h e sound may =
       },
     )
 
+-- after any accepted events a session has the state of the history
 pub all_sound : SessionBegins → SessionGoesOn → (terms : SessionTerms) (h : List SessionEvent) → terms.incoming_window < 2 ^ 31 → terms.next_outgoing_id < 2 ^ 32 → Accepted terms h →
     (after_all terms h ≡ state_of terms h) × Sound terms h
 all_sound begins step terms [] narrow first all = begins terms narrow first

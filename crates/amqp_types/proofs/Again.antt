@@ -18,7 +18,8 @@ use Rattle.amqp_types.specs.Trees.{Tree, Number, Octets, ListOf, MapOf, ArrayOf,
 use Rattle.amqp_types.specs.Trees.{depth_of, depth_of_all, depth_of_pairs, nodes_in, nodes_in_all, nodes_in_pairs}
 use Rattle.amqp_types.specs.Images.{has_key}
 use Rattle.amqp_types.specs.Spelling.{size_len, SpellsBlock, Spells, SpellAll, SpellDescriptors, SpellItems, SpellPairs}
-use Rattle.amqp_types.specs.Reading.{Part, Budget, place, charge, behind, block_at, count_at, trees_at, distinct, pairs_at, allowed, head_at, list_at, map_at, array_at, item_by, described_at}
+use Rattle.amqp_types.specs.InHand.{Budget, place}
+use Rattle.amqp_types.specs.Reading.{Part, charge, behind, block_at, count_at, trees_at, distinct, pairs_at, allowed, head_at, list_at, map_at, array_at, item_by, described_at}
 use Rattle.amqp_types.specs.Reading.{value_by, level_by, inside}
 use Rattle.amqp_types.proofs.Complete.{octets_again, big_again, number_again, sized_again}
 use Rattle.amqp_types.proofs.ImageLaws.{AreNew, keys_new}
@@ -26,6 +27,7 @@ use Rattle.amqp_types.specs.Misreading.{IsCounted, Enough, spend}
 
 -- ---- budgets
 
+-- nodes that are left may be charged
 pub charged : (budget : Budget) (n at : ℕ) → Enough budget n → charge budget n at ≡ Ok (spend budget n)
 charged None n at h = refl
 charged (Some b) n at h = rw (le-ltb b n h) refl
@@ -34,6 +36,7 @@ spend_spend : (budget : Budget) (m n : ℕ) → spend (spend budget m) n ≡ spe
 spend_spend None m n = refl
 spend_spend (Some b) m n = let e : b - m - n ≡ b - (m + n) = omega arith in ap (λ (k : ℕ). Some k) e
 
+-- what is left behind them
 pub behind_spend : (budget : Budget) (m : ℕ) → behind budget (spend budget m) ≡ spend budget m
 behind_spend None m = refl
 behind_spend (Some b) m = refl
@@ -56,6 +59,7 @@ spend_zero (Some b) = let e : b - 0 ≡ b = omega arith in ap (λ (k : ℕ). Som
 
 -- ---- blocks
 
+-- a block that is spelled is read so
 pub block_again : (w : Window) (s : SizeWidth) (least n : ℕ) (parts text rest : List ℕ) → SpellsBlock s n parts text → least ≤ size_len s + length parts
     → (within : Window) × (block_at w s least (text ++ rest) ≡ Ok (record { within = within; body = big_bytes (size_len s) n ++ parts; behind = rest }))
 unfolding block_at
@@ -69,6 +73,7 @@ block_again w s least n parts text rest h le =
       rw (regrouped, big_again w (size_len s) size (body ++ rest) h.1, le-ltb size least le, octets_again w size body rest len) refl,
     )
 
+-- so is a count
 pub count_again : (w : Window) (s : SizeWidth) (paired : Bool) (n : ℕ) (parts : List ℕ) → n < 256 ^ size_len s → (paired ≡ true → n % 2 ≡ 0) →
     count_at w s paired (big_bytes (size_len s) n ++ parts) ≡ Ok (n, parts)
 unfolding count_at
@@ -80,6 +85,7 @@ count_again w s false n parts lt even = rw (big_again w (size_len s) n parts lt)
 
 -- ---- what is to be shown of each value
 
+-- a spelled value is read again, alone and as an item of an array
 pub record IsAgain (t : Tree) : Type 0 where
   pub value : (depth : ℕ) (w : Window) (due : ℕ) (budget : Budget) (text rest : List ℕ) → Spells t text → depth_of t ≤ depth → Enough budget (due + nodes_in t) → (IsCounted budget → IsLawful t)
       → value_by (inside depth) w due budget (text ++ rest) ≡ Ok (t, spend budget (due + nodes_in t), rest)
@@ -95,10 +101,12 @@ abbrev PairsAgain : Pairs → Type 0
 PairsAgain no_pair = Unit {0}
 PairsAgain (pair k v ps) = IsAgain k × IsAgain v × PairsAgain ps
 
+-- no constructor has the code 00
 pub no_zero : (element : ℕ) (c : Constructor) → find_code element ≡ Some c → element ≡ 0 → ⊥
 no_zero zero c e z = absurd cc
 no_zero (suc element) c e z = omega arith
 
+-- a constructor that may stand where it does is allowed there
 pub may_stand : (b h : Bool) (at : ℕ) (c : Constructor) → (b ≡ true → h ≡ true) → b ≡ is_container (kind_of c) → allowed at h (Some c) ≡ Ok c
 may_stand true h at c p e = rw (← e, p refl) refl
 may_stand false h at c p e = rw (← e) refl
@@ -217,6 +225,7 @@ head_again (more d ds) all c element (suc fuel) depth w budget head rest le is h
     ∙ ap (λ (k : ℕ). spend budget k) (omega arith) in
     rw (regrouped, paid, first, zero_off, kept, others, total) refl
 
+-- a code has one constructor
 pub same_constructor : (element : ℕ) (a b : Constructor) → find_code element ≡ Some a → find_code element ≡ Some b → a ≡ b
 same_constructor element a b p q = some (sym p ∙ q)
   where
@@ -289,6 +298,7 @@ descriptors_long (more d ds) head h =
     let rest = descriptors_long ds h.1 h.4 in
     omega (arith, ap length h.2, length-append h.0 h.1, rest)
 
+-- with a level of depth left a container may stand there
 pub inside_holds : (n : ℕ) → 1 ≤ n → is_some (inside n) ≡ true
 unfolding inside
 inside_holds zero h = absurd (omega arith)

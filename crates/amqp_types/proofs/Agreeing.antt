@@ -62,6 +62,7 @@ mutual
   pairs_from no_pair a apart d = tt
   pairs_from (pair k v ps) a apart d = (lawful_from k a.0 d.0, lawful_from v a.1 d.1, apart.0, pairs_from ps a.2 apart.1 d.2)
 
+-- a value whose items and keys pass is lawful
 pub lawful_on_ok : (t : Tree) (r : Result (Unit {0}) WriteFault) → OnOk r (ItemsAgree t) → OnOk r (KeysDiffer t) → OnOk r (IsLawful t)
 lawful_on_ok t (Ok u) a d = lawful_from t a d
 lawful_on_ok t (Err e) a d = tt
@@ -72,6 +73,7 @@ refused_memory t e (inr (inl long)) l f = absurd (long.1 f)
 refused_memory t e (inr (inr (inl wrong))) l f = absurd (wrong.1 (lawful_agrees t l))
 refused_memory t e (inr (inr (inr double))) l f = absurd (double.1 (lawful_differs t l))
 
+-- a lawful value that fits is refused for want of memory alone
 pub memory_alone : (t : Tree) (r : Result (Unit {0}) WriteFault) → IfErr r (λ e. IsRefusedFor e t) → IsLawful t → Fits t → IfErr r (λ e. e ≡ NoMemory)
 memory_alone t (Ok u) h l f = tt
 memory_alone t (Err e) h l f = refused_memory t e h l f

@@ -6,7 +6,8 @@ use Rattle.amqp_types.specs.declared.fault.ReadFault.{ReadFault}
 use Rattle.amqp_types.specs.Canonical.{canonical, Fits, IsRanged}
 use Rattle.amqp_types.specs.Trees.{Tree, IsLawful, depth_of, nodes_in, nodes_of}
 use Rattle.amqp_types.specs.Spelling.{Spells}
-use Rattle.amqp_types.specs.Reading.{Part, Budget, ◌>>=◌, Is, Gives, after, outermost, value_of}
+use Rattle.amqp_types.specs.InHand.{Budget, outermost}
+use Rattle.amqp_types.specs.Reading.{Part, ◌>>=◌, Is, Gives, after, value_of}
 use Rattle.amqp_types.specs.Decoding.{decoded}
 use Rattle.amqp_types.proofs.Octets.{IsBytes}
 use Rattle.amqp_types.proofs.Compounds.{value_sound}
@@ -24,6 +25,7 @@ front bytes text rest n parts le same =
 ok_parts : (a b : Tree × List ℕ) → ◌≡◌ {A = Result (Tree × List ℕ) ReadFault} (Ok a) (Ok b) → a ≡ b
 ok_parts a b e = cc
 
+-- the bytes of two equal answers are the same
 pub ok_rest : (a b : List ℕ) → ◌≡◌ {A = Result (List ℕ) ReadFault} (Ok a) (Ok b) → a ≡ b
 ok_rest a b e = cc
 
@@ -33,6 +35,7 @@ skipped : (read : Part Tree) (rest : List ℕ) → after read ≡ Ok rest → (x
 skipped (Ok x) rest e = (x, refl, ok_rest x.2 rest e)
 skipped (Err d) rest e = absurd cc
 
+-- what stands in front of the rest that is answered is a value
 pub rest_found : (depth : ℕ) (bytes rest : List ℕ) → IsBytes bytes → after (value_of depth None bytes) ≡ Ok rest
     → (t : Tree) × (text : List ℕ) × Spells t text × (bytes ≡ text ++ rest) × (depth_of t ≤ depth)
 rest_found depth bytes rest fits is =
@@ -43,9 +46,11 @@ rest_found depth bytes rest fits is =
 pub tree_again : (depth : ℕ) (t : Tree) (text rest : List ℕ) → Spells t text → depth_of t ≤ depth → value_of depth None (text ++ rest) ≡ Ok (t, None, rest)
 tree_again depth t text rest spelled deep = value_again t depth (outermost (text ++ rest)) 1 None text rest spelled deep tt (λ c. absurd c)
 
+-- a spelled value leaves what is behind it
 pub rest_again : (depth : ℕ) (t : Tree) (text rest : List ℕ) → Spells t text → depth_of t ≤ depth → after (value_of depth None (text ++ rest)) ≡ Ok rest
 rest_again depth t text rest spelled deep = ap after (value_again t depth (outermost (text ++ rest)) 1 None text rest spelled deep tt (λ c. absurd c))
 
+-- what a skip passes is a value
 pub skip_found : (depth : ℕ) (bytes : List ℕ) (r : Result ℕ ReadFault) → IsBytes bytes → IfOk r (λ n. n ≤ length bytes) → Is (λ n. drop n bytes) r (after (value_of depth None bytes))
     → IfOk r (λ n. (t : Tree) × Spells t (take n bytes) × (depth_of t ≤ depth))
 skip_found depth bytes (Ok n) fits within is =
@@ -54,6 +59,7 @@ skip_found depth bytes (Ok n) fits within is =
     (s.0, subst (λ (b : List ℕ). Spells s.0 b) (sym f.1) s.2, s.4)
 skip_found depth bytes (Err e) fits within is = tt
 
+-- a spelled value is what it passes
 pub skip_only : (depth : ℕ) (bytes : List ℕ) (r : Result ℕ ReadFault) (t : Tree) (text rest : List ℕ) → IfOk r (λ n. n ≤ length bytes) → Is (λ n. drop n bytes) r (after (value_of depth None bytes))
     → Spells t text → depth_of t ≤ depth → bytes ≡ text ++ rest → r ≡ Ok (length text)
 skip_only depth bytes r t text rest within is spelled deep parts =
@@ -73,6 +79,7 @@ kept (Err d) x e = absurd cc
 spent_within : (nodes n : ℕ) (left : Budget) → Spent (Some nodes) n left → n ≤ nodes
 spent_within nodes n left p = omega (arith, p.2)
 
+-- what reading gives is spelled there, lawful and within the limits
 pub decoded_found : (depth nodes : ℕ) (bytes rest : List ℕ) (t : Tree) → IsBytes bytes → decoded depth nodes bytes ≡ Ok (t, rest)
     → (text : List ℕ) × Spells t text × (bytes ≡ text ++ rest) × IsLawful t × (depth_of t ≤ depth) × (nodes_of t ≤ nodes)
 decoded_found depth nodes bytes rest t fits is =
@@ -82,14 +89,17 @@ decoded_found depth nodes bytes rest t fits is =
     subst (λ (u : Tree). (text : List ℕ) × Spells u text × (bytes ≡ text ++ rest) × IsLawful u × (depth_of u ≤ depth) × (nodes_of u ≤ nodes)) k.2
     (r.text, r.spelled, r.takes.parts ∙ ap (λ (b : List ℕ). r.text ++ b) k.3, r.lawful tt, r.deep, few)
 
+-- each such value is what reading gives
 pub decoded_again : (depth nodes : ℕ) (t : Tree) (text rest : List ℕ) → Spells t text → IsLawful t → depth_of t ≤ depth → nodes_of t ≤ nodes → decoded depth nodes (text ++ rest) ≡ Ok (t, rest)
 decoded_again depth nodes t text rest spelled lawful deep few =
     ap (λ (p : Part Tree). p >>= λ y. Ok (y.0, y.2)) (value_again t depth (outermost (text ++ rest)) 1 (Some nodes) text rest spelled deep few (λ _. lawful))
 
+-- what is written is read back
 pub written_again : (depth nodes : ℕ) (t : Tree) (rest : List ℕ) → IsLawful t → IsRanged t → Fits t → depth_of t ≤ depth → nodes_of t ≤ nodes → decoded depth nodes (canonical t ++ rest) ≡ Ok (t, rest)
 written_again depth nodes t rest lawful ranged fits deep few =
     decoded_again depth nodes t (canonical t) rest (canonical_spells t lawful ranged fits) lawful deep few
 
+-- the same of what a call answers
 pub decode_found : {V : Type 0} (view : V → Tree) (depth nodes : ℕ) (bytes : List ℕ) (r : Result (V × ℕ) ReadFault) → IsBytes bytes → IfOk r (λ x. x.1 ≤ length bytes) →
     Gives (λ x. (view x.0, drop x.1 bytes)) r (decoded depth nodes bytes)
     → IfOk r (λ x. Spells (view x.0) (take x.1 bytes) × IsLawful (view x.0) × (depth_of (view x.0) ≤ depth) × (nodes_of (view x.0) ≤ nodes))
@@ -99,6 +109,7 @@ decode_found view depth nodes bytes (Ok x) fits within is =
     (subst (λ (b : List ℕ). Spells (view x.0) b) (sym f.1) s.1, s.3, s.4, s.5)
 decode_found view depth nodes bytes (Err e) fits within is = tt
 
+-- the same of a call, where such a value stands there
 pub decode_only : {V : Type 0} (view : V → Tree) (depth nodes : ℕ) (bytes : List ℕ) (r : Result (V × ℕ) ReadFault) (t : Tree) (text rest : List ℕ) → IfOk r (λ x. x.1 ≤ length bytes) →
     Gives (λ x. (view x.0, drop x.1 bytes)) r (decoded depth nodes bytes)
     → Spells t text → IsLawful t → depth_of t ≤ depth → nodes_of t ≤ nodes → bytes ≡ text ++ rest → Gives {Y = Tree × ℕ} (λ x. (view x.0, x.1)) r (Ok (t, length text))

@@ -352,5 +352,6 @@ mutual
       let others : s ≡ size.One → all_small (parts ts) ≡ true = λ e. (and_parts _ _ (small e)).1 in
       (full_data s (shell_of t) (content_of t), all_data s (parts ts), refl, (written t l.0 r.0 f.0).in_full k s of_kind.0 here, items_written k s ts of_kind.1 others l.1 r.1 f.1)
 
+-- the canonical spelling spells its value
 pub canonical_spells : (t : Tree) → IsLawful t → IsRanged t → Fits t → Spells t (canonical t)
 canonical_spells t l r f = (written t l r f).spelled

@@ -21,7 +21,8 @@ use Rattle.amqp_types.specs.Trees.{Tree, Number, Octets, ListOf, MapOf, ArrayOf,
 use Rattle.amqp_types.specs.Trees.{ArePairsLawful, depth_of, depth_of_all, depth_of_pairs, nodes_in, nodes_in_all, nodes_in_pairs}
 use Rattle.amqp_types.specs.Images.{image, has_key}
 use Rattle.amqp_types.specs.Spelling.{size_len, SpellsBlock, Spells, SpellDescriptors, SpellItems, SpellPairs}
-use Rattle.amqp_types.specs.Reading.{Read, Part, Budget, Level, Head, Block, ◌>>=◌, place, charge, behind, octets_at, big_at, block_of, block_at, count_at, trees_at, distinct, pairs_at, ended}
+use Rattle.amqp_types.specs.InHand.{Budget, place}
+use Rattle.amqp_types.specs.Reading.{Read, Part, Level, Head, Block, ◌>>=◌, charge, behind, octets_at, big_at, block_of, block_at, count_at, trees_at, distinct, pairs_at, ended}
 use Rattle.amqp_types.specs.Reading.{with_descriptor, allowed, head_at, list_at, map_at, array_at, uncharged, number_at, sized_at, item_by, described_at, value_by, level_by, inside}
 use Rattle.amqp_types.proofs.Octets.{IsBytes, IsBytes-rest}
 use Rattle.amqp_types.proofs.Sound.{bind_ok, guard_ok, ok_is, Takes, Takes-then, octets_sound, big_sound, number_sound, sized_sound}
@@ -31,12 +32,14 @@ use Rattle.amqp_types.proofs.Joined.{SpellItems-from_joined, AreOfKind-from_join
 
 -- ---- blocks
 
+-- what a block is: its size, and the bytes within
 pub record IsBlock (s : SizeWidth) (least : ℕ) (bytes : List ℕ) (block : Block) : Type 0 where
   pub takes : Takes bytes (big_bytes (size_len s) (length block.body) ++ block.body) block.behind
   pub small : length block.body < 256 ^ size_len s
   pub some : least ≤ length block.body
   pub fits : IsBytes block.body
 
+-- a block that is read stands there
 pub block_sound : (w : Window) (s : SizeWidth) (least : ℕ) (bytes : List ℕ) (block : Block) → IsBytes bytes → block_at w s least bytes ≡ Ok block → IsBlock s least bytes block
 unfolding block_at
 block_sound w s least bytes block fits e =
@@ -58,6 +61,7 @@ block_sound w s least bytes block fits e =
     tested true fault r h = absurd cc
     tested false fault r h = (refl, h)
 
+-- so does a count
 pub count_sound : (w : Window) (s : SizeWidth) (paired : Bool) (bytes : List ℕ) (x : ℕ × List ℕ) → IsBytes bytes → count_at w s paired bytes ≡ Ok x
     → Takes bytes (big_bytes (size_len s) x.0) x.1 × (x.0 < 256 ^ size_len s) × (paired ≡ true → 2 * (x.0 / 2) ≡ x.0)
 unfolding count_at
@@ -92,6 +96,7 @@ block_text s least n bytes block parts rest is lt body nil =
 
 -- ---- what a reader of one value promises
 
+-- a tree that was read is spelled in front of the rest, within depth, and its nodes were charged
 pub record IsRead (spells : Tree → List ℕ → Type 0) (depth extra : ℕ) (budget : Budget) (bytes : List ℕ) (x : Tree × Budget × List ℕ) : Type 0 where
   pub text : List ℕ
   pub takes : Takes bytes text x.2
@@ -100,9 +105,11 @@ pub record IsRead (spells : Tree → List ℕ → Type 0) (depth extra : ℕ) (b
   pub spent : Spent budget (extra + nodes_in x.0) x.1
   pub lawful : IsCounted budget → IsLawful x.0
 
+-- a reading that answers only such trees
 abbrev pub IsReader : (Window → Budget → List ℕ → Part Tree) → (Tree → List ℕ → Type 0) → ℕ → ℕ → Type 0
 IsReader one spells depth extra = (w : Window) (budget : Budget) (bytes : List ℕ) (x : Tree × Budget × List ℕ) → IsBytes bytes → one w budget bytes ≡ Ok x → IsRead spells depth extra budget bytes x
 
+-- the same of so many trees in turn
 pub record AreRead (spells : Tree → List ℕ → Type 0) (depth n : ℕ) (budget : Budget) (bytes : List ℕ) (x : Trees × Budget × List ℕ) : Type 0 where
   pub text : List ℕ
   pub takes : Takes bytes text x.2
@@ -142,6 +149,7 @@ trees_sound one spells depth sound (suc n) w budget bytes x fits e =
 
 -- ---- a level
 
+-- a level whose readings answer only what is spelled
 pub record IsSoundLevel (depth : ℕ) (level : Level) : Type 0 where
   pub value : (due : ℕ) → IsReader (λ w. level.value w due) Spells depth due
   pub item : (c : Constructor) (code : ℕ) → find_code code ≡ Some c → (is_container (kind_of c) ≡ true → 1 ≤ depth) → IsReader (level.item c) (SpellsItem code (kind_of c)) depth 0
@@ -168,6 +176,7 @@ apart_parts key seen (pair k v ps) h =
     differ : (b : Bool) → b ≡ false → b ≡ true → ⊥
     differ b f t = let h : true ≡ false = sym t ∙ f in cc
 
+-- a key that passes is new, where keys are compared
 pub distinct_ok : {A : Type 0} (budget : Budget) (seen : Trees) (key : Tree) (at : ℕ) (x y : A) → distinct budget seen key at x ≡ Ok y → (x ≡ y) × (IsCounted budget → has_key key seen ≡ false)
 distinct_ok None seen key at x y e = (ok_is x y e, λ c. absurd c)
 distinct_ok (Some b) seen key at x y e = let g = guard_ok (has_key key seen) (DuplicateKey at) x y e in (g.1, λ c. g.0)
@@ -225,6 +234,7 @@ pairs_sound depth level sound (suc n) seen w budget bytes x fits e =
 
 -- ---- the element constructor of an array
 
+-- the head of an array that was read is spelled in front of the rest
 pub record IsHeadRead (depth : ℕ) (level : Level) (budget : Budget) (bytes : List ℕ) (x : Head × Budget × List ℕ) : Type 0 where
   text : List ℕ
   element : ℕ
@@ -236,6 +246,7 @@ pub record IsHeadRead (depth : ℕ) (level : Level) (budget : Budget) (bytes : L
   spent : Spent budget (count_of x.0.descriptors + nodes_in_all x.0.descriptors) x.1
   lawful : IsCounted budget → AreLawful x.0.descriptors
 
+-- a constructor that is allowed has its code, and depth where it wants some
 pub allowed_ok : (at : ℕ) (holds : Bool) (o : Option Constructor) (c : Constructor) → allowed at holds o ≡ Ok c → (o ≡ Some c) × (is_container (kind_of c) ≡ true → holds ≡ true)
 allowed_ok at holds None c e = absurd cc
 allowed_ok at holds (Some k) c e =
@@ -247,6 +258,7 @@ allowed_ok at holds (Some k) c e =
     held true false e is = absurd cc
     held false h e is = absurd cc
 
+-- a choice is one of the two
 pub either_way : {A : Type 0} (b : Bool) (x y z : Result A ReadFault) → cond b x y ≡ z → ((b ≡ true) × (x ≡ z)) ⊎ ((b ≡ false) × (y ≡ z))
 either_way true x y z e = inl (refl, e)
 either_way false x y z e = inr (refl, e)
@@ -259,6 +271,7 @@ counted_charge : (budget left : Budget) (n at : ℕ) → charge budget n at ≡ 
 counted_charge None left n at e c = absurd c
 counted_charge (Some b) left n at e c = subst (λ (l : Budget). IsCounted l) (sym (spent_charge (Some b) n at left e).1) tt
 
+-- the head of an array that is read stands there
 pub head_sound : (depth : ℕ) (level : Level) → IsSoundLevel depth level → (fuel : ℕ) (w : Window) (budget : Budget) (bytes : List ℕ) (x : Head × Budget × List ℕ)
     → IsBytes bytes → head_at fuel level w budget bytes ≡ Ok x → IsHeadRead depth level budget bytes x
 unfolding head_at Spells
@@ -581,6 +594,7 @@ value_by_sound depth inner sound due w budget (code ∷ rest) x fits e =
           }
     ]
 
+-- a level is sound where the one inside it is
 pub sound_level : (depth : ℕ) (inner : Option Level) → ((level : Level) → inner ≡ Some level → (d : ℕ) × (suc d ≡ depth) × IsSoundLevel d level) → IsSoundLevel depth (level_by inner)
 sound_level depth inner sound = record {
   value = value_by_sound depth inner sound;
@@ -591,6 +605,7 @@ sound_level depth inner sound = record {
 some_same : (a b : Level) → Some a ≡ Some b → a ≡ b
 some_same a b e = cc
 
+-- so every level is
 pub inside_sound : (depth : ℕ) (level : Level) → inside depth ≡ Some level → (d : ℕ) × (suc d ≡ depth) × IsSoundLevel d level
 unfolding inside
 inside_sound zero level e = absurd cc

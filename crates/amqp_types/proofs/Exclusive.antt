@@ -25,7 +25,8 @@ use Rattle.amqp_types.specs.Kinds.{width, is_container}
 use Rattle.amqp_types.specs.Trees.{Tree, ListOf, MapOf, ArrayOf, Trees, none, more, pair, IsLawful, depth_of, nodes_in, nodes_of}
 use Rattle.amqp_types.specs.Images.{has_key}
 use Rattle.amqp_types.specs.Spelling.{form_len, size_len, SpellsNumber, SpellsOctets, Spells}
-use Rattle.amqp_types.specs.Reading.{Part, Budget, Head, Block, ◌>>=◌, place, number_fault, octets_fault, charge, behind, big_at, form_at, number_at, sized_at, is_beyond_ascii, block_at, count_at}
+use Rattle.amqp_types.specs.InHand.{Budget, place}
+use Rattle.amqp_types.specs.Reading.{Part, Head, Block, ◌>>=◌, number_fault, octets_fault, charge, behind, big_at, form_at, number_at, sized_at, is_beyond_ascii, block_at, count_at}
 use Rattle.amqp_types.specs.Reading.{trees_at, distinct, pairs_at, ended, with_descriptor, allowed, head_at, list_at, map_at, array_at, item_by, described_at, value_by, level_by, inside}
 use Rattle.amqp_types.specs.Misreading.{IsCounted, Enough, IsShort, spend, MayStand, IsWithin, EndsInSized, EndsInside, IsBelow, IsTooSmall, NumberFault, OctetsFault, IsBlockOf, IsHolder, IsAmong}
 use Rattle.amqp_types.specs.Misreading.{IsNewKey, Sought, AValue, DataOf, Values, Entries, Elements, Items, OpensWithCode, IsDone, parts_of, Misread, nothing, left_over, unknown_code, too_deep}

@@ -27,26 +27,32 @@ pub bind_err : {A B : Type 0} (r : Result A ReadFault) (f : A → Result B ReadF
 bind_err (Ok x) f e h = inr (x, refl, h)
 bind_err (Err d) f e h = inl cc
 
+-- a fault of a step is the one of what it begins with
 pub then_ok_err : {A B : Type 0} (r : Result A ReadFault) (f : A → B) (e : ReadFault) → (r >>= λ x. Ok (f x)) ≡ Err e → r ≡ Err e
 then_ok_err (Ok x) f e h = absurd cc
 then_ok_err (Err d) f e h = cc
 
+-- a fault behind a test is that of the test
 pub guard_err : {A : Type 0} (b : Bool) (d e : ReadFault) (x : A) → cond b (Err d) (Ok x) ≡ Err e → (b ≡ true) × (d ≡ e)
 guard_err true d e x h = (refl, cc)
 guard_err false d e x h = absurd cc
 
+-- so is one of a check
 pub unless_err : {A : Type 0} (fault : Option ReadFault) (x : A) (e : ReadFault) → unless fault x ≡ Err e → fault ≡ Some e
 unless_err None x e h = absurd cc
 unless_err (Some d) x e h = cc
 
 -- ---- the parts end too soon
 
+-- a number fails only where bytes are lacking
 pub big_short : (w : Window) (n : ℕ) (bytes : List ℕ) (e : ReadFault) → big_at w n bytes ≡ Err e → (length bytes < n) × (w.short ≡ e)
 big_short w n bytes e h = let g = guard_err (ltb (length bytes) n) w.short e (big_number n bytes, drop n bytes) h in (ltb-true _ _ g.0, g.1)
 
+-- so do bytes
 pub octets_short : (w : Window) (n : ℕ) (bytes : List ℕ) (e : ReadFault) → octets_at w n bytes ≡ Err e → (length bytes < n) × (w.short ≡ e)
 octets_short w n bytes e h = let g = guard_err (ltb (length bytes) n) w.short e (take n bytes, drop n bytes) h in (ltb-true _ _ g.0, g.1)
 
+-- and a number in any form
 pub form_short : (w : Window) (f : Form) (n : ℕ) (bytes : List ℕ) (e : ReadFault) → form_at w f n bytes ≡ Err e → (length bytes < form_len f n) × (w.short ≡ e)
 unfolding form_at
 form_short w form.Zero n bytes e h = absurd cc
@@ -65,6 +71,7 @@ char_fault : (b : Bool) (at : ℕ) (e : ReadFault) → cond b None (Some (BadCha
 char_fault true at e h = absurd cc
 char_fault false at e h = (refl, cc)
 
+-- the fault of a number is one that it has
 pub fault_of_number : (k : Kind) (at n : ℕ) (e : ReadFault) → number_fault k at n ≡ Some e → NumberFault k at n e
 fault_of_number kind.Boolean at n e h = boolean_fault (ltb n 2) n at e refl h
 fault_of_number kind.Char at n e h = let c = char_fault (scalar n) at e h in (λ is. both_ways (scalar n) c.0 is, c.1)
@@ -137,6 +144,7 @@ first_beyond octets n e =
     ] in
     subst (λ (k : ℕ). (k < length octets) × IsAscii (take k octets) × (128 ≤ get_or octets k 0)) f.1 (lt, before, at)
 
+-- so is that of bytes
 pub fault_of_octets : (k : Kind) (at : ℕ) (octets : List ℕ) (e : ReadFault) → octets_fault k at octets ≡ Some e → OctetsFault k at octets e
 fault_of_octets kind.String at octets e h =
     let t = text_fault_err (is_utf8 octets) (at + utf8_valid_len octets) e h in

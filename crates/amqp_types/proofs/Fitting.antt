@@ -17,15 +17,18 @@ unfit_from P Q e part (inr (long, denied)) = inr (long, λ q. denied (part q))
 pub left_first : {X : Type 0} (i : ℕ) (xs : List X) (x : X) → i < length xs → x ≡ get_or xs i x → drop i xs ≡ x ∷ drop (i + 1) xs
 left_first i xs x lt is = drop_more xs i x lt ∙ ap (λ y. y ∷ drop (i + 1) xs) (sym is)
 
+-- an item that does not fit makes its list unfit
 pub unfit_item : (e : WriteFault) (i : ℕ) (xs : List Value) (x : Value) → i < length xs → x ≡ get_or xs i x → (AllFit (views xs) → AllFit (views (drop i xs)))
     → IsUnfit e (Fits (view x)) → IsUnfit e (AllFit (views xs))
 unfit_item e i xs x lt is rest unfit =
     unfit_from (Fits (view x)) (AllFit (views xs)) e (λ all. (subst (λ (ys : List Value). AllFit (views ys)) (left_first i xs x lt is) (rest all)).0) unfit
 
+-- how many values there are
 pub count_views : (vs : List Value) → count_of (views vs) ≡ length vs
 count_views [] = refl
 count_views (v ∷ vs) = omega (arith, count_views vs)
 
+-- and how many keys and values
 pub pair_count_views : (ps : List (Value × Value)) → pair_count (pair_views ps) ≡ 2 * length ps
 pair_count_views [] = omega arith
 pair_count_views (p ∷ ps) = omega (arith, pair_count_views ps)

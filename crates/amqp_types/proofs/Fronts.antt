@@ -2,18 +2,21 @@
 use Rattle.std.proofs.Common.{◌≡◌, ℕ, ◌-◌, List, [], ◌∷◌, ◌++◌, length, drop, Option, Some, None, Result, Ok, Err, refl, sym, ap, ◌∙◌, length-append, arith}
 use Rattle.std.proofs.Math.Seq.{drop-append_seam}
 use Rattle.amqp_types.specs.Decoding.{decoded}
-use Rattle.amqp_types.specs.Reading.{Budget, Part, Level, after, inside, outermost, described_at, value_by, value_of}
+use Rattle.amqp_types.specs.InHand.{Budget, outermost}
+use Rattle.amqp_types.specs.Reading.{Part, Level, after, inside, described_at, value_by, value_of}
 use Rattle.amqp_types.specs.declared.fault.ReadFault.{ReadFault}
 use Rattle.amqp_types.specs.declared.window.Window.{Window}
 use Rattle.amqp_types.specs.Trees.{Tree}
 use Rattle.amqp_types.proofs.Octets.{IsBytes}
 use Rattle.amqp_types.proofs.Compounds.{value_sound}
 
+-- the rest behind a front
 pub without_front : (bytes text rest : List ℕ) → bytes ≡ text ++ rest → drop (length bytes - length rest) bytes ≡ rest
 without_front bytes text rest e =
     let n : length bytes - length rest ≡ length text = omega (arith, ap length e, length-append text rest) in
     ap (λ (k : ℕ). drop k bytes) n ∙ ap (drop (length text)) e ∙ drop-append_seam text rest
 
+-- what reading gives by the level of a depth
 pub decoded_is : (depth nodes : ℕ) (bytes : List ℕ) (t : Tree) (left : Budget) (rest : List ℕ) → IsBytes bytes
     → value_by (inside depth) (outermost bytes) 1 (Some nodes) bytes ≡ Ok (t, left, rest)
     → decoded depth nodes bytes ≡ Ok (t, drop (length bytes - length rest) bytes)
@@ -23,6 +26,7 @@ decoded_is depth nodes bytes t left rest fits e =
 
 -- ---- where what is read is of no interest
 
+-- without a budget nothing is due
 pub due_free : (inner : Option Level) (w : Window) (bytes : List ℕ) → value_by inner w 1 None bytes ≡ value_by inner w 0 None bytes
 unfolding value_by described_at
 due_free inner w [] = refl
@@ -36,6 +40,7 @@ after_ok (Ok x) rest e = (x, refl, same x.2 rest e)
     same a b h = cc
 after_ok (Err d) rest e = absurd cc
 
+-- what is passed by the level of a depth
 pub skipped_is : (depth : ℕ) (bytes rest : List ℕ) → IsBytes bytes → after (value_by (inside depth) (outermost bytes) 0 None bytes) ≡ Ok rest
     → after (value_of depth None bytes) ≡ Ok (drop (length bytes - length rest) bytes)
 skipped_is depth bytes rest fits e =

@@ -192,6 +192,7 @@ abbrev pub NotSeen : Tree → Trees → Type 0
 NotSeen key none = Unit {0}
 NotSeen key (more t ts) = (t ≢ key) × NotSeen key ts
 
+-- a key that was not seen has no like
 pub not_among : (key : Tree) (seen : Trees) → IsSmall key → AreSmall seen → NotSeen key seen → has_key key seen ≡ false
 unfolding has_key
 not_among key none p q h = refl
@@ -220,6 +221,7 @@ nothing_seen : (ps : Pairs) → AllNotSeen ps none
 nothing_seen no_pair = tt
 nothing_seen (pair k v ps) = (tt, nothing_seen ps)
 
+-- the keys of a lawful map are new one by one
 pub keys_new : (ps : Pairs) (parts : List ℕ) → SpellPairs ps parts → ArePairsLawful ps → AreNew none ps
 keys_new ps parts spelled lawful = new_behind ps none (pairs_small ps parts spelled) tt lawful (nothing_seen ps)
 

@@ -14,10 +14,12 @@ use Rattle.amqp_types.specs.Spelling.{size_len}
 use Rattle.amqp_types.specs.Trees.{Tree, ArrayOf, Trees, none, more, Pairs, no_pair, pair}
 use Rattle.amqp_types.specs.Values.{view, views, pair_views}
 use Rattle.amqp_types.specs.Images.{image, has_key}
-use Rattle.amqp_types.specs.Reading.{Part, Budget, Level, Head, ◌>>=◌, place, allowed, charge, trees_at, pairs_at, head_at, with_descriptor, Block, block_at, count_at, ended, array_at}
+use Rattle.amqp_types.specs.InHand.{Budget, place}
+use Rattle.amqp_types.specs.Reading.{Part, Level, Head, ◌>>=◌, allowed, charge, trees_at, pairs_at, head_at, with_descriptor, Block, block_at, count_at, ended, array_at}
 
 -- ---- values kept in front of those that are left
 
+-- two lists of trees joined
 abbrev pub join : Trees → Trees → Trees
 join none us = us
 join (more t ts) us = more t (join ts us)
@@ -26,13 +28,16 @@ join-none : (ts : Trees) → join ts none ≡ ts
 join-none none = refl
 join-none (more t ts) = ap (more t) (join-none ts)
 
+-- with one more in the middle
 pub join-push : (vs : List Value) (v : Value) (us : Trees) → join (views (vs ++ v ∷ [])) us ≡ join (views vs) (more (view v) us)
 join-push [] v us = refl
 join-push (x ∷ vs) v us = ap (more (view x)) (join-push vs v us)
 
+-- values that were read before, in front of those that are
 abbrev pub behind_values : Trees → Part Trees → Part Trees
 behind_values front read = read >>= λ x. Ok (join front x.0, x.1, x.2)
 
+-- in front of them none
 pub behind_no_values : (read : Part Trees) → behind_values none read ≡ read
 behind_no_values (Ok x) = refl
 behind_no_values (Err e) = refl
@@ -77,6 +82,7 @@ module _ (one : Window → Budget → List ℕ → Part Tree) (w : Window) where
 
 -- ---- keys and values
 
+-- the same of keys and values
 abbrev pub join_pairs : Pairs → Pairs → Pairs
 join_pairs no_pair qs = qs
 join_pairs (pair k v ps) qs = pair k v (join_pairs ps qs)
@@ -89,9 +95,11 @@ join_pairs-push : (vs : List (Value × Value)) (k v : Value) (qs : Pairs) → jo
 join_pairs-push [] k v qs = refl
 join_pairs-push (x ∷ vs) k v qs = ap (pair (view x.0) (view x.1)) (join_pairs-push vs k v qs)
 
+-- those that were read before, in front
 abbrev pub behind_pairs : Pairs → Part Pairs → Part Pairs
 behind_pairs front read = read >>= λ x. Ok (join_pairs front x.0, x.1, x.2)
 
+-- in front of them none
 pub behind_no_pairs : (read : Part Pairs) → behind_pairs no_pair read ≡ read
 behind_no_pairs (Ok x) = refl
 behind_no_pairs (Err e) = refl
@@ -101,6 +109,7 @@ abbrev pub keys_before : Trees → List (Value × Value) → Trees
 keys_before seen [] = seen
 keys_before seen (p ∷ ps) = keys_before (more (view p.0) seen) ps
 
+-- the keys seen, with one more
 pub keys_before-push : (seen : Trees) (ps : List (Value × Value)) (k v : Value) → keys_before seen (ps ++ (k, v) ∷ []) ≡ more (view k) (keys_before seen ps)
 keys_before-push seen [] k v = refl
 keys_before-push seen (p ∷ ps) k v = keys_before-push (more (view p.0) seen) ps k v
@@ -110,11 +119,13 @@ abbrev pub has_image : List ℕ → Trees → Bool
 has_image octets none = false
 has_image octets (more t ts) = bytes_eq (image t) octets || has_image octets ts
 
+-- a key is known exactly where its image is
 pub has_image-key : (key : Tree) (ts : Trees) → has_key key ts ≡ has_image (image key) ts
 unfolding has_key
 has_image-key key none = refl
 has_image-key key (more t ts) = ap (λ (b : Bool). bytes_eq (image t) (image key) || b) (has_image-key key ts)
 
+-- the images seen, with one more
 pub has_image-push : (octets : List ℕ) (ps : List (Value × Value)) (k v : Value)
     → has_image octets (keys_before none (ps ++ (k, v) ∷ [])) ≡ (bytes_eq (image (view k)) octets || has_image octets (keys_before none ps))
 has_image-push octets ps k v = ap (has_image octets) (keys_before-push none ps k v)
@@ -206,12 +217,15 @@ module _ (level : Level) (w : Window) where
 
 -- ---- an array's descriptors and its element constructor
 
+-- an array's head with the descriptors that were read before
 abbrev pub with_descriptors : Trees → Head → Head
 with_descriptors front head = record { descriptors = join front head.descriptors; constructor = head.constructor }
 
+-- the same of what is read
 abbrev pub behind_descriptors : Trees → Part Head → Part Head
 behind_descriptors front read = read >>= λ x. Ok (with_descriptors front x.0, x.1, x.2)
 
+-- with none before
 pub behind_no_descriptors : (read : Part Head) → behind_descriptors none read ≡ read
 behind_no_descriptors (Ok x) = refl
 behind_no_descriptors (Err e) = refl
@@ -304,14 +318,17 @@ module _ (level : Level) (w : Window) where
 
 -- ---- arrays
 
+-- a block that has ended answers what was read in it
 pub has_ended : {A : Type 0} (w : Window) (bytes : List ℕ) (x : A) → ended w bytes (tt {0}) ≡ Ok (tt {0}) → ended w bytes x ≡ Ok x
 has_ended w [] x e = refl
 has_ended w (b ∷ bytes) x e = absurd cc
 
+-- one that has not answers its fault
 pub goes_further : {A : Type 0} (w : Window) (bytes : List ℕ) (x : A) (d : ReadFault) → ended w bytes (tt {0}) ≡ Err d → ended w bytes x ≡ Err d
 goes_further w [] x d e = absurd cc
 goes_further w (b ∷ bytes) x d e = let same : w.short ≡ d = cc in ap (λ (f : ReadFault). Err f) same
 
+-- an array is its block, its head and its items
 pub array_read : (level : Level) (w : Window) (s : SizeWidth) (nodes : ℕ) (bytes : List ℕ) (block : Block) (n : ℕ) (front : List ℕ) (left : ℕ)
     (ds : Trees) (c : Constructor) (middle : ℕ) (data_left : List ℕ) (ts : Trees) (less : ℕ) (rest : List ℕ)
     → block_at w s (size_len s + 1) bytes ≡ Ok block → count_at block.within s false block.body ≡ Ok (n, front)

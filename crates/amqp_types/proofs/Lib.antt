@@ -1,6 +1,7 @@
 pub mod Octets
 pub mod Powers
 pub mod Skips
+pub mod Smalls
 pub mod Levels
 pub mod Walks
 pub mod Reaches

@@ -22,7 +22,8 @@ use Rattle.amqp_types.specs.Images.{image, has_key}
 use Rattle.amqp_types.specs.Spelling.{size_len, Spells}
 use Rattle.std.specs.Prelude.{IfErr}
 use Rattle.amqp_types.specs.Decoding.{decoded}
-use Rattle.amqp_types.specs.Reading.{Read, Part, Budget, Level, Head, Block, ◌>>=◌, Is, Gives, after, outermost, value_of, unless, place, number_fault, octets_fault, charge, behind, octets_at, big_at}
+use Rattle.amqp_types.specs.InHand.{Budget, outermost, place}
+use Rattle.amqp_types.specs.Reading.{Read, Part, Level, Head, Block, ◌>>=◌, Is, Gives, after, value_of, unless, number_fault, octets_fault, charge, behind, octets_at, big_at}
 use Rattle.amqp_types.specs.Reading.{form_at, number_at, sized_at, block_of, block_at, count_at, trees_at, distinct, pairs_at, ended, with_descriptor, allowed, head_at, list_at, map_at, array_at}
 use Rattle.amqp_types.specs.Reading.{uncharged, item_by, described_at, value_by, level_by, inside}
 use Rattle.amqp_types.specs.Misreading.{IsCounted, Enough, IsShort, spend, MayStand, IsWithin, EndsInSized, EndsInside, IsBelow, IsTooSmall, OctetsFault, IsBlockOf, IsHolder, IsAmong, IsNewKey}
@@ -157,6 +158,7 @@ sequence_misread one spells sought depth sound first later done (suc n) w budget
 
 -- ---- a level
 
+-- a level whose faults are ones that the bytes have
 pub record IsMisreadLevel (depth : ℕ) (level : Level) : Type 0 where
   pub value : (due : ℕ) (w : Window) (budget : Budget) (bytes : List ℕ) (e : ReadFault) → IsBytes bytes → level.value w due budget bytes ≡ Err e → Misread (AValue due) depth w budget bytes e
   pub item : (c : Constructor) (w : Window) (budget : Budget) (bytes : List ℕ) (e : ReadFault) → MayStand c depth → IsBytes bytes → level.item c w budget bytes ≡ Err e →
@@ -180,6 +182,7 @@ items_misread depth level sound mis c element is may = sequence_misread (level.i
 same_octets : (xs : List ℕ) → bytes_eq xs xs ≡ true
 same_octets xs = (bytes_eq-Decides xs xs).1 refl
 
+-- a key that is found is among those before it
 pub among : (key : Tree) (seen : Trees) → IsSmall key → AreSmall seen → has_key key seen ≡ true → IsAmong key seen
 unfolding has_key
 among key none p q h = absurd cc
@@ -193,6 +196,7 @@ among key (more t ts) p q h =
     or_true true b e = inl refl
     or_true false b e = inr e
 
+-- and one among them is found
 pub found_among : (key : Tree) (seen : Trees) → IsAmong key seen → has_key key seen ≡ true
 unfolding has_key
 found_among key none h = absurd h
@@ -210,6 +214,7 @@ found_among key (more t ts) (inr later) = or_right (bytes_eq (image t) (image ke
 not_found : (b : Bool) → b ≡ false → b ≡ true → ⊥
 not_found b f t = let h : true ≡ false = sym t ∙ f in cc
 
+-- a key that is not found is new
 pub new_key : (budget : Budget) (key : Tree) (seen : Trees) → (IsCounted budget → has_key key seen ≡ false) → IsNewKey budget key seen
 new_key budget key seen h c is = not_found (has_key key seen) (h c) (found_among key seen is)
 
@@ -451,6 +456,7 @@ block_err w s least bytes e h =
     fault_same : (d e : ReadFault) → ◌≡◌ {A = Result Block ReadFault} (Err d) (Err e) → d ≡ e
     fault_same d e h = cc
 
+-- the window within a block
 pub block_window : (w : Window) (s : SizeWidth) (least : ℕ) (bytes : List ℕ) (block : Block) → block_at w s least bytes ≡ Ok block
     → block.within ≡ record { short = BadSize (place w bytes); end = place w block.behind }
 unfolding block_at
@@ -773,11 +779,13 @@ value_misread depth w due budget bytes e fits h = value_by_misread depth (inside
 
 -- ---- the calls
 
+-- a fault of a skip is one that the bytes have
 pub skip_misread : (depth : ℕ) (bytes : List ℕ) (r : Result ℕ ReadFault) → IsBytes bytes → Is (λ n. drop n bytes) r (after (value_of depth None bytes))
     → IfErr r (λ e. Misread (AValue 1) depth (outermost bytes) None bytes e)
 skip_misread depth bytes (Ok n) fits is = tt
 skip_misread depth bytes (Err e) fits is = value_misread depth (outermost bytes) 1 None bytes e fits (then_ok_err (value_of depth None bytes) (λ x. x.2) e is)
 
+-- so is one of a call that keeps the value
 pub decode_misread : {V : Type 0} (view : V → Tree) (depth nodes : ℕ) (bytes : List ℕ) (r : Result (V × ℕ) ReadFault) → IsBytes bytes →
     Gives (λ x. (view x.0, drop x.1 bytes)) r (decoded depth nodes bytes)
     → IfErr r (λ e. (e ≡ NoMemory) ⊎ Misread (AValue 1) depth (outermost bytes) (Some nodes) bytes e)

@@ -26,6 +26,7 @@ use Rattle.amqp_types.proofs.Depths.{depth_within}
 same_ok : {A : Type 0} (a b : A) → ◌≡◌ {A = Result A ReadFault} (Ok a) (Ok b) → a ≡ b
 same_ok a b e = cc
 
+-- an answer is no fault
 pub no_ok : {A : Type 0} (e : ReadFault) (a : A) → ◌≡◌ {A = Result A ReadFault} (Err e) (Ok a) → ⊥
 no_ok e a h = absurd cc
 
@@ -34,6 +35,7 @@ heads a b xs ys e = (cc, cc)
 
 -- ---- data behind a constructor
 
+-- what spells a value behind its code
 abbrev pub SpellsBehind : Constructor → Tree → List ℕ → Type 0
 SpellsBehind (Fixed k f) t data_ = (n : ℕ) × (t ≡ Number k n) × SpellsNumber f (width k) n data_ × IsNumberOf k n
 SpellsBehind (Variable k s) t data_ = (octets : List ℕ) × (t ≡ Octets k octets) × SpellsOctets s octets data_ × AreOctetsOf k octets
@@ -49,6 +51,7 @@ own_behind c d t code own data_ text found e is spelled =
     let con : c ≡ d = same_constructor code c d found (ap find_code same.0 ∙ is) in
     subst (λ (x : Constructor). SpellsBehind x t data_) (sym con) (subst (λ (x : List ℕ). SpellsBehind d t x) (sym same.1) spelled)
 
+-- a spelling is its code and what is behind it
 pub behind : (c : Constructor) (t : Tree) (code : ℕ) (data_ : List ℕ) → find_code code ≡ Some c → Spells t (code ∷ data_) → SpellsBehind c t data_
 unfolding Spells
 behind c (Number k n) code data_ found h = own_behind c (Fixed k h.1) (Number k n) code h.0 data_ h.2 found h.4 h.3 (n, refl, h.5, h.6)
@@ -59,6 +62,7 @@ behind c (MapOf ps) code data_ found h = own_behind c (MapIn h.1) (MapOf ps) cod
 behind c (ArrayOf ds k ts) code data_ found h = own_behind c (ArrayIn h.1) (ArrayOf ds k ts) code h.0 data_ h.6 found h.8 h.7 (ds, k, ts, refl)
 behind c (Described d t) code data_ found h = absurd (no_zero code c found (heads code 0 data_ (h.0 ++ h.1) h.2).0)
 
+-- a map or an array is none of the other cases
 pub map_or_array : (c : Constructor) (t : Tree) (code : ℕ) (data_ : List ℕ) → ((s : SizeWidth) × (c ≡ MapIn s)) ⊎ ((s : SizeWidth) × (c ≡ ArrayIn s)) → find_code code ≡ Some c →
     Spells t (code ∷ data_) → IsOther t
 map_or_array c t code data_ (inl is) found spelled =
@@ -74,10 +78,12 @@ number_read : (w : Window) (k : Kind) (f : Form) (bytes : List ℕ) (t : Tree) (
     number_at w k f bytes ≡ Ok (h.0, rest)
 number_read w k f bytes t data_ rest h parts = ap (number_at w k f) parts ∙ number_again w k f h.0 data_ rest h.2 h.3
 
+-- no number that is spelled fails
 pub no_number_err : (w : Window) (k : Kind) (f : Form) (bytes : List ℕ) (e : ReadFault) → number_at w k f bytes ≡ Err e → (t : Tree) (data_ rest : List ℕ) → SpellsBehind (Fixed k f) t data_ →
     bytes ≡ data_ ++ rest → ⊥
 no_number_err w k f bytes e read t data_ rest h parts = no_ok e (h.0, rest) (sym read ∙ number_read w k f bytes t data_ rest h parts)
 
+-- a number that is read is the one that is spelled
 pub number_is : (w : Window) (k : Kind) (f : Form) (bytes : List ℕ) (n : ℕ) (after : List ℕ) → number_at w k f bytes ≡ Ok (n, after) → (t : Tree) (data_ rest : List ℕ) →
     SpellsBehind (Fixed k f) t data_ → bytes ≡ data_ ++ rest → (t ≡ Number k n) × IsNumberOf k n
 number_is w k f bytes n after read t data_ rest h parts =
@@ -92,6 +98,7 @@ null_is form.OneByte n data_ room h = absurd (omega arith)
 null_is form.OneSigned n data_ room h = absurd (omega arith)
 null_is form.Full n data_ room h = omega (arith, h.0)
 
+-- a null is the case Null
 pub null_case : (k : Kind) (f : Form) (t : Tree) (data_ : List ℕ) → k ≡ kind.Null → HasRoom f (width k) → SpellsBehind (Fixed k f) t data_ → t ≡ Number kind.Null 0
 null_case k f t data_ is room h =
     let room_is = subst (λ (j : Kind). HasRoom f (width j)) is room in
@@ -103,6 +110,7 @@ truth zero h = refl
 truth (suc zero) h = refl
 truth (suc (suc n)) h = absurd (omega arith)
 
+-- a boolean is its case
 pub boolean_case : (k : Kind) (t : Tree) (n : ℕ) → k ≡ kind.Boolean → (t ≡ Number k n) × IsNumberOf k n → t ≡ Number kind.Boolean (cond (eqb n 1) 1 0)
 boolean_case k t n is h =
     let lt : n < 2 = subst (λ (j : Kind). IsNumberOf j n) is h.1 in
@@ -117,11 +125,13 @@ other_number kind.Uint null boolean ubyte ushort uint ulong = absurd (uint refl)
 other_number kind.Ulong null boolean ubyte ushort uint ulong = absurd (ulong refl)
 other_number _ null boolean ubyte ushort uint ulong = tt
 
+-- a kind without a case of its own is Other
 pub other_case : (k : Kind) (f : Form) (t : Tree) (data_ : List ℕ) → (k ≡ kind.Null → ⊥) → (k ≡ kind.Boolean → ⊥) → (k ≡ kind.Ubyte → ⊥) → (k ≡ kind.Ushort → ⊥) → (k ≡ kind.Uint → ⊥) →
     (k ≡ kind.Ulong → ⊥) → SpellsBehind (Fixed k f) t data_ → IsOther t
 other_case k f t data_ null boolean ubyte ushort uint ulong h =
     subst (λ (x : Tree). IsOther x) (sym h.1) (other_number k null boolean ubyte ushort uint ulong)
 
+-- the four kinds of unsigned numbers
 pub unsigned_kind : (k : Kind) → (k ≡ kind.Ubyte) ⊎ ((k ≡ kind.Ushort) ⊎ ((k ≡ kind.Uint) ⊎ (k ≡ kind.Ulong))) → IsUnsigned k
 unsigned_kind k (inl e) = subst (λ (j : Kind). IsUnsigned j) (sym e) tt
 unsigned_kind k (inr (inl e)) = subst (λ (j : Kind). IsUnsigned j) (sym e) tt
@@ -140,6 +150,7 @@ size_read w k s bytes t data_ rest h parts =
     let front = big_bytes (size_len s) (length h.0) in
     ap (big_at w (size_len s)) (parts ∙ ap (λ (x : List ℕ). x ++ rest) h.2.1 ∙ append_assoc front h.0 rest) ∙ big_again w (size_len s) (length h.0) (h.0 ++ rest) h.2.0
 
+-- no size that is spelled fails
 pub no_size_err : (w : Window) (k : Kind) (s : SizeWidth) (bytes : List ℕ) (e : ReadFault) → big_at w (size_len s) bytes ≡ Err e → (t : Tree) (data_ rest : List ℕ) →
     SpellsBehind (Variable k s) t data_ → bytes ≡ data_ ++ rest → ⊥
 no_size_err w k s bytes e read t data_ rest h parts = no_ok e _ (sym read ∙ size_read w k s bytes t data_ rest h parts)
@@ -150,6 +161,7 @@ octets_read w k s bytes n tail counted t data_ rest h parts =
     let read = same_ok (n, tail) (length h.0, h.0 ++ rest) (sym counted ∙ size_read w k s bytes t data_ rest h parts) in
     ap (λ (x : ℕ × List ℕ). octets_at w x.0 x.1) read ∙ octets_again w (length h.0) h.0 rest refl
 
+-- nor do the bytes behind it
 pub no_octets_err : (w : Window) (k : Kind) (s : SizeWidth) (bytes : List ℕ) (n : ℕ) (tail : List ℕ) (e : ReadFault) → big_at w (size_len s) bytes ≡ Ok (n, tail) → octets_at w n tail ≡ Err e →
     (t : Tree) (data_ rest : List ℕ) → SpellsBehind (Variable k s) t data_ → bytes ≡ data_ ++ rest → ⊥
 no_octets_err w k s bytes n tail e counted taken t data_ rest h parts = no_ok e _ (sym taken ∙ octets_read w k s bytes n tail counted t data_ rest h parts)
@@ -174,12 +186,14 @@ list_block w s bytes t data_ rest h parts =
     let b = block_again w s (size_len s) (count_of h.0) h.1 data_ rest h.3 (omega arith) in
     (b.0, ap (block_at w s (size_len s)) parts ∙ b.1)
 
+-- nor does a list's block
 pub no_block_err : (w : Window) (s : SizeWidth) (bytes : List ℕ) (e : ReadFault) → block_at w s (size_len s) bytes ≡ Err e → (t : Tree) (data_ rest : List ℕ) → SpellsBehind (ListIn s) t data_ →
     bytes ≡ data_ ++ rest → ⊥
 no_block_err w s bytes e read t data_ rest h parts =
     let b = list_block w s bytes t data_ rest h parts in
     no_ok e _ (sym read ∙ b.1)
 
+-- the count of a list that is spelled
 pub list_count : (w : Window) (s : SizeWidth) (bytes : List ℕ) (b : Block) → block_at w s (size_len s) bytes ≡ Ok b → (t : Tree) (data_ rest : List ℕ) (h : SpellsBehind (ListIn s) t data_) →
     bytes ≡ data_ ++ rest
     → count_at b.within s false b.body ≡ Ok (count_of h.0, h.1)
@@ -188,10 +202,12 @@ list_count w s bytes b read t data_ rest h parts =
     let body : b.body ≡ big_bytes (size_len s) (count_of h.0) ++ h.1 = ap (λ (x : Block). x.body) (same_ok b _ (sym read ∙ found.1)) in
     ap (count_at b.within s false) body ∙ count_again b.within s false (count_of h.0) h.1 h.3.0 (λ e. absurd (let f : false ≡ true = e in cc))
 
+-- it does not fail
 pub no_count_err : (w : Window) (s : SizeWidth) (bytes : List ℕ) (b : Block) (e : ReadFault) → block_at w s (size_len s) bytes ≡ Ok b → count_at b.within s false b.body ≡ Err e →
     (t : Tree) (data_ rest : List ℕ) → SpellsBehind (ListIn s) t data_ → bytes ≡ data_ ++ rest → ⊥
 no_count_err w s bytes b e read counted t data_ rest h parts = no_ok e _ (sym counted ∙ list_count w s bytes b read t data_ rest h parts)
 
+-- a list is the case List, with its count and items
 pub list_case : (w : Window) (s : SizeWidth) (bytes : List ℕ) (b : Block) (n : ℕ) (items : List ℕ) → block_at w s (size_len s) bytes ≡ Ok b → count_at b.within s false b.body ≡ Ok (n, items) →
     (t : Tree) (code : ℕ) (data_ rest : List ℕ) → SpellsBehind (ListIn s) t data_ → bytes ≡ data_ ++ rest
     → (ts : Trees) × (head : List ℕ) × (t ≡ ListOf ts) × (n ≡ count_of ts) × (◌≡◌ {A = List ℕ} (code ∷ data_) (head ++ items)) × SpellAll ts items
@@ -203,6 +219,7 @@ list_case w s bytes b n items read counted t code data_ rest h parts =
     let text : data_ ≡ (whole ++ count) ++ items = h.3.2 ∙ sym (append_assoc whole count h.1) ∙ ap (λ (x : List ℕ). (whole ++ count) ++ x) (sym items_is) in
     (h.0, code ∷ (whole ++ count), h.2, ap (λ (x : ℕ × List ℕ). x.0) same, ap (λ (x : List ℕ). code ∷ x) text, subst (λ (x : List ℕ). SpellAll h.0 x) (sym items_is) h.4)
 
+-- so is an empty one
 pub empty_case : (t : Tree) (code : ℕ) (data_ : List ℕ) → SpellsBehind EmptyList t data_
     → (ts : Trees) × (head : List ℕ) × (t ≡ ListOf ts) × (0 ≡ count_of ts) × (◌≡◌ {A = List ℕ} (code ∷ data_) (head ++ [])) × SpellAll ts []
 unfolding Spells
@@ -235,6 +252,7 @@ opened text rest code after own c data_ e found is =
     let same = heads code own after (data_ ++ rest) (e ∙ ap (λ (b : List ℕ). b ++ rest) is) in
     (c, data_, ap find_code same.0 ∙ found, is ∙ ap (λ (x : ℕ). x ∷ data_) (sym same.0), same.1)
 
+-- a spelled value that is not described opens with a code
 pub opens : (t : Tree) (text rest : List ℕ) (code : ℕ) (after : List ℕ) → Spells t text → code ∷ after ≡ text ++ rest → (code ≡ 0 → ⊥) → Opened text rest code after
 unfolding Spells
 opens (Number k n) text rest code after h e nz = opened text rest code after h.0 (Fixed k h.1) h.2 e h.3 h.4
@@ -252,6 +270,7 @@ IsDescribed t text rest after = (d u : Tree) × (first second : List ℕ) × (t 
 not_zero : (text rest : List ℕ) (code : ℕ) (after : List ℕ) (own : ℕ) (c : Constructor) (data_ : List ℕ) → code ∷ after ≡ text ++ rest → find_code own ≡ Some c → text ≡ own ∷ data_ → code ≡ 0 → ⊥
 not_zero text rest code after own c data_ e found is z = no_zero own c found (sym (heads code own after (data_ ++ rest) (e ∙ ap (λ (b : List ℕ). b ++ rest) is)).0 ∙ z)
 
+-- a described one opens with 00
 pub described_opens : (t : Tree) (text rest : List ℕ) (code : ℕ) (after : List ℕ) → Spells t text → code ∷ after ≡ text ++ rest → code ≡ 0 → IsDescribed t text rest after
 unfolding Spells
 described_opens (Number k n) text rest code after h e z = absurd (not_zero text rest code after h.0 (Fixed k h.1) h.2 e h.3 h.4 z)
@@ -268,9 +287,11 @@ described_opens (Described d t) text rest code after h e z =
 pub allowed_is : (at code : ℕ) (c : Constructor) → find_code code ≡ Some c → allowed at true (find_code code) ≡ Ok c
 allowed_is at code c found = ap (allowed at true) found ∙ may_stand (is_container (kind_of c)) true at c (λ _. refl) refl
 
+-- a constructor of a spelled value is allowed
 pub no_allowed_err : (at code : ℕ) (c : Constructor) (e : ReadFault) → find_code code ≡ Some c → allowed at true (find_code code) ≡ Err e → ⊥
 no_allowed_err at code c e found read = no_ok e c (sym read ∙ allowed_is at code c found)
 
+-- and it is the one of its code
 pub constructor_is : (at code : ℕ) (c d : Constructor) → find_code code ≡ Some c → allowed at true (find_code code) ≡ Ok d → c ≡ d
 constructor_is at code c d found read = same_ok c d (sym (allowed_is at code c found) ∙ read)
 

@@ -26,7 +26,8 @@ use Rattle.amqp_types.specs.Decoding.{decoded}
 use Rattle.amqp_types.specs.Images.{has_key}
 use Rattle.amqp_types.specs.Kinds.{width, is_container}
 use Rattle.amqp_types.specs.Places.{place_of, IsPlain}
-use Rattle.amqp_types.specs.Reading.{Read, Part, Budget, Level, Block, Is, Gives, ◌>>=◌, after, unless, outermost, place, charge, behind, number_fault, is_beyond_ascii, octets_fault, octets_at}
+use Rattle.amqp_types.specs.InHand.{Budget, outermost, place}
+use Rattle.amqp_types.specs.Reading.{Read, Part, Level, Block, Is, Gives, ◌>>=◌, after, unless, charge, behind, number_fault, is_beyond_ascii, octets_fault, octets_at}
 use Rattle.amqp_types.specs.Reading.{big_at, form_at, number_at, sized_at, block_of, block_at, count_at, trees_at, distinct, pairs_at, ended, allowed, head_at, list_at, map_at, array_at, uncharged}
 use Rattle.amqp_types.specs.Reading.{item_by, described_at, value_by, inside, value_of}
 use Rattle.amqp_types.specs.Spelling.{sign_extended, size_len}
@@ -346,6 +347,7 @@ outermost_open free bytes = record { short = at_place free (length bytes) (Trunc
 
 -- ---- calls
 
+-- a fault stands within the bytes
 pub decode_placed : {V : Type 0} (view : V → Tree × List ℕ) (depth nodes : ℕ) (bytes : List ℕ) (r : Result V ReadFault) → Gives view r (decoded depth nodes bytes) →
     IfErr r (λ e. place_of e ≤ length bytes)
 decode_placed view depth nodes bytes (Ok x) is = tt
@@ -366,10 +368,12 @@ skip_bounds view depth bytes (Err e) is =
     let all : Fares (λ _. Unit {0}) (Bounds Uncounted (length bytes)) (after (value_of depth None bytes)) = then_fares _ _ _ (value_of depth None bytes) (λ x. Ok x.2) read (λ x _. tt) in
     subst (λ (d : Result (List ℕ) ReadFault). Fares (λ _. Unit {0}) (Bounds Uncounted (length bytes)) d) is all
 
+-- so does one of a skip
 pub skip_placed : {V : Type 0} (view : V → List ℕ) (depth : ℕ) (bytes : List ℕ) (r : Result V ReadFault) → Is view r (after (value_of depth None bytes)) → IfErr r (λ e. place_of e ≤ length bytes)
 skip_placed view depth bytes (Ok x) is = tt
 skip_placed view depth bytes (Err e) is = (skip_bounds view depth bytes (Err e) is).within
 
+-- which has none of keys, nodes or memory
 pub skip_plain : {V : Type 0} (view : V → List ℕ) (depth : ℕ) (bytes : List ℕ) (r : Result V ReadFault) → Is view r (after (value_of depth None bytes)) → IfErr r (λ e. IsPlain e)
 skip_plain view depth bytes (Ok x) is = tt
 skip_plain view depth bytes (Err e) is = (skip_bounds view depth bytes (Err e) is).plain tt

@@ -18,6 +18,7 @@ use Rattle.amqp_types.proofs.Canons.{canonical_spells}
 behind_both : (m n : ℕ) (old a b : List ℕ) → drop m a ≡ drop m old → drop (m + n) b ≡ drop (m + n) a → drop (m + n) b ≡ drop (m + n) old
 behind_both m n old a b first second = second ∙ sym (drop-drop n m a) ∙ ap (drop n) first ∙ drop-drop n m old
 
+-- a code, a size and bytes put one behind the other
 pub parts_put : (code : ℕ) (size bytes old a b new : List ℕ) → 1 + length size + length bytes ≤ length old
     → take 1 a ≡ code ∷ [] → drop 1 a ≡ drop 1 old
     → take (1 + length size) b ≡ take 1 a ++ size → drop (1 + length size) b ≡ drop (1 + length size) a
@@ -38,12 +39,15 @@ unsigned_ranged kind.Uint n is lt = (λ e. absurd cc, lt, tt)
 unsigned_ranged kind.Ulong n is lt = (λ e. absurd cc, lt, tt)
 unsigned_ranged _ n is lt = absurd is
 
+-- the canonical null spells it
 pub null_spelled : Spells (Number kind.Null 0) (canonical (Number kind.Null 0))
 null_spelled = canonical_spells (Number kind.Null 0) tt (λ e. absurd cc, omega arith, tt) tt
 
+-- so does a boolean
 pub boolean_spelled : (n : ℕ) → n < 2 → Spells (Number kind.Boolean n) (canonical (Number kind.Boolean n))
 boolean_spelled n lt = canonical_spells (Number kind.Boolean n) tt (λ e. absurd cc, omega arith, lt) tt
 
+-- and an unsigned number
 pub unsigned_spelled : (k : Kind) (n : ℕ) → IsUnsigned k → n < 256 ^ width k → Spells (Number k n) (canonical (Number k n))
 unsigned_spelled k n is lt = canonical_spells (Number k n) tt (unsigned_ranged k n is lt) tt
 
@@ -51,17 +55,21 @@ octets_spelled : (k : Kind) (octets : List ℕ) → IsOfOctets k → ((i : ℕ) 
     Spells (Octets k octets) (canonical (Octets k octets))
 octets_spelled k octets is bytes of_kind few = canonical_spells (Octets k octets) tt (is, bytes, of_kind) (lt-ltb (length octets) (2 ^ 32) few)
 
+-- a boolean in hand is its case
 pub boolean_scalar : (b is_true : Bool) (value : Peek) → b ≡ is_true → value ≡ peek.Boolean b → IsScalarOf (Number kind.Boolean (cond is_true 1 0)) value
 boolean_scalar b is_true value same is =
     subst (λ (p : Peek). IsScalarOf (Number kind.Boolean (cond is_true 1 0)) p) (sym (is ∙ ap peek.Boolean same)) refl
 
+-- what is put of a case spells it
 abbrev pub IsPutOf : Peek → List ℕ → List ℕ → ℕ → Type 0
 IsPutOf value old new n = (t : Tree) × IsScalarOf t value × Spells t (canonical t) × IsPut (canonical t) old new n
 
+-- what is put canonically spells a scalar
 pub scalar_put : (r : Option ℕ) (value : Peek) (t : Tree) (old new : List ℕ) → IsScalarOf t value → Spells t (canonical t) → IfSome r (IsPut (canonical t) old new) → IfSome r (IsPutOf value old new)
 scalar_put None value t old new is spelled h = tt
 scalar_put (Some n) value t old new is spelled h = (t, is, spelled, h)
 
+-- so does what is put of bytes
 pub octets_put : (r : Option ℕ) (value : Peek) (k : Kind) (octets old new : List ℕ) → IsOfOctets k → AreOctetsOf k octets → ((i : ℕ) → slice_index octets i < 256) →
     (length octets < 2 ^ 32 → IsScalarOf (Octets k octets) value)
     → IfSome r (λ n. length octets < 2 ^ 32) → IfSome r (IsPut (canonical (Octets k octets)) old new) → IfSome r (IsPutOf value old new)

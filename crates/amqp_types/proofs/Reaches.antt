@@ -19,7 +19,8 @@ use Rattle.amqp_types.specs.Codes.{find_code, kind_of}
 use Rattle.amqp_types.specs.Kinds.{width, is_container, is_partial}
 use Rattle.amqp_types.specs.Trees.{Tree, Number, Octets, ListOf, Described}
 use Rattle.amqp_types.specs.Spelling.{form_len, size_len}
-use Rattle.amqp_types.specs.Reading.{Part, Level, Block, ◌>>=◌, after, place, allowed, octets_at, big_at, octets_fault, number_at, form_at, sized_at, block_at, block_of, count_at, trees_at, list_at}
+use Rattle.amqp_types.specs.InHand.{place}
+use Rattle.amqp_types.specs.Reading.{Part, Level, Block, ◌>>=◌, after, allowed, octets_at, big_at, octets_fault, number_at, form_at, sized_at, block_at, block_of, count_at, trees_at, list_at}
 use Rattle.amqp_types.specs.Reading.{map_at, array_at, head_at, item_by, described_at, value_by}
 use Rattle.amqp_types.specs.Skipping.{rest_of, is_still, plain_width, counted, IsBody, constructor_after}
 use Rattle.amqp_types.proofs.Skips.{rest_of_number}
@@ -62,13 +63,16 @@ boolean_at : (w : Window) (bytes : List ℕ) → 1 ≤ length bytes → big_numb
 unfolding number_at form_at
 boolean_at w bytes le lt = rw (at_big w 1 bytes le, lt-ltb (big_number 1 bytes) 2 lt) refl
 
+-- a boolean's byte is passed
 pub boolean_rest : (w : Window) (bytes : List ℕ) (byte : ℕ) (rest : List ℕ) → bytes ≡ byte ∷ rest → byte < 2 → rest_of (number_at w kind.Boolean form.Full bytes) ≡ Ok (drop 1 bytes)
 boolean_rest w bytes byte rest parts lt = rw parts (boolean_at w (byte ∷ rest) (omega arith) (omega arith))
 
+-- so is a char
 pub char_rest : (w : Window) (bytes : List ℕ) → 4 ≤ length bytes → scalar (big_number 4 bytes) ≡ true → rest_of (number_at w kind.Char form.Full bytes) ≡ Ok (drop 4 bytes)
 unfolding number_at form_at
 char_rest w bytes le is = rw (at_big w 4 bytes le, is) refl
 
+-- so are bytes behind their size
 pub sized_rest : (w : Window) (k : Kind) (s : SizeWidth) (bytes : List ℕ) (n : ℕ) → n ≡ big_number (size_len s) bytes → size_len s + n ≤ length bytes
     → ((at : ℕ) → octets_fault k at (take n (drop (size_len s) bytes)) ≡ None)
     → rest_of (sized_at w k s bytes) ≡ Ok (drop (size_len s + n) bytes)
@@ -107,6 +111,7 @@ coded inner w code c rest total e h =
 one_on : (n code : ℕ) (bytes rest : List ℕ) → bytes ≡ code ∷ rest → drop n rest ≡ drop (1 + n) bytes
 one_on n code bytes rest parts = let more : 1 + n ≡ suc n = omega arith in rw (parts, more) refl
 
+-- a value is passed as its constructor's data are
 pub value_coded : (inner : Option Level) (w : Window) (code : ℕ) (c : Constructor) (bytes rest : List ℕ) (n : ℕ) → bytes ≡ code ∷ rest
     → allowed 0 (is_some inner) (find_code code) ≡ Ok c → after (item_by inner c w None rest) ≡ Ok (drop n rest)
     → after (value_by inner w 0 None bytes) ≡ Ok (drop (1 + n) bytes)
@@ -129,6 +134,7 @@ plain_found (Some (ListIn s)) holds n e = absurd cc
 plain_found (Some (MapIn s)) holds n e = absurd cc
 plain_found (Some (ArrayIn s)) holds n e = absurd cc
 
+-- one of fixed width by its width
 pub plain_value : (inner : Option Level) (w : Window) (code : ℕ) (bytes rest : List ℕ) (n : ℕ) → bytes ≡ code ∷ rest → plain_width (find_code code) ≡ Some n → n ≤ length rest
     → after (value_by inner w 0 None bytes) ≡ Ok (drop (1 + n) bytes)
 unfolding item_by
@@ -144,6 +150,7 @@ described_then level w (Ok x) first second e1 e2 =
     after_step (level.value w 0 None x.2) (λ v. Described x.0 v.0) (λ v. v.1) ∙ ap (λ (r : List ℕ). after (level.value w 0 None r)) (same_list x.2 first e1) ∙ e2
 described_then level w (Err d) first second e1 e2 = absurd cc
 
+-- a descriptor and what it describes are passed in turn
 pub described_rest : (level : Level) (at : ℕ) (w : Window) (bytes first second : List ℕ) → after (level.value w 0 None bytes) ≡ Ok first → after (level.value w 0 None first) ≡ Ok second
     → after (described_at (Some level) at w 0 None bytes) ≡ Ok second
 unfolding described_at
@@ -155,6 +162,7 @@ described : (level : Level) (w : Window) (code : ℕ) (rest : List ℕ) (total :
 unfolding value_by
 described level w code rest total zero_is h = rw (eq-eqb code 0 zero_is) (h (place w (code ∷ rest)))
 
+-- so a described value is
 pub value_described : (inner : Option Level) (level : Level) (w : Window) (code : ℕ) (bytes rest : List ℕ) (n : ℕ) → bytes ≡ code ∷ rest → code ≡ 0 → inner ≡ Some level
     → ((at : ℕ) → after (described_at (Some level) at w 0 None rest) ≡ Ok (drop n rest))
     → after (value_by inner w 0 None bytes) ≡ Ok (drop (1 + n) bytes)
@@ -164,6 +172,7 @@ value_described inner level w code bytes rest n parts zero_is some h =
 
 -- ---- items without inner ones
 
+-- items of fixed width are passed together
 pub fixed_items : (inner : Option Level) (w : Window) (k : Kind) (f : Form) (n : ℕ) (bytes : List ℕ) → is_partial k ≡ false → n * form_len f (width k) ≤ length bytes
     → after (trees_at (item_by inner (Fixed k f)) n w None bytes) ≡ Ok (drop (n * form_len f (width k)) bytes)
 unfolding trees_at item_by
@@ -177,10 +186,12 @@ fixed_items inner w k f (suc n) bytes e le =
     ∙ fixed_items inner w k f n (drop m bytes) e (omega (arith, more, length-drop m bytes))
     ∙ ap (λ (r : List ℕ). Ok r) (drop-drop (n * m) m bytes ∙ ap (λ (j : ℕ). drop j bytes) (sym more))
 
+-- a value is passed from a place on
 pub value_on : (inner : Option Level) (w : Window) (bytes : List ℕ) (at n : ℕ) → after (value_by inner w 0 None (drop at bytes)) ≡ Ok (drop n (drop at bytes))
     → after (value_by inner w 0 None (drop at bytes)) ≡ Ok (drop (at + n) bytes)
 value_on inner w bytes at n e = e ∙ ap (λ (r : List ℕ). Ok r) (drop-drop n at bytes)
 
+-- so is an item of variable width
 pub octets_item : (inner : Option Level) (w : Window) (k : Kind) (s : SizeWidth) (bytes : List ℕ) (at n : ℕ) → rest_of (sized_at w k s (drop at bytes)) ≡ Ok (drop n (drop at bytes))
     → after (item_by inner (Variable k s) w None (drop at bytes)) ≡ Ok (drop (at + n) bytes)
 unfolding item_by

@@ -14,6 +14,7 @@ use Rattle.std.proofs.lemmas.Map.Text.{is_eq-slice_cmp}
 use Rattle.std.proofs.lemmas.Slice.Eq.{bytes_eq-Decides}
 use Rattle.amqp_types.specs.Decoding.{is_among}
 
+-- bytes compare the same either way
 pub bytes_eq-swap : (xs ys : List ℕ) → bytes_eq xs ys ≡ bytes_eq ys xs
 bytes_eq-swap xs ys =
     let p = bytes_eq-Decides ys xs in

@@ -11,8 +11,10 @@ use Rattle.amqp_types.specs.declared.window.Window.{Window}
 use Rattle.amqp_types.specs.Kinds.{width, is_partial}
 use Rattle.amqp_types.specs.Spelling.{form_len, sign_extended}
 use Rattle.amqp_types.specs.Skipping.{rest_of}
-use Rattle.amqp_types.specs.Reading.{Read, ◌>>=◌, unless, place, number_fault, octets_at, big_at, form_at, number_at}
+use Rattle.amqp_types.specs.InHand.{place}
+use Rattle.amqp_types.specs.Reading.{Read, ◌>>=◌, unless, number_fault, octets_at, big_at, form_at, number_at}
 
+-- most kinds have every number
 pub no_fault : (k : Kind) (at n : ℕ) → is_partial k ≡ false → number_fault k at n ≡ None
 no_fault kind.Boolean at n e = absurd cc
 no_fault kind.Char at n e = absurd cc
@@ -25,6 +27,7 @@ after_cond false e x y same = ap (λ (rest : List ℕ). Ok rest) same
 after_big : (w : Window) (n : ℕ) (bytes : List ℕ) → rest_of (big_at w n bytes) ≡ rest_of (octets_at w n bytes)
 after_big w n bytes = after_cond (ltb (length bytes) n) w.short (big_number n bytes, drop n bytes) (take n bytes, drop n bytes) refl
 
+-- no bytes leave all of them
 pub nothing_taken : (w : Window) (bytes : List ℕ) → rest_of (octets_at w 0 bytes) ≡ Ok bytes
 nothing_taken w bytes = rw (le-ltb (length bytes) 0 (omega arith)) refl
 
@@ -44,6 +47,7 @@ after_form w form.OneByte n bytes = after_big w 1 bytes
 after_form w form.OneSigned n bytes = after_then (big_at w 1 bytes) (sign_extended n) ∙ after_big w 1 bytes
 after_form w form.Full n bytes = after_big w n bytes
 
+-- a number of such a kind is passed by its width
 pub rest_of_number : (w : Window) (k : Kind) (f : Form) (bytes : List ℕ) → is_partial k ≡ false → rest_of (number_at w k f bytes) ≡ rest_of (octets_at w (form_len f (width k)) bytes)
 unfolding number_at
 rest_of_number w k f bytes e = after_unless (form_at w f (width k) bytes) (number_fault k (place w bytes)) (λ n. no_fault k (place w bytes) n e) ∙ after_form w f (width k) bytes

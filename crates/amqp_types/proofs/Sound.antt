@@ -20,7 +20,8 @@ use Rattle.amqp_types.specs.declared.fault.ReadFault.TheVariants.{BadText, BadCh
 use Rattle.amqp_types.specs.declared.window.Window.{Window}
 use Rattle.amqp_types.specs.Kinds.{width}
 use Rattle.amqp_types.specs.Spelling.{sign_extended, size_len, SpellsNumber, SpellsOctets, IsNumberOf, AreOctetsOf}
-use Rattle.amqp_types.specs.Reading.{◌>>=◌, unless, place, number_fault, octets_fault, octets_at, big_at, form_at, number_at, sized_at, is_beyond_ascii}
+use Rattle.amqp_types.specs.InHand.{place}
+use Rattle.amqp_types.specs.Reading.{◌>>=◌, unless, number_fault, octets_fault, octets_at, big_at, form_at, number_at, sized_at, is_beyond_ascii}
 use Rattle.amqp_types.proofs.Octets.{IsBytes, IsBytes-drop, IsBytes-take, big_bytes-big_number}
 
 -- the value of a step that did not fail
@@ -33,6 +34,7 @@ pub guard_ok : {A : Type 0} (b : Bool) (d : ReadFault) (x y : A) → cond b (Err
 guard_ok true d x y e = absurd cc
 guard_ok false d x y e = (refl, cc)
 
+-- a check that passes found no fault
 pub unless_ok : {A : Type 0} (fault : Option ReadFault) (x y : A) → unless fault x ≡ Ok y → (fault ≡ None) × (x ≡ y)
 unless_ok None x y e = (refl, cc)
 unless_ok (Some d) x y e = absurd cc
@@ -40,6 +42,7 @@ unless_ok (Some d) x y e = absurd cc
 abbrev done : {A : Type 0} → A → Result A ReadFault
 done x = Ok x
 
+-- what two equal answers hold is the same
 pub ok_is : {A : Type 0} (x y : A) → done x ≡ done y → x ≡ y
 ok_is x y e = cc
 
@@ -48,9 +51,11 @@ pub record Takes (bytes text rest : List ℕ) : Type 0 where
   pub parts : bytes ≡ text ++ rest
   pub rest_fits : IsBytes rest
 
+-- bytes that are taken in turn are taken together
 pub Takes-then : (a x b y c : List ℕ) → Takes a x b → Takes b y c → Takes a (x ++ y) c
 Takes-then a x b y c p q = record { parts = p.parts ∙ ap (λ (t : List ℕ). x ++ t) q.parts ∙ sym (append_assoc x y c); rest_fits = q.rest_fits }
 
+-- bytes that are read stand there
 pub octets_sound : (w : Window) (n : ℕ) (bytes : List ℕ) (x : List ℕ × List ℕ) → IsBytes bytes → octets_at w n bytes ≡ Ok x → Takes bytes x.0 x.1 × (length x.0 ≡ n) × IsBytes x.0
 octets_sound w n bytes x fits e =
     let g = guard_ok (ltb (length bytes) n) w.short (take n bytes, drop n bytes) x e in
@@ -58,6 +63,7 @@ octets_sound w n bytes x fits e =
     subst (λ (p : List ℕ × List ℕ). Takes bytes p.0 p.1 × (length p.0 ≡ n) × IsBytes p.0) g.1
     (record { parts = sym (take-append-drop n bytes); rest_fits = IsBytes-drop n bytes fits }, omega (arith, length-take n bytes), IsBytes-take n bytes fits)
 
+-- so does a number of so many bytes
 pub big_sound : (w : Window) (n : ℕ) (bytes : List ℕ) (x : ℕ × List ℕ) → IsBytes bytes → big_at w n bytes ≡ Ok x → Takes bytes (big_bytes n x.0) x.1 × (x.0 < 256 ^ n)
 big_sound w n bytes x fits e =
     let g = guard_ok (ltb (length bytes) n) w.short (big_number n bytes, drop n bytes) x e in
@@ -72,6 +78,7 @@ byte_sound w bytes x fits e =
     let one : x.0 % 256 ≡ x.0 = omega (arith, t.1) in
     (subst (λ (b : ℕ). Takes bytes (b ∷ []) x.1) one t.0, t.1)
 
+-- one in any form
 pub form_sound : (w : Window) (f : Form) (n : ℕ) (bytes : List ℕ) (x : ℕ × List ℕ) → IsBytes bytes → form_at w f n bytes ≡ Ok x → (text : List ℕ) × Takes bytes text x.1 × SpellsNumber f n x.0 text
 unfolding form_at
 form_sound w form.Zero n bytes x fits e =
@@ -104,6 +111,7 @@ number_of_kind kind.Boolean at n e = ltb-true n 2 (boolean_sound (ltb n 2) at n 
 number_of_kind kind.Char at n e = char_sound _ at e
 number_of_kind _ at n e = tt
 
+-- a number of a kind
 pub number_sound : (w : Window) (k : Kind) (f : Form) (bytes : List ℕ) (x : ℕ × List ℕ) → IsBytes bytes → number_at w k f bytes ≡ Ok x
     → (text : List ℕ) × Takes bytes text x.1 × SpellsNumber f (width k) x.0 text × IsNumberOf k x.0
 unfolding number_at
@@ -136,6 +144,7 @@ octets_of_kind kind.String at octets e = IsUtf8-from_is_utf8 octets (text_sound 
 octets_of_kind kind.Symbol at octets e = IsAscii-from_position octets (unmapped _ _ e)
 octets_of_kind _ at octets e = tt
 
+-- and bytes behind their size
 pub sized_sound : (w : Window) (k : Kind) (s : SizeWidth) (bytes : List ℕ) (x : List ℕ × List ℕ) → IsBytes bytes → sized_at w k s bytes ≡ Ok x
     → (text : List ℕ) × Takes bytes text x.1 × SpellsOctets s x.0 text × AreOctetsOf k x.0
 unfolding sized_at

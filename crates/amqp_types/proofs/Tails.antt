@@ -32,5 +32,6 @@ width_within kind.Timestamp = omega arith
 width_within kind.Uuid = omega arith
 width_within _ = omega arith
 
+-- the last bytes of sixteen are the number's in its own width
 pub last_of_sixteen : (k : Kind) (x : ℕ) → drop (16 - width k) (big_bytes 16 x) ≡ big_bytes (width k) x
 last_of_sixteen k x = last_bytes (16 - width k) (width k) 16 x (omega (arith, width_within k))

@@ -14,13 +14,15 @@ use Rattle.amqp_types.specs.Codes.{find_code, kind_of}
 use Rattle.amqp_types.specs.Kinds.{width}
 use Rattle.amqp_types.specs.Trees.{Tree, Number, MapOf, ArrayOf, Trees, none, more, pair}
 use Rattle.amqp_types.specs.Spelling.{form_len}
-use Rattle.amqp_types.specs.Reading.{Read, Part, Budget, Level, Head, ◌>>=◌, after, place, allowed, octets_at, number_at, form_at, uncharged, trees_at, pairs_at, head_at, item_by, with_descriptor}
+use Rattle.amqp_types.specs.InHand.{Budget, place}
+use Rattle.amqp_types.specs.Reading.{Read, Part, Level, Head, ◌>>=◌, after, allowed, octets_at, number_at, form_at, uncharged, trees_at, pairs_at, head_at, item_by, with_descriptor}
 use Rattle.amqp_types.specs.Reading.{Block, block_at, count_at, big_at, ended, map_at, array_at}
 use Rattle.amqp_types.specs.declared.code.SizeWidth.{SizeWidth}
 use Rattle.amqp_types.specs.Spelling.{size_len}
 use Rattle.amqp_types.specs.Skipping.{constructor_after, rest_of, is_still}
 use Rattle.amqp_types.proofs.Skips.{rest_of_number, nothing_taken}
 
+-- what a step leaves is what the reading before it does
 pub after_step : {A B : Type 0} (read : Part A) (f : A × Budget × List ℕ → B) (g : A × Budget × List ℕ → Budget) → after (read >>= λ x. Ok (f x, g x, x.2)) ≡ after read
 after_step (Ok x) f g = refl
 after_step (Err e) f g = refl
@@ -73,10 +75,12 @@ module _ (one : Window → Budget → List ℕ → Part Tree) (w : Window) where
 no_octets : (w : Window) (n : ℕ) (bytes : List ℕ) → n ≡ 0 → rest_of (octets_at w n bytes) ≡ Ok bytes
 no_octets w n bytes e = subst (λ (k : ℕ). rest_of (octets_at w k bytes) ≡ Ok bytes) (sym e) (nothing_taken w bytes)
 
+-- the same of one that charges nothing
 pub uncharged_rest : {A : Type 0} (read : Read A) (tree : A → Tree) → after (uncharged None read tree) ≡ rest_of read
 uncharged_rest (Ok x) tree = refl
 uncharged_rest (Err e) tree = refl
 
+-- a number of no width leaves all bytes
 pub still_number : (w : Window) (k : Kind) (f : Form) (bytes : List ℕ) → form_len f (width k) ≡ 0 → rest_of (number_at w k f bytes) ≡ Ok bytes
 unfolding number_at form_at
 still_number w kind.Boolean form.Zero bytes e = refl
@@ -91,6 +95,7 @@ still_number w kind.Char form.OneSigned bytes e = absurd (omega arith)
 still_number w kind.Char form.Full bytes e = absurd (omega arith)
 still_number w k f bytes e = rest_of_number w k f bytes refl ∙ no_octets w (form_len f (width k)) bytes e
 
+-- so does an item without data
 pub still_item : (inner : Option Level) (c : Constructor) (w : Window) (bytes : List ℕ) → is_still c ≡ true → after (item_by inner c w None bytes) ≡ Ok bytes
 unfolding item_by
 still_item inner (Fixed k f) w bytes e = uncharged_rest (number_at w k f bytes) (Number k) ∙ still_number w k f bytes (eqb-true _ _ e)
@@ -138,6 +143,7 @@ module _ (level : Level) (w : Window) where
 not_odd : (b : Bool) (count : ℕ) → b ≡ eqb (count % 2) 1 → b ≡ false → 2 * (count / 2) ≡ count
 not_odd b count is e = let h = eqb-false (count % 2) 1 (sym is ∙ e) in omega arith
 
+-- a map is passed as twice as many values
 pub entries_as_values : (level : Level) (w : Window) (count : ℕ) (seen : Trees) (bytes : List ℕ) → 2 * (count / 2) ≡ count
     → after (pairs_at level seen (count / 2) w None bytes) ≡ after (trees_at (λ within. level.value within 0) count w None bytes)
 entries_as_values level w count seen bytes even =
@@ -223,6 +229,7 @@ after_ended w (b ∷ rest) behind t left = refl
 abbrev pub closed : Block → Result (List ℕ) ReadFault → Result (List ℕ) ReadFault
 closed block read = read >>= λ rest. ended block.within rest (tt {0}) >>= λ _. Ok block.behind
 
+-- a block is left where what is read in it ends
 pub closes : {A : Type 0} (block : Block) (read : Part A) (tree : A → Tree) (total : Result (List ℕ) ReadFault) → after read ≡ total
     → after (read >>= λ x. ended block.within x.2 (tree x.0, x.1, block.behind)) ≡ closed block total
 closes block (Ok x) tree total e = after_ended block.within x.2 block.behind (tree x.0) x.1 ∙ ap (closed block) e
@@ -240,6 +247,7 @@ even_count (Ok x) w bytes n rest fault e = chosen (eqb (x.0 % 2) 1) refl e
         number a b q = cc
 even_count (Err d) w bytes n rest fault e = absurd cc
 
+-- so a map is passed
 pub map_after : (level : Level) (w : Window) (s : SizeWidth) (bytes : List ℕ) (block : Block) (n : ℕ) (entries : List ℕ) (total : Result (List ℕ) ReadFault)
     → block_at w s (size_len s) bytes ≡ Ok block → count_at block.within s true block.body ≡ Ok (n, entries)
     → after (trees_at (λ within. level.value within 0) n block.within None entries) ≡ total
@@ -265,6 +273,7 @@ head_then level block n (Ok x) c items total e1 e2 =
     (ap (λ (k : Constructor). after (trees_at (level.item k) n block.within None x.2)) p.0 ∙ ap (λ (r : List ℕ). after (trees_at (level.item c) n block.within None r)) p.1 ∙ e2)
 head_then level block n (Err d) c items total e1 e2 = absurd cc
 
+-- and an array
 pub array_after : (level : Level) (w : Window) (s : SizeWidth) (bytes : List ℕ) (block : Block) (n : ℕ) (head : List ℕ) (c : Constructor) (items : List ℕ) (total : Result (List ℕ) ReadFault)
     → block_at w s (size_len s + 1) bytes ≡ Ok block → count_at block.within s false block.body ≡ Ok (n, head)
     → constructor_after (head_at (length head) level block.within None head) ≡ Ok (c, items)

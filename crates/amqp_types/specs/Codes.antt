@@ -65,13 +65,13 @@ HasRoom form.Full n = Unit {0}
 HasRoom _ n = 1 ≤ n
 
 -- what every row of the table has: a kind of fixed width with room for the form, or one of variable width
-abbrev pub IsSound : Constructor → Type 0
-IsSound (Fixed k f) = (fixed_width k ≢ None) × HasRoom f (width k) × (8 < width k → f ≡ form.Full)
-IsSound (Variable k s) = (fixed_width k ≡ None) × (is_container k ≡ false)
-IsSound EmptyList = Unit {0}
-IsSound (ListIn s) = Unit {0}
-IsSound (MapIn s) = Unit {0}
-IsSound (ArrayIn s) = Unit {0}
+abbrev pub FitsItsKind : Constructor → Type 0
+FitsItsKind (Fixed k f) = (fixed_width k ≢ None) × HasRoom f (width k) × (8 < width k → f ≡ form.Full)
+FitsItsKind (Variable k s) = (fixed_width k ≡ None) × (is_container k ≡ false)
+FitsItsKind EmptyList = Unit {0}
+FitsItsKind (ListIn s) = Unit {0}
+FitsItsKind (MapIn s) = Unit {0}
+FitsItsKind (ArrayIn s) = Unit {0}
 
 -- the kind that a constructor makes
 abbrev pub kind_of : Constructor → Kind

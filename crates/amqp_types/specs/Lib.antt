@@ -4,6 +4,7 @@ pub mod Trees
 pub mod Spelling
 pub mod Values
 pub mod Images
+pub mod InHand
 pub mod Reading
 pub mod Misreading
 pub mod Skipping

@@ -17,7 +17,7 @@ use Rattle.amqp_types.specs.Kinds.{width, is_container}
 use Rattle.amqp_types.specs.Codes.{find_code, kind_of}
 use Rattle.amqp_types.specs.Trees.{Tree, Trees, none, more, IsLawful, depth_of, nodes_in}
 use Rattle.amqp_types.specs.Spelling.{form_len, size_len, Spells, SpellsNumber, SpellsOctets, SpellsBlock, IsNumberOf}
-use Rattle.amqp_types.specs.Reading.{Budget, place}
+use Rattle.amqp_types.specs.InHand.{Budget, place}
 
 -- ---- what is left of depth and nodes
 

@@ -17,6 +17,7 @@ use Rattle.amqp_types.specs.declared.code.Constructor.TheVariants.{Fixed, Variab
 use Rattle.amqp_types.specs.declared.fault.ReadFault.{ReadFault}
 use Rattle.amqp_types.specs.declared.fault.ReadFault.TheVariants.{Truncated, UnknownCode, BadSize, BadCount, BadText, BadSymbol, BadChar, BadBoolean, DuplicateKey, TooDeep, TooManyNodes, NoMemory}
 use Rattle.amqp_types.specs.declared.window.Window.{Window}
+use Rattle.amqp_types.specs.InHand.{outermost, place, Budget}
 use Rattle.amqp_types.specs.Kinds.{width, is_container}
 use Rattle.amqp_types.specs.Codes.{find_code, kind_of}
 use Rattle.amqp_types.specs.Spelling.{sign_extended, size_len}
@@ -41,14 +42,6 @@ Is view (Err e) read = read ≡ Err e
 abbrev pub Gives : {X Y : Type 0} → (X → Y) → Result X ReadFault → Result Y ReadFault → Type 0
 Gives view (Ok x) read = read ≡ Ok (view x)
 Gives view (Err e) read = (e ≡ NoMemory) ⊎ (read ≡ Err e)
-
--- the outermost bytes: what ends too soon is truncated at their end
-abbrev pub outermost : List ℕ → Window
-outermost bytes = record { short = Truncated (length bytes); end = length bytes }
-
--- where the bytes that are left begin
-abbrev pub place : Window → List ℕ → ℕ
-place w bytes = w.end - length bytes
 
 -- the next n bytes
 abbrev pub octets_at : Window → ℕ → List ℕ → Read (List ℕ)
@@ -100,10 +93,6 @@ sized_at w k s bytes = do
   n ← big_at w (size_len s) bytes
   octets ← octets_at w n.0 n.1
   unless (octets_fault k (place w n.1) octets.0) octets
-
--- the nodes that may still be charged; None where they are not counted, and keys not compared
-abbrev pub Budget : Type 0
-Budget = Option ℕ
 
 -- what is read, the nodes left, and the bytes behind
 abbrev pub Part : Type 0 → Type 0

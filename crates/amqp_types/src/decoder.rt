@@ -1,9 +1,10 @@
 //! Reading a value and keeping it.
 
 ghost use Rattle.std.specs.Prelude.{◌≡◌, ◌⊎◌, ℕ, ◌+◌, ◌≤◌, List, ◌++◌, length, take, drop, IfOk, IfErr, Some, Ok};
-ghost use Rattle.amqp_types.specs.Codes.{IsSound, kind_of};
+ghost use Rattle.amqp_types.specs.Codes.{FitsItsKind, kind_of};
 ghost use Rattle.amqp_types.specs.Values.{view, views, pair_views};
-ghost use Rattle.amqp_types.specs.Reading.{Is, Gives, charge, item_by, described_at, value_by, trees_at, pairs_at, head_at, list_at, map_at, array_at, level_by, inside, outermost};
+ghost use Rattle.amqp_types.specs.InHand.{outermost};
+ghost use Rattle.amqp_types.specs.Reading.{Is, Gives, charge, item_by, described_at, value_by, trees_at, pairs_at, head_at, list_at, map_at, array_at, level_by, inside};
 ghost use Rattle.amqp_types.specs.Misreading.{AValue, Misread};
 ghost use Rattle.amqp_types.specs.Decoding.{decoded};
 ghost use Rattle.amqp_types.specs.Places.{place_of};
@@ -17,7 +18,7 @@ use crate::fault::ReadFault;
 use crate::keys::Keys;
 use crate::limits::Limits;
 use crate::scalar::{allowed, size_len, sized_at};
-use crate::scalar_value::{fixed_value, octets_value};
+use crate::scalar_value::{fixed_value, octets_value, small_value};
 use crate::skipper::{may_hold, one_less};
 use crate::value::Value;
 use crate::window::Window;
@@ -50,10 +51,30 @@ fn charge(nodes: usize, count: usize, at: usize) -> Result<usize, ReadFault>
     Ok(nodes - count)
 }
 
-/// The value at the front, the nodes left and the bytes behind it. It is charged `due` nodes.
+/// The value at the front, whose node is charged already, the nodes left and the bytes behind it.
+#[cycle(read)]
+#[inline(always)]
+fn read_value(
+    alloc: Global,
+    depth: usize,
+    w: Window,
+    nodes: usize,
+    bytes: &[u8],
+) -> Result<(Value, usize, &[u8]), ReadFault>
+    requires { length bytes.now ≤ w.end }
+    ensures read { Gives (λ x. (view x.0, Some x.1, x.2.now)) result (value_by (inside depth) w 0 (Some nodes) bytes.now) }
+    ensures rest { IfOk result (λ x. length x.2.now ≤ length bytes.now) }
+{
+    match small_value(bytes) {
+        Some((value, rest)) => Ok((value, nodes, rest)),
+        None => read_coded(alloc, depth, w, 0, nodes, bytes),
+    }
+}
+
+/// The value at the front by its code, the nodes left and the bytes behind it. It is charged `due` nodes.
 #[tactic(auto, unfolding(crate::specs::Reading::value_by))]
 #[cycle(read)]
-fn read_value(
+fn read_coded(
     alloc: Global,
     depth: usize,
     w: Window,
@@ -98,8 +119,8 @@ fn read_described(
         return Err(ReadFault::TooDeep(at));
     };
     let left = charge(nodes, due + 2, at)?;
-    let (descriptor, left, rest) = read_value(alloc, less, w, 0, left, bytes)?;
-    let (described, left, rest) = read_value(alloc, less, w, 0, left, rest)?;
+    let (descriptor, left, rest) = read_value(alloc, less, w, left, bytes)?;
+    let (described, left, rest) = read_value(alloc, less, w, left, rest)?;
     let value = Value::Described(Box::new(alloc, descriptor)?, Box::new(alloc, described)?);
     Ok((value, left, rest))
 }
@@ -116,7 +137,7 @@ fn read_item(
     bytes: &[u8],
 ) -> Result<(Value, usize, &[u8]), ReadFault>
     requires within { length bytes.now ≤ w.end }
-    requires sound { IsSound constructor }
+    requires sound { FitsItsKind constructor }
     ensures read { Gives (λ x. (view x.0, Some x.1, x.2.now)) result (item_by (inside depth) constructor w (Some nodes) bytes.now) }
     ensures rest { IfOk result (λ x. length x.2.now ≤ length bytes.now) }
 {
@@ -234,11 +255,11 @@ fn read_values(
     ensures read { Gives (λ x. (views x.0.items, Some x.1, x.2.now)) result (trees_at (λ within. (level_by (inside depth)).value within 0) count w (Some nodes) bytes.now) }
     ensures rest { IfOk result (λ x. length x.2.now ≤ length bytes.now) }
 {
-    let mut values = Vec::new(alloc);
+    let mut values = Vec::with_capacity(alloc, count.min(bytes.len()))?;
     let mut left = nodes;
     let mut rest = bytes;
     for _ in 0..count {
-        let (value, less, behind) = read_value(alloc, depth, w, 0, left, rest)?;
+        let (value, less, behind) = read_value(alloc, depth, w, left, rest)?;
         values.push(value)?;
         left = less;
         rest = behind;
@@ -258,11 +279,11 @@ fn read_items(
     bytes: &[u8],
 ) -> Result<(Vec<Value>, usize, &[u8]), ReadFault>
     requires within { length bytes.now ≤ w.end }
-    requires sound { IsSound constructor }
+    requires sound { FitsItsKind constructor }
     ensures read { Gives (λ x. (views x.0.items, Some x.1, x.2.now)) result (trees_at ((level_by (inside depth)).item constructor) count w (Some nodes) bytes.now) }
     ensures rest { IfOk result (λ x. length x.2.now ≤ length bytes.now) }
 {
-    let mut items = Vec::new(alloc);
+    let mut items = Vec::with_capacity(alloc, count.min(bytes.len()))?;
     let mut left = nodes;
     let mut rest = bytes;
     for _ in 0..count {
@@ -288,16 +309,16 @@ fn read_pairs(
     ensures read { Gives (λ x. (pair_views x.0.items, Some x.1, x.2.now)) result (pairs_at (level_by (inside depth)) trees.none count w (Some nodes) bytes.now) }
     ensures rest { IfOk result (λ x. length x.2.now ≤ length bytes.now) }
 {
-    let mut entries = Vec::new(alloc);
+    let mut entries = Vec::with_capacity(alloc, count.min(bytes.len() / 2))?;
     let mut keys = Keys::new(alloc);
     let mut left = nodes;
     let mut rest = bytes;
     for _ in 0..count {
-        let (key, less, behind) = read_value(alloc, depth, w, 0, left, rest)?;
+        let (key, less, behind) = read_value(alloc, depth, w, left, rest)?;
         if !keys.insert(alloc, &key)? {
             return Err(ReadFault::DuplicateKey(w.place(rest)));
         }
-        let (value, less, behind) = read_value(alloc, depth, w, 0, less, behind)?;
+        let (value, less, behind) = read_value(alloc, depth, w, less, behind)?;
         entries.push((key, value))?;
         left = less;
         rest = behind;
@@ -316,7 +337,7 @@ fn read_head(
 ) -> Result<(ArrayHead, usize, &[u8]), ReadFault>
     requires { length bytes.now ≤ w.end }
     ensures read { Gives (λ x. (record { descriptors = views x.0.descriptors.items; constructor = x.0.constructor }, Some x.1, x.2.now)) result (head_at (length bytes.now) (level_by (inside depth)) w (Some nodes) bytes.now) }
-    ensures sound { IfOk result (λ x. IsSound x.0.constructor) }
+    ensures sound { IfOk result (λ x. FitsItsKind x.0.constructor) }
     ensures rest { IfOk result (λ x. length x.2.now ≤ length bytes.now) }
 {
     let mut descriptors = Vec::new(alloc);
@@ -335,7 +356,7 @@ fn read_head(
             return Ok((head, left, after));
         }
         let paid = charge(left, 1, w.place(rest))?;
-        let (descriptor, less, behind) = read_value(alloc, depth, w, 0, paid, after)?;
+        let (descriptor, less, behind) = read_value(alloc, depth, w, paid, after)?;
         descriptors.push(descriptor)?;
         left = less;
         rest = behind;
@@ -348,7 +369,7 @@ fn decode_front(alloc: Global, bytes: &[u8], limits: Limits) -> Result<(Value, u
     ensures within { IfOk result (λ x. x.1 ≤ length bytes.now) }
     ensures exact { Gives (λ x. (view x.0, drop x.1 bytes.now)) result (decoded limits.depth limits.nodes bytes.now) }
 {
-    let (value, _, rest) = read_value(
+    let (value, _, rest) = read_coded(
         alloc,
         limits.depth,
         Window::of(bytes),

@@ -36,6 +36,49 @@ pub enum ReadFault {
     NoMemory,
 }
 
+impl ReadFault {
+    ghost use Rattle.std.specs.Prelude.{◌≢◌, MatchOption};
+    ghost use Rattle.amqp_types.specs.Places.{place_of};
+
+    /// Its place; `None` for `NoMemory`, which has none.
+    pub fn place(self) -> Option<usize>
+        ensures { MatchOption result (self ≡ NoMemory) (λ place. (place ≡ place_of self) × (self ≢ NoMemory)) }
+    {
+        match self {
+            ReadFault::Truncated(place)
+            | ReadFault::UnknownCode(place)
+            | ReadFault::BadSize(place)
+            | ReadFault::BadCount(place)
+            | ReadFault::BadText(place)
+            | ReadFault::BadSymbol(place)
+            | ReadFault::BadChar(place)
+            | ReadFault::BadBoolean(place)
+            | ReadFault::DuplicateKey(place)
+            | ReadFault::TooDeep(place)
+            | ReadFault::TooManyNodes(place) => Some(place),
+            ReadFault::NoMemory => None,
+        }
+    }
+
+    /// Its name, without the place.
+    pub fn name(self) -> &'static str {
+        match self {
+            ReadFault::Truncated(_) => "Truncated",
+            ReadFault::UnknownCode(_) => "UnknownCode",
+            ReadFault::BadSize(_) => "BadSize",
+            ReadFault::BadCount(_) => "BadCount",
+            ReadFault::BadText(_) => "BadText",
+            ReadFault::BadSymbol(_) => "BadSymbol",
+            ReadFault::BadChar(_) => "BadChar",
+            ReadFault::BadBoolean(_) => "BadBoolean",
+            ReadFault::DuplicateKey(_) => "DuplicateKey",
+            ReadFault::TooDeep(_) => "TooDeep",
+            ReadFault::TooManyNodes(_) => "TooManyNodes",
+            ReadFault::NoMemory => "NoMemory",
+        }
+    }
+}
+
 impl From<AllocError> for ReadFault {
     ghost from_gives = { λ _ e. e ≡ NoMemory };
 

@@ -32,6 +32,38 @@ pub enum Kind {
     Array,
 }
 
+impl Kind {
+    /// The name of the type in the standard's table. [1.6]
+    pub fn name(self) -> &'static str {
+        match self {
+            Kind::Null => "null",
+            Kind::Boolean => "boolean",
+            Kind::Ubyte => "ubyte",
+            Kind::Ushort => "ushort",
+            Kind::Uint => "uint",
+            Kind::Ulong => "ulong",
+            Kind::Byte => "byte",
+            Kind::Short => "short",
+            Kind::Int => "int",
+            Kind::Long => "long",
+            Kind::Float => "float",
+            Kind::Double => "double",
+            Kind::Decimal32 => "decimal32",
+            Kind::Decimal64 => "decimal64",
+            Kind::Decimal128 => "decimal128",
+            Kind::Char => "char",
+            Kind::Timestamp => "timestamp",
+            Kind::Uuid => "uuid",
+            Kind::Binary => "binary",
+            Kind::String => "string",
+            Kind::Symbol => "symbol",
+            Kind::List => "list",
+            Kind::Map => "map",
+            Kind::Array => "array",
+        }
+    }
+}
+
 /// The bytes of the full form of a fixed-width kind; 0 for a kind of variable width.
 pub(crate) fn width(kind: Kind) -> usize
     ensures { result ≡ width kind }

@@ -1,7 +1,7 @@
 //! The outermost case of a spelled value, with its parts lent.
 
 ghost use Rattle.std.specs.Prelude.{◌≡◌, ℕ, ◌≤◌, List, ◌∷◌, ◌++◌, length};
-ghost use Rattle.amqp_types.specs.Codes.{IsSound};
+ghost use Rattle.amqp_types.specs.Codes.{FitsItsKind};
 ghost use Rattle.amqp_types.specs.Peeks.{BeginsWithValue, IsOutermost, IsFound, IsFoundBehind};
 ghost use Rattle.amqp_types.specs.Spelling.{Spells};
 ghost use Rattle.amqp_types.specs.Trees.{Tree, Described};
@@ -17,7 +17,7 @@ use crate::window::Window;
 
 fn number_case(w: Window, kind: Kind, form: Form, bytes: &[u8]) -> Result<Peek<'_>, ReadFault>
     requires within { length bytes.now ≤ w.end }
-    requires sound { IsSound (Constructor.Fixed kind form) }
+    requires sound { FitsItsKind (Constructor.Fixed kind form) }
     ensures { IsFoundBehind (Constructor.Fixed kind form) bytes.now result }
 {
     match kind {
@@ -36,7 +36,7 @@ fn number_case(w: Window, kind: Kind, form: Form, bytes: &[u8]) -> Result<Peek<'
 
 fn octets_case(w: Window, kind: Kind, size: SizeWidth, bytes: &[u8]) -> Result<Peek<'_>, ReadFault>
     requires within { length bytes.now ≤ w.end }
-    requires sound { IsSound (Constructor.Variable kind size) }
+    requires sound { FitsItsKind (Constructor.Variable kind size) }
     ensures { IsFoundBehind (Constructor.Variable kind size) bytes.now result }
 {
     let (len, rest) = w.big(size_len(size), bytes)?;
@@ -74,7 +74,7 @@ fn described_case(bytes: &[u8]) -> Result<Peek<'_>, ReadFault>
 /// The case of a value whose constructor stands in front of the bytes.
 fn item_case(constructor: Constructor, w: Window, bytes: &[u8]) -> Result<Peek<'_>, ReadFault>
     requires within { length bytes.now ≤ w.end }
-    requires sound { IsSound constructor }
+    requires sound { FitsItsKind constructor }
     ensures { IsFoundBehind constructor bytes.now result }
 {
     match constructor {

@@ -3,7 +3,7 @@
 ghost use Rattle.std.specs.Prelude.{◌≡◌, ℕ, List, ◌∷◌, ◌+◌, ◌≤◌, ◌<◌, ◌^◌, length, IfOk, IfSome, IfNone};
 ghost use Rattle.std.specs.List.{position};
 ghost use Rattle.std.specs.Str.{IsAscii};
-ghost use Rattle.amqp_types.specs.Codes.{IsSound, find_code, kind_of};
+ghost use Rattle.amqp_types.specs.Codes.{FitsItsKind, find_code, kind_of};
 ghost use Rattle.amqp_types.specs.Kinds.{width, is_container};
 ghost use Rattle.amqp_types.specs.Spelling.{sign_extended, size_len, IsNumberOf, AreOctetsOf};
 ghost use Rattle.amqp_types.specs.Reading.{Is, is_beyond_ascii, octets_fault, form_at, number_at, sized_at, allowed};
@@ -17,7 +17,7 @@ use crate::window::Window;
 #[inline(always)]
 pub fn allowed(at: usize, code: u8, holds: bool) -> Result<Constructor, ReadFault>
     ensures read { Is (λ c. c) result (allowed at holds (find_code code)) }
-    ensures sound { IfOk result IsSound }
+    ensures sound { IfOk result FitsItsKind }
 {
     match find_code(code) {
         None => Err(ReadFault::UnknownCode(at)),
@@ -28,7 +28,7 @@ pub fn allowed(at: usize, code: u8, holds: bool) -> Result<Constructor, ReadFaul
 
 /// Whether values of the constructor hold others.
 fn is_container(constructor: Constructor) -> bool
-    requires { IsSound constructor }
+    requires { FitsItsKind constructor }
     ensures { result ≡ is_container (kind_of constructor) }
 {
     match constructor {

@@ -1,13 +1,15 @@
 //! Values that hold no others, from their data.
 
-ghost use Rattle.std.specs.Prelude.{◌≡◌, ◌≢◌, ◌^◌, ◌<◌, ◌≤◌, length, IfOk, IfErr, None, Ok, false};
+ghost use Rattle.std.specs.Prelude.{◌≡◌, ◌≢◌, ℕ, ◌^◌, ◌<◌, ◌≤◌, List, ◌∷◌, length, Option, IfOk, IfErr, IfSome, Some, None, Ok, false};
 ghost use Rattle.byteorder.specs.Endian.{big_number};
 ghost use Rattle.amqp_types.specs.Kinds.{fixed_width, is_container, width};
-ghost use Rattle.amqp_types.specs.Codes.{IsSound};
+ghost use Rattle.amqp_types.specs.Codes.{FitsItsKind};
 ghost use Rattle.amqp_types.specs.Spelling.{IsNumberOf, AreOctetsOf};
 ghost use Rattle.amqp_types.specs.Trees.{Number, Octets};
 ghost use Rattle.amqp_types.specs.Values.{view};
-ghost use Rattle.amqp_types.specs.Reading.{Is, Budget, uncharged, number_at, big_at};
+ghost use Rattle.amqp_types.specs.InHand.{Budget};
+ghost use Rattle.amqp_types.specs.Reading.{Is, Level, uncharged, number_at, big_at, value_by};
+ghost use Rattle.amqp_types.specs.declared.window.Window.{Window};
 
 use crate::code::{Constructor, Form};
 use crate::fault::ReadFault;
@@ -67,7 +69,7 @@ pub fn fixed_value(
     bytes: &[u8],
 ) -> Result<(Value, &[u8]), ReadFault>
     requires within { length bytes.now ≤ w.end }
-    requires sound { IsSound (Constructor.Fixed kind form) }
+    requires sound { FitsItsKind (Constructor.Fixed kind form) }
     ensures read { (left : Budget) → Is (λ x. (view x.0, left, x.1.now)) result (uncharged left (number_at w kind form bytes.now) (Number kind)) }
     ensures rest { IfOk result (λ x. length x.1.now ≤ length bytes.now) }
 {
@@ -86,6 +88,50 @@ pub fn fixed_value(
             Ok((number_value(kind, number), rest))
         }
     }
+}
+
+/// The value of a code that has no data, where it holds no others.
+#[inline(always)]
+fn bare_value(code: u8) -> Option<Value>
+    ensures { IfSome result (λ v. (inner : Option Level) (w : Window) (left : ℕ) (rest : List ℕ) → value_by inner w 0 (Some left) (code ∷ rest) ≡ Ok (view v, Some left, rest)) }
+{
+    let value = match code {
+        0x40 => Value::Null,
+        0x41 => Value::Boolean(true),
+        0x42 => Value::Boolean(false),
+        0x43 => Value::Uint(0),
+        0x44 => Value::Ulong(0),
+        _ => return None,
+    };
+    Some(value)
+}
+
+/// The value of an unsigned number's code with one byte behind it.
+#[inline(always)]
+fn byte_value(code: u8, byte: u8) -> Option<Value>
+    ensures { IfSome result (λ v. (inner : Option Level) (w : Window) (left : ℕ) (rest : List ℕ) → value_by inner w 0 (Some left) (code ∷ byte ∷ rest) ≡ Ok (view v, Some left, rest)) }
+{
+    let value = match code {
+        0x50 => Value::Ubyte(byte),
+        0x52 => Value::Uint(u32::from(byte)),
+        0x53 => Value::Ulong(u64::from(byte)),
+        _ => return None,
+    };
+    Some(value)
+}
+
+/// The value in front and the bytes behind it, where that is one with no data or an unsigned number of one byte.
+#[inline(always)]
+pub fn small_value(bytes: &[u8]) -> Option<(Value, &[u8])>
+    ensures read { IfSome result (λ x. (inner : Option Level) (w : Window) (left : ℕ) → value_by inner w 0 (Some left) bytes.now ≡ Ok (view x.0, Some left, x.1.now)) }
+    ensures rest { IfSome result (λ x. length x.1.now ≤ length bytes.now) }
+{
+    let (code, rest) = bytes.split_first()?;
+    if let Some(value) = bare_value(*code) {
+        return Some((value, rest));
+    }
+    let (byte, behind) = rest.split_first()?;
+    Some((byte_value(*code, *byte)?, behind))
 }
 
 /// The value that bytes of the kind are.

@@ -2,9 +2,10 @@
 
 ghost use Rattle.std.specs.Prelude.{◌≡◌, ℕ, ◌+◌, ◌≤◌, List, ◌++◌, length, take, drop, None, IfOk, IfErr, MatchOption, is_some, Some, Ok};
 ghost use Rattle.amqp_types.specs.Kinds.{width};
-ghost use Rattle.amqp_types.specs.Codes.{IsSound};
+ghost use Rattle.amqp_types.specs.Codes.{FitsItsKind};
 ghost use Rattle.amqp_types.specs.Spelling.{form_len};
-ghost use Rattle.amqp_types.specs.Reading.{Is, after, number_at, trees_at, head_at, list_at, map_at, array_at, item_by, described_at, value_by, level_by, inside, outermost, value_of};
+ghost use Rattle.amqp_types.specs.InHand.{outermost};
+ghost use Rattle.amqp_types.specs.Reading.{Is, after, number_at, trees_at, head_at, list_at, map_at, array_at, item_by, described_at, value_by, level_by, inside, value_of};
 ghost use Rattle.amqp_types.specs.Trees.{Tree, depth_of};
 ghost use Rattle.amqp_types.specs.Spelling.{Spells};
 ghost use Rattle.amqp_types.specs.Misreading.{AValue, Misread};
@@ -15,7 +16,7 @@ use crate::block::{block_at, count_at, ended};
 use crate::code::{Constructor, Form, SizeWidth};
 use crate::fault::ReadFault;
 use crate::kind::{Kind, is_partial, width};
-use crate::lengths::value_len;
+use crate::quick_skip::value_len;
 use crate::scalar::{allowed, number_at, size_len, sized_at};
 use crate::window::Window;
 
@@ -32,7 +33,7 @@ pub fn form_len(kind: Kind, form: Form) -> usize
 
 fn skip_number(w: Window, kind: Kind, form: Form, bytes: &[u8]) -> Result<&[u8], ReadFault>
     requires within { length bytes.now ≤ w.end }
-    requires sound { IsSound (Constructor.Fixed kind form) }
+    requires sound { FitsItsKind (Constructor.Fixed kind form) }
     ensures read { Is (λ r. r.now) result (rest_of (number_at w kind form bytes.now)) }
     ensures rest { IfOk result (λ r. length r.now ≤ length bytes.now) }
 {
@@ -114,7 +115,7 @@ fn skip_item(
     bytes: &[u8],
 ) -> Result<&[u8], ReadFault>
     requires within { length bytes.now ≤ w.end }
-    requires sound { IsSound constructor }
+    requires sound { FitsItsKind constructor }
     ensures read { Is (λ r. r.now) result (after (item_by (inside depth) constructor w None bytes.now)) }
     ensures rest { IfOk result (λ r. length r.now ≤ length bytes.now) }
 {
@@ -207,7 +208,7 @@ fn skip_items(
     bytes: &[u8],
 ) -> Result<&[u8], ReadFault>
     requires within { length bytes.now ≤ w.end }
-    requires sound { IsSound constructor }
+    requires sound { FitsItsKind constructor }
     ensures read { Is (λ r. r.now) result (after (trees_at ((level_by (inside depth)).item constructor) count w None bytes.now)) }
     ensures rest { IfOk result (λ r. length r.now ≤ length bytes.now) }
 {
@@ -226,7 +227,7 @@ fn skip_items(
 fn skip_head(depth: usize, w: Window, bytes: &[u8]) -> Result<(Constructor, &[u8]), ReadFault>
     requires { length bytes.now ≤ w.end }
     ensures read { Is (λ x. (x.0, x.1.now)) result (constructor_after (head_at (length bytes.now) (level_by (inside depth)) w None bytes.now)) }
-    ensures sound { IfOk result (λ x. IsSound x.0) }
+    ensures sound { IfOk result (λ x. FitsItsKind x.0) }
     ensures rest { IfOk result (λ x. length x.1.now ≤ length bytes.now) }
 {
     let mut rest = bytes;

@@ -12,7 +12,8 @@ pub struct Window {
 
 impl Window {
     ghost use Rattle.std.specs.Prelude.{◌≡◌, ◌+◌, ◌≤◌, ◌<◌, ◌^◌, length, IfOk};
-    ghost use Rattle.amqp_types.specs.Reading.{Is, outermost, place, octets_at, big_at};
+    ghost use Rattle.amqp_types.specs.InHand.{outermost, place};
+    ghost use Rattle.amqp_types.specs.Reading.{Is, octets_at, big_at};
 
     pub fn of(bytes: &[u8]) -> Window
         ensures { result ≡ outermost bytes.now }

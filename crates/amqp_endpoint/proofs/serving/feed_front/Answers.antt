@@ -6,10 +6,12 @@ use Rattle.amqp_frame.specs.Splits.{IsOver}
 use Rattle.amqp_frame.specs.declared.units.Stage.{Stage}
 use Rattle.amqp_endpoint.specs.Connections.{ConnectionState, is_dead}
 use Rattle.amqp_endpoint.specs.declared.serving.ServeFault.{ServeFault}
-use Rattle.amqp_endpoint.specs.declared.serving.ServeFault.TheVariants.{Write}
-use Rattle.amqp_endpoint.specs.Serving.{reading, stand_told, Served, BrokeOff}
+use Rattle.amqp_endpoint.specs.declared.event.Outcome.{Outcome}
+use Rattle.amqp_endpoint.specs.declared.serving.ServeFault.TheVariants.{Write, NoMemory}
+use Rattle.amqp_endpoint.specs.Serving.{reading, stand_told, Served, BrokeOff, IsStarved}
+use Rattle.amqp_endpoint.specs.Steps.{EndpointState, IsFed}
 use Rattle.amqp_endpoint.proofs.Servings.{if_err, served_on, broke_on, broke_before}
-use Rattle.amqp_endpoint.proofs.ServingFeeds.{waits_before, fed_idle, fed_some, feed_served}
+use Rattle.amqp_endpoint.proofs.ServingFeeds.{waits_before, fed_idle, fed_some, fed_starved, feed_served}
 use Rattle.amqp_endpoint.proofs.serving.feed_front.Goals as goal
 
 pub returns-in_err-write_out-clause-begun : goal.returns-in_err-write_out-clause-begun
@@ -41,6 +43,19 @@ returns-in_err-follow-clause-begun g c =
     (subst (λ (e : ServeFault). BrokeOff c.args.policy e reading piece s u w w2 k k1) (sym p.2) (broke_before (take used piece ++ []) (drop used piece) piece whole
     (λ e. c.in_err-follow.ensures.read (ap Err e)) broke))
 
+pub returns-in_err-follow-clause-starved : goal.returns-in_err-follow-clause-starved
+returns-in_err-follow-clause-starved g c = λ is.
+    let s = c.write_out.new.endpoint in
+    let t = c.feed-fed.new.self in
+    let piece = c.args.piece.now in
+    let used = c.feed-fed.result.used in
+    let alive : is_dead s.connection.phase ≡ false = ap (λ (x : ConnectionState). is_dead x.phase) c.in_ok-write_out.ensures.connection ∙ c.requires.alive in
+    let p = err_from_is_err_and c.from_residual-in_err-follow.result c.from_residual-in_err-follow.ensures.1 in
+    let same : c.in_err-follow.field-0.0 ≡ NoMemory = cc in
+    let kept = c.in_err-follow.ensures.starved (ap Err same) in
+    subst (λ (x : EndpointState). IsStarved x) (sym kept.1)
+    (fed_starved s t piece used c.holds_a_header.ensures alive c.in_ok-write_out.ensures.empty (subst (λ (o : Outcome). IsFed s t piece used o) kept.0 c.feed-fed.ensures))
+
 pub returns-clause-some : goal.returns-clause-some
 returns-clause-some g c = λ idle some.
     let s = c.write_out.new.endpoint in
@@ -53,7 +68,7 @@ pub returns-clause-idle : goal.returns-clause-idle
 returns-clause-idle g c = λ u waits.
     let s = c.write_out.new.endpoint in
     let alive : is_dead s.connection.phase ≡ false = ap (λ (x : ConnectionState). is_dead x.phase) c.in_ok-write_out.ensures.connection ∙ c.requires.alive in
-    fed_idle s c.feed-fed.new.self c.args.piece.now c.feed-fed.result.used c.feed-fed.result.outcome alive c.in_ok-write_out.ensures.empty c.in_ok-follow.ensures.starved c.feed-fed.ensures
+    fed_idle s c.feed-fed.new.self c.args.piece.now c.feed-fed.result.used c.feed-fed.result.outcome alive c.in_ok-write_out.ensures.empty c.in_ok-follow.ensures.fed c.feed-fed.ensures
     u (waits_before c.feed-fed.new.self.input c.follow.new.endpoint.input u c.in_ok-follow.ensures.works.input waits)
 
 pub returns-clause-served : goal.returns-clause-served

@@ -5,7 +5,7 @@ use Rattle.amqp_perform.specs.declared.descriptor.Descriptor.{Descriptor}
 use Rattle.amqp_perform.specs.declared.performative.Performative.TheVariants as performative
 use Rattle.amqp_perform.specs.declared.performative.Transfer.{Transfer}
 use Rattle.amqp_perform.specs.Cells.{Cell}
-use Rattle.amqp_perform.specs.Reading.{IsRead}
+use Rattle.amqp_perform.specs.BodyReading.{IsRead}
 use Rattle.amqp_endpoint.specs.Acting.{HasDone}
 use Rattle.amqp_endpoint.specs.Fields.{Read, read_of}
 use Rattle.amqp_endpoint.specs.Lines.{Line, body_line, read_line}

@@ -1,4 +1,4 @@
-use Rattle.amqp_perform.specs.Reading.{body_at}
+use Rattle.amqp_perform.specs.BodyReading.{body_at}
 use Rattle.amqp_endpoint.specs.Lines.{is_read_close}
 use Rattle.amqp_endpoint.proofs.Staying.{not_close_done}
 use Rattle.amqp_endpoint.proofs.units.await_close.Goals as goal

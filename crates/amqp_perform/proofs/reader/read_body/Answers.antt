@@ -1,7 +1,7 @@
 use Rattle.std.proofs.Common.{◌≡◌, ℕ, ◌-◌, ◌≤◌, List, length, drop, Some, Ok, Err, sym, ap, ◌∙◌, arith}
 use Rattle.amqp_types.proofs.Octets.{IsBytes}
 use Rattle.amqp_perform.specs.Performatives.{type_of, performative_cells}
-use Rattle.amqp_perform.specs.Reading.{IsRead}
+use Rattle.amqp_perform.specs.BodyReading.{IsRead}
 use Rattle.amqp_perform.proofs.BodyLaws.{payload_behind, read_found, read_only, read_fault}
 use Rattle.amqp_perform.proofs.reader.read_body.Goals as goal
 

@@ -3,7 +3,7 @@ use Rattle.std.specs.Prelude.{◌≢◌}
 use Rattle.amqp_perform.specs.declared.descriptor.Descriptor.{Descriptor}
 use Rattle.amqp_perform.specs.declared.descriptor.Descriptor.TheVariants as of_type
 use Rattle.amqp_perform.specs.Cells.{Cell, ◌>>=◌}
-use Rattle.amqp_perform.specs.Reading.{ListAt, described_at, performative_at, body_at, IsOfOther}
+use Rattle.amqp_perform.specs.BodyReading.{ListAt, described_at, performative_at, body_at, IsOfOther}
 use Rattle.amqp_perform.proofs.reader.transfer_at.Goals as goal
 
 -- a body that another type describes

@@ -92,7 +92,7 @@ read_item-returns-in_ok-value-in-Fixed-clause-read t c = rw c.in-Fixed.is (c.in_
 
 pub read_items-returns-in_err-item-clause-read : goal.read_items-returns-in_err-item-clause-read
 read_items-returns-in_err-item-clause-read t c =
-    let p = err_from_is_err_and c.from_residual.result c.from_residual.ensures.1 in
+    let p = err_from_is_err_and c.from_residual-in_err-item.result c.from_residual-in_err-item.ensures.1 in
     rw (p.1, p.2) (stops (item_by (inside c.args.depth) c.args.constructor) c.args.w (views c.loop.items.items) c.args.count c.loop.counter c.loop.left c.loop.rest.now _ _ c.loop-test.true
     c.in_err-item.ensures.read c.loop.invariant.same)
 
@@ -109,7 +109,7 @@ read_items-returns-clause-read t c =
 
 pub read_pairs-returns-in_err-key-clause-read : goal.read_pairs-returns-in_err-key-clause-read
 read_pairs-returns-in_err-key-clause-read t c =
-    let p = err_from_is_err_and c.from_residual.result c.from_residual.ensures.1 in
+    let p = err_from_is_err_and c.from_residual-in_err-key.result c.from_residual-in_err-key.ensures.1 in
     rw (p.1, p.2) (key_stops (level_by (inside c.args.depth)) c.args.w (pair_views c.loop.entries.items) (keys_before none c.loop.entries.items) c.args.count c.loop.counter c.loop.left
     c.loop.rest.now _ _ c.loop-test.true c.in_err-key.ensures.read c.loop.invariant.same)
 
@@ -150,7 +150,7 @@ read_pairs-returns-clause-read t c =
 
 pub read_values-returns-in_err-value-clause-read : goal.read_values-returns-in_err-value-clause-read
 read_values-returns-in_err-value-clause-read t c =
-    let p = err_from_is_err_and c.from_residual.result c.from_residual.ensures.1 in
+    let p = err_from_is_err_and c.from_residual-in_err-value.result c.from_residual-in_err-value.ensures.1 in
     rw (p.1, p.2) (stops (λ within. value_by (inside c.args.depth) within 0) c.args.w (views c.loop.values.items) c.args.count c.loop.counter c.loop.left c.loop.rest.now _ _ c.loop-test.true
     c.in_err-value.ensures.read c.loop.invariant.same)
 

@@ -8,34 +8,37 @@ use Rattle.amqp_types.proofs.Keeps.{behind_values, behind_pairs, behind_descript
 use Rattle.amqp_types.proofs.decoder.+read.Given as goal
 
 abbrev pub decreases-read_array : goal.decreases-read_array
-decreases-read_array l = 8 * l.depth + 5
+decreases-read_array l = 8 * l.depth + 6
+
+abbrev pub decreases-read_coded : goal.decreases-read_coded
+decreases-read_coded l = 8 * l.depth + 3
 
 abbrev pub decreases-read_described : goal.decreases-read_described
 decreases-read_described l = 8 * l.depth + 2
 
 abbrev pub decreases-read_head : goal.decreases-read_head
-decreases-read_head l = 8 * l.depth + 4
+decreases-read_head l = 8 * l.depth + 5
 
 abbrev pub decreases-read_item : goal.decreases-read_item
 decreases-read_item l = 8 * l.depth + 2
 
 abbrev pub decreases-read_items : goal.decreases-read_items
-decreases-read_items l = 8 * l.depth + 4
+decreases-read_items l = 8 * l.depth + 5
 
 abbrev pub decreases-read_list : goal.decreases-read_list
-decreases-read_list l = 8 * l.depth + 5
+decreases-read_list l = 8 * l.depth + 6
 
 abbrev pub decreases-read_map : goal.decreases-read_map
-decreases-read_map l = 8 * l.depth + 5
+decreases-read_map l = 8 * l.depth + 6
 
 abbrev pub decreases-read_pairs : goal.decreases-read_pairs
-decreases-read_pairs l = 8 * l.depth + 4
+decreases-read_pairs l = 8 * l.depth + 5
 
 abbrev pub decreases-read_value : goal.decreases-read_value
-decreases-read_value l = 8 * l.depth + 3
+decreases-read_value l = 8 * l.depth + 4
 
 abbrev pub decreases-read_values : goal.decreases-read_values
-decreases-read_values l = 8 * l.depth + 4
+decreases-read_values l = 8 * l.depth + 5
 
 abbrev pub invariant-read_head-loop : goal.invariant-read_head-loop
 invariant-read_head-loop l = record {

@@ -1,5 +1,5 @@
 use Rattle.amqp_types.specs.Misreading.{AValue}
-use Rattle.amqp_types.specs.Reading.{outermost}
+use Rattle.amqp_types.specs.InHand.{outermost}
 use Rattle.amqp_types.proofs.Exclusive.{misread_fails}
 use Rattle.amqp_types.proofs.Misreads.{value_misread}
 use Rattle.amqp_types.proofs.laws.misreading_is_exact.Goals as goal

@@ -1,6 +1,7 @@
 use Rattle.std.proofs.Common.{arith, ap, ◌∙◌}
 use Rattle.std.proofs.lemmas.Result.{err_from_is_err_and}
-use Rattle.amqp_types.specs.Reading.{after, inside, outermost}
+use Rattle.amqp_types.specs.InHand.{outermost}
+use Rattle.amqp_types.specs.Reading.{after, inside}
 use Rattle.amqp_types.proofs.Fronts.{due_free, skipped_is}
 use Rattle.amqp_types.proofs.skipper.placed_len.Goals as goal
 

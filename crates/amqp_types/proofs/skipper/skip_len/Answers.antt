@@ -1,5 +1,6 @@
 use Rattle.std.proofs.Common.{ap, ◌∙◌}
-use Rattle.amqp_types.specs.Reading.{after, inside, outermost}
+use Rattle.amqp_types.specs.InHand.{outermost}
+use Rattle.amqp_types.specs.Reading.{after, inside}
 use Rattle.amqp_types.proofs.Fronts.{due_free}
 use Rattle.amqp_types.proofs.skipper.skip_len.Goals as goal
 

@@ -1,10 +1,10 @@
 use Rattle.std.proofs.Common.{Bool, arith, sym, subst, ◌∙◌}
-use Rattle.amqp_endpoint.specs.Steps.{EndpointState, Feeds, IsTaken, Comes}
+use Rattle.amqp_endpoint.specs.Steps.{EndpointState, FeedDone, IsTaken, Comes}
 use Rattle.amqp_endpoint.proofs.endpoint.Endpoint.feed.Goals as goal
 
 pub returns : goal.returns
 returns g c =
-    subst (λ (b : Bool). Feeds b c.args.self.now c.act-outcome.new.self c.args.piece.now c.push-used.result c.act-outcome.result) (sym c.if-is_over.false ∙ c.is_over.ensures.value) (record {
+    subst (λ (b : Bool). FeedDone b c.args.self.now c.act-outcome.new.self c.args.piece.now c.push-used.result c.act-outcome.result) (sym c.if-is_over.false ∙ c.is_over.ensures.value) (record {
       between = c.push-used.new.self;
       taken = subst (λ (s : EndpointState). IsTaken s.input c.push-used.new.self c.args.piece.now c.push-used.result) c.self.view_is (record {
         bound = c.push-used.ensures.bound;

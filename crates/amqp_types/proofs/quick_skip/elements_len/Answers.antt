@@ -1,6 +1,6 @@
 use Rattle.std.proofs.Common.{sym}
 use Rattle.amqp_types.proofs.Reaches.{fixed_items}
-use Rattle.amqp_types.proofs.lengths.elements_len.Goals as goal
+use Rattle.amqp_types.proofs.quick_skip.elements_len.Goals as goal
 
 pub returns-else-bytes-len-clause-read : goal.returns-else-bytes-len-clause-read
 returns-else-bytes-len-clause-read c = λ inner w.

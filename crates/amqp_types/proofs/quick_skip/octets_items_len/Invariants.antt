@@ -2,7 +2,7 @@ use Rattle.std.proofs.Common.{◌≡◌, ◌-◌, ◌≤◌, length, drop, Optio
 use Rattle.amqp_types.specs.declared.code.Constructor.TheVariants.{Variable}
 use Rattle.amqp_types.specs.declared.window.Window.{Window}
 use Rattle.amqp_types.specs.Reading.{Level, after, trees_at, item_by}
-use Rattle.amqp_types.proofs.lengths.octets_items_len.Given as goal
+use Rattle.amqp_types.proofs.quick_skip.octets_items_len.Given as goal
 
 abbrev pub invariant-loop : goal.invariant-loop
 invariant-loop l = record {

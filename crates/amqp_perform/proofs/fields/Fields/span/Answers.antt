@@ -2,7 +2,7 @@ use Rattle.std.proofs.Common.{◌≡◌, ℕ, [], ◌∷◌, Ok, Result, sym, ru
 use Rattle.std.proofs.lemmas.Slice.Eq.{bytes_eq-Decides}
 use Rattle.amqp_types.specs.declared.fault.ReadFault.{ReadFault}
 use Rattle.amqp_perform.proofs.Spans.{lent, not_equal}
-use Rattle.amqp_perform.proofs.fields.Fields.opaque.Goals as goal
+use Rattle.amqp_perform.proofs.fields.Fields.span.Goals as goal
 
 pub returns-then-eq : goal.returns-then-eq
 returns-then-eq c =

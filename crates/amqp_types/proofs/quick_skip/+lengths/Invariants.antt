@@ -2,7 +2,7 @@
 use Rattle.std.proofs.Common.{◌≡◌, ◌+◌, ◌-◌, ◌*◌, ◌≤◌, length, drop, None}
 use Rattle.amqp_types.specs.declared.window.Window.{Window}
 use Rattle.amqp_types.specs.Reading.{after, trees_at, inside, value_by}
-use Rattle.amqp_types.proofs.lengths.+lengths.Given as goal
+use Rattle.amqp_types.proofs.quick_skip.+lengths.Given as goal
 
 abbrev pub decreases-described_len : goal.decreases-described_len
 decreases-described_len l = 8 * l.depth + 4

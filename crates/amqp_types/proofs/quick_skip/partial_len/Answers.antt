@@ -1,6 +1,6 @@
 use Rattle.std.proofs.Common.{◌≡◌, ◌∷◌, rules, arith}
 use Rattle.amqp_types.proofs.Reaches.{boolean_rest, char_rest}
-use Rattle.amqp_types.proofs.lengths.partial_len.Goals as goal
+use Rattle.amqp_types.proofs.quick_skip.partial_len.Goals as goal
 
 pub returns-else-byte-gt1-clause-read : goal.returns-else-byte-gt1-clause-read
 returns-else-byte-gt1-clause-read c = λ w.

@@ -2,7 +2,7 @@ use Rattle.std.proofs.Common.{◌≡◌, ◌∷◌, Ok, rules}
 use Rattle.amqp_types.specs.Reading.{level_by, inside, allowed}
 use Rattle.amqp_types.specs.Codes.{find_code}
 use Rattle.amqp_types.proofs.Reaches.{array_rest}
-use Rattle.amqp_types.proofs.lengths.array_len.Goals as goal
+use Rattle.amqp_types.proofs.quick_skip.array_len.Goals as goal
 
 pub returns-clause-read : goal.returns-clause-read
 returns-clause-read c = λ w.

@@ -5,8 +5,8 @@ use Rattle.amqp_types.specs.Codes.{find_code}
 use Rattle.amqp_types.specs.Reading.{allowed, inside, level_by, value_by, item_by}
 use Rattle.amqp_types.proofs.Walks.{goes_on, is_done}
 use Rattle.amqp_types.proofs.Reaches.{described_rest, value_described, value_coded, value_on, parts_rest}
-use Rattle.amqp_types.proofs.lengths.+lengths.Goals as goal
-use Rattle.amqp_types.proofs.lengths.+lengths.Goals.{parts_len-else-paired-via-then-paired+else-count-eq1, parts_len-else-paired-via-else-paired}
+use Rattle.amqp_types.proofs.quick_skip.+lengths.Goals as goal
+use Rattle.amqp_types.proofs.quick_skip.+lengths.Goals.{parts_len-else-paired-via-then-paired+else-count-eq1, parts_len-else-paired-via-else-paired}
 
 pub described_len-returns-clause-read : goal.described_len-returns-clause-read
 described_len-returns-clause-read t c = λ w at.

@@ -6,7 +6,8 @@ use Rattle.amqp_types.specs.declared.code.Constructor.TheVariants.{EmptyList, Li
 use Rattle.amqp_types.specs.declared.code.SizeWidth.{SizeWidth}
 use Rattle.amqp_types.specs.Codes.{find_code}
 use Rattle.amqp_types.specs.Spelling.{size_len}
-use Rattle.amqp_types.specs.Reading.{Part, after, block_at, count_at, outermost, value_of}
+use Rattle.amqp_types.specs.InHand.{outermost}
+use Rattle.amqp_types.specs.Reading.{Part, after, block_at, count_at, value_of}
 use Rattle.amqp_types.specs.Trees.{Tree}
 use Rattle.amqp_types.specs.declared.fault.ReadFault.{ReadFault}
 use Rattle.byteorder.specs.Endian.{big_number}

@@ -1,7 +1,7 @@
 use Rattle.std.proofs.Common.{arith}
 use Rattle.std.proofs.lemmas.List.{take_rest}
 use Rattle.amqp_types.proofs.Reaches.{sized_rest}
-use Rattle.amqp_types.proofs.lengths.octets_len.Goals as goal
+use Rattle.amqp_types.proofs.quick_skip.octets_len.Goals as goal
 
 pub returns-clause-read : goal.returns-clause-read
 returns-clause-read c = λ w.

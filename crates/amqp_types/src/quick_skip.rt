@@ -4,7 +4,7 @@
 
 ghost use Rattle.std.specs.Prelude.{◌≡◌, ℕ, ◌+◌, ◌≤◌, length, drop, if◌then◌else◌, None, IfSome, IsTrue, Option, Ok};
 ghost use Rattle.byteorder.specs.Endian.{big_number};
-ghost use Rattle.amqp_types.specs.Codes.{IsSound, find_code};
+ghost use Rattle.amqp_types.specs.Codes.{FitsItsKind, find_code};
 ghost use Rattle.amqp_types.specs.Spelling.{size_len};
 ghost use Rattle.amqp_types.specs.Reading.{Level, after, octets_fault, number_at, sized_at, trees_at, list_at, map_at, array_at, item_by, described_at, value_by, level_by, inside};
 ghost use Rattle.amqp_types.specs.Skipping.{rest_of, plain_width, IsBody};
@@ -129,7 +129,7 @@ fn octets_items_len(kind: Kind, size: SizeWidth, count: usize, bytes: &[u8]) -> 
 
 /// The length of so many items, where they hold no others.
 fn elements_len(constructor: Constructor, count: usize, bytes: &[u8]) -> Option<usize>
-    requires { IsSound constructor }
+    requires { FitsItsKind constructor }
     ensures within { IfSome result (λ n. n ≤ length bytes.now) }
     ensures read { IfSome result (λ n. (inner : Option Level) (w : Window) → after (trees_at (item_by inner constructor) count w None bytes.now) ≡ Ok (drop n bytes.now)) }
 {
@@ -217,7 +217,7 @@ fn described_len(depth: usize, bytes: &[u8]) -> Option<usize>
 #[tactic(auto, unfolding(crate::specs::Reading::item_by))]
 #[cycle(lengths)]
 fn item_len(depth: usize, constructor: Constructor, bytes: &[u8]) -> Option<usize>
-    requires { IsSound constructor }
+    requires { FitsItsKind constructor }
     ensures within { IfSome result (λ n. n ≤ length bytes.now) }
     ensures read { IfSome result (λ n. (w : Window) → after (item_by (inside depth) constructor w None bytes.now) ≡ Ok (drop n bytes.now)) }
 {

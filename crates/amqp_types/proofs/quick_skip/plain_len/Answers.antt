@@ -1,6 +1,6 @@
 use Rattle.std.proofs.Common.{◌≡◌, ◌∷◌, rules}
 use Rattle.amqp_types.proofs.Reaches.{plain_value}
-use Rattle.amqp_types.proofs.lengths.plain_len.Goals as goal
+use Rattle.amqp_types.proofs.quick_skip.plain_len.Goals as goal
 
 pub returns-clause-read : goal.returns-clause-read
 returns-clause-read c = λ inner w.

@@ -4,7 +4,7 @@ use Rattle.amqp_types.specs.declared.code.Constructor.TheVariants.{Variable}
 use Rattle.amqp_types.specs.Reading.{item_by}
 use Rattle.amqp_types.proofs.Walks.{goes_on, is_done}
 use Rattle.amqp_types.proofs.Reaches.{octets_item}
-use Rattle.amqp_types.proofs.lengths.octets_items_len.Goals as goal
+use Rattle.amqp_types.proofs.quick_skip.octets_items_len.Goals as goal
 
 pub loop-preserved : goal.loop-preserved
 loop-preserved c =
