@@ -15,6 +15,8 @@ fn main(rt: HostRuntime) -> ExitCode {
 }
 
 #[cfg(test)]
+mod dump_tests;
+#[cfg(test)]
 mod recv_tests;
 #[cfg(test)]
 mod tests;

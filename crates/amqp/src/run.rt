@@ -13,7 +13,7 @@ use amqp_frame::Device;
 use amqp_perform::Outcome;
 use amqp_script::{ScriptFault, replay_script};
 use clap::error::ErrorKind;
-use std::alloc::AllocError;
+use std::alloc::{AllocError, Global};
 use std::net::{Net, TcpListener};
 use std::process::ExitCode;
 use std::rt::{Env, Files};
@@ -147,31 +147,16 @@ fn recv<R: Print + Eprint + Net + AllocGlobal>(
     settings: RecvSettings,
 ) -> Result<ExitCode, Fault> {
     let alloc = rt.alloc();
-    let name = String::from_str(alloc, RECEIVER)?;
-    let RecvSettings {
-        connections,
-        max_frame,
-        allowed,
-        max_message,
-        window,
-    } = settings;
-    let Some(config) = Config::checked(
-        name,
-        max_frame,
-        CHANNEL_MAX,
-        HANDLE_MAX,
-        allowed,
-        max_message,
-        window,
-    ) else {
+    let policy = Policy {
+        credit: settings.allowed,
+        outcome: Outcome::Accepted,
+    };
+    let connections = settings.connections;
+    let Some(config) = configured(alloc, settings)? else {
         return Ok(ExitCode::from(USAGE));
     };
     let Ok(listener) = TcpListener::bind(rt, address) else {
         return Err(Fault::Open);
-    };
-    let policy = Policy {
-        credit: allowed,
-        outcome: Outcome::Accepted,
     };
     let mut sink = Device::new(io::writer(rt));
     let all_closed = recv_on(
@@ -188,6 +173,27 @@ fn recv<R: Print + Eprint + Net + AllocGlobal>(
     } else {
         ExitCode::FAILURE
     })
+}
+
+/// The settings of a receiver's endpoints; none where one is outside its range.
+fn configured(alloc: Global, settings: RecvSettings) -> Result<Option<Config>, AllocError> {
+    let RecvSettings {
+        max_frame,
+        allowed,
+        max_message,
+        window,
+        ..
+    } = settings;
+    let name = String::from_str(alloc, RECEIVER)?;
+    Ok(Config::checked(
+        name,
+        max_frame,
+        CHANNEL_MAX,
+        HANDLE_MAX,
+        allowed,
+        max_message,
+        window,
+    ))
 }
 
 /// Sends a file, and prints what became of it on standard output.

@@ -31,10 +31,10 @@ lines_more (e ∷ es) bytes entry line h is =
 
 -- the lines with that of one entry more
 lines_printed : (entries : List Entry) (written : List ℕ) (entry : Entry) (held now : Option (List ℕ)) (waited waits : List ℕ)
-    → AreLines entries (written ++ waited) → (p : Prints entry held now waited waits) → AreLines (entries ++ entry ∷ []) ((written ++ p.written) ++ waits)
+    → AreLines entries (written ++ waited) → (p : Prints entry held now waited waits) → AreLines (entries ++ entry ∷ []) ((written ++ p.put.written) ++ waits)
 lines_printed entries written entry held now waited waits h p =
     subst (λ (x : List ℕ). AreLines (entries ++ entry ∷ []) x)
-    (append_assoc written waited p.line ∙ ap (λ (x : List ℕ). written ++ x) (sym p.joined) ∙ sym (append_assoc written p.written waits))
+    (append_assoc written waited p.line ∙ ap (λ (x : List ℕ). written ++ x) (sym p.put.joined) ∙ sym (append_assoc written p.put.written waits))
     (lines_more entries (written ++ waited) entry p.line h p.is)
 
 -- all that waited was written
@@ -67,9 +67,9 @@ pub printed_more : (held now new : Option (List ℕ)) (waited waits : List ℕ) 
     → HasPrinted held new waits s (before ++ take end piece)
 printed_more held now new waited waits old piece at end s item before h goes clean p = record {
   entries = h.entries ++ entry_of item ∷ [];
-  written = h.written ++ p.written;
+  written = h.written ++ p.put.written;
   told = (goes before h.entries h.told).0 clean;
-  went = Appends-trans held now new h.written p.written h.went p.went;
+  went = Appends-trans held now new h.written p.put.written h.went p.put.went;
   lines = lines_printed h.entries h.written (entry_of item) now new waited waits h.lines p;
 }
 
@@ -83,10 +83,10 @@ fault_dump : (held now new : Option (List ℕ)) (waited : List ℕ) (old : Scann
     → IsDump held new all whole false
 fault_dump held now new waited old bytes all entry whole h tells fault p = record {
   entries = h.entries ++ entry ∷ [];
-  written = h.written ++ p.written;
+  written = h.written ++ p.put.written;
   told = tells;
-  went = Appends-trans held now new h.written p.written h.went p.went;
-  lines = subst (λ (x : List ℕ). AreLines (h.entries ++ entry ∷ []) x) (append-nil (h.written ++ p.written)) (lines_printed h.entries h.written entry now new waited [] h.lines p);
+  went = Appends-trans held now new h.written p.put.written h.went p.put.went;
+  lines = subst (λ (x : List ℕ). AreLines (h.entries ++ entry ∷ []) x) (append-nil (h.written ++ p.put.written)) (lines_printed h.entries h.written entry now new waited [] h.lines p);
   answer = any_fault h.entries entry h.told.clean fault;
 }
 
@@ -134,10 +134,10 @@ began_line : (held now new : Option (List ℕ)) (waited missing : List ℕ) (old
     → Prints entry now new waited missing → BeginsDump held new all whole
 began_line held now new waited missing old bytes all entry whole h tells p = record {
   entries = h.entries ++ entry ∷ [];
-  written = h.written ++ p.written;
+  written = h.written ++ p.put.written;
   missing = missing;
   told = tells;
-  went = Appends-trans held now new h.written p.written h.went p.went;
+  went = Appends-trans held now new h.written p.put.written h.went p.put.went;
   lines = lines_printed h.entries h.written entry now new waited missing h.lines p;
 }
 

@@ -18,13 +18,17 @@ abbrev pub AreLines : List Entry → List ℕ → Type 0
 AreLines [] bytes = bytes ≡ []
 AreLines (entry ∷ entries) bytes = (line others : List ℕ) × IsLineOf entry line × AreLines entries others × (bytes ≡ line ++ others)
 
--- the line of an entry was put behind what waited, of which some was written
-pub record Prints (entry : Entry) (held now : Option (List ℕ)) (waited waits : List ℕ) : Type 0 where
-  pub line : List ℕ
+-- a line was put behind what waited, of which some was written
+pub record Puts (line : List ℕ) (held now : Option (List ℕ)) (waited waits : List ℕ) : Type 0 where
   pub written : List ℕ
-  pub is : IsLineOf entry line
   pub went : Appends held now written
   pub joined : written ++ waits ≡ waited ++ line
+
+-- the line of an entry was put so
+pub record Prints (entry : Entry) (held now : Option (List ℕ)) (waited waits : List ℕ) : Type 0 where
+  pub line : List ℕ
+  pub is : IsLineOf entry line
+  pub put : Puts line held now waited waits
 
 -- What was printed while these bytes came, on top of what the writer held: each whole unit's line, but for what waits.
 pub record HasPrinted (held now : Option (List ℕ)) (waiting : List ℕ) (s : Scanner) (bytes : List ℕ) : Type 0 where

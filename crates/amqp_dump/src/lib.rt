@@ -4,6 +4,7 @@
 //! [`dump`] (`printer`) reads a piece from a `Device`, has `scan` cut it into units and tell of each (`scanned`), prints
 //! their lines (`lines`, values by `text`), and reads again.
 //! `specs/Entries.antt` has what is told of a stream, `specs/Printing.antt` what is printed of it.
+//! The tests stand in `amqp`, the program.
 #![tactic(auto)]
 
 mod lines;
@@ -14,6 +15,3 @@ mod text;
 
 pub use printer::{DumpFault, dump};
 pub use scan::{LIMITS, MAX_FRAME};
-
-#[cfg(test)]
-mod tests;

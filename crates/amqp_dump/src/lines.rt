@@ -11,25 +11,36 @@ use amqp_types::Value;
 use std::alloc::{AllocError, Global};
 use std::fmt::Write;
 
-/// How many bytes are reserved for a line.
+/// How many bytes are reserved for a line, strings and binaries aside.
 const LINE: usize = 256;
+
+/// How many bytes of a line one byte of a string or of a binary takes at most.
+const BYTES_PER_BYTE: usize = 4;
 
 /// The line of a unit or a fault, with its newline.
 pub fn line_of(alloc: Global, item: &Scanned) -> Result<String, AllocError>
     ensures { IfOk result (λ line. IsLineOf (entry_of item.now) (string_bytes line)) }
 {
-    let mut line = String::with_capacity(alloc, LINE)?;
+    let mut line = String::with_capacity(alloc, room_for(item))?;
     match item {
         Scanned::Header => write!(line, "header id=0 version=1.0.0")?,
-        Scanned::Frame(frame) => write_frame(alloc, &mut line, frame)?,
+        Scanned::Frame(frame) => write_frame(&mut line, frame)?,
         Scanned::Fault(place, fault) => write!(line, "fault: {place} {}", name_of(*fault))?,
     }
     line.push('\n')?;
     Ok(line)
 }
 
+/// The room for a line in which no string or binary makes it grow.
+fn room_for(item: &Scanned) -> usize {
+    match item {
+        Scanned::Frame(frame) => LINE.saturating_add(frame.size.saturating_mul(BYTES_PER_BYTE)),
+        _ => LINE,
+    }
+}
+
 /// Appends `PLACE size=N channel=C`, and then ` empty` or what the body says.
-fn write_frame(alloc: Global, out: &mut String, frame: &ScannedFrame) -> Result<(), AllocError> {
+fn write_frame(out: &mut String, frame: &ScannedFrame) -> Result<(), AllocError> {
     let ScannedFrame {
         place,
         size,
@@ -39,22 +50,17 @@ fn write_frame(alloc: Global, out: &mut String, frame: &ScannedFrame) -> Result<
     write!(out, "{place} size={size} channel={channel} ")?;
     match &frame.value {
         None => write!(out, "empty"),
-        Some(value) => write_body(alloc, out, value, frame),
+        Some(value) => write_body(out, value, frame),
     }
 }
 
 /// Appends the value at the front of a body and the length of what follows it: a performative as its name and
 /// its list, with ` invalid` at the end where a field is, any other value behind `value`.
-fn write_body(
-    alloc: Global,
-    out: &mut String,
-    value: &Value,
-    frame: &ScannedFrame,
-) -> Result<(), AllocError> {
+fn write_body(out: &mut String, value: &Value, frame: &ScannedFrame) -> Result<(), AllocError> {
     let performative = named_list(value);
     let (name, shown) = performative.unwrap_or(("value", value));
     write!(out, "{name} ")?;
-    write_value(alloc, out, shown)?;
+    write_value(out, shown)?;
     write!(out, " payload={}", frame.payload)?;
     if performative.is_some() && !frame.is_performative {
         write!(out, " invalid")?;

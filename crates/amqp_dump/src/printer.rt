@@ -5,7 +5,7 @@ ghost use Rattle.std.specs.Io.KnownBytes.{IsAtEnd, Consumes, Keeps, Appends};
 ghost use Rattle.amqp_frame.specs.Devices.{device_inner, has_failed, has_ended, reads_left, reads_ahead};
 ghost use Rattle.amqp_dump.specs.Entries.{entry_of, is_fault};
 ghost use Rattle.amqp_dump.specs.Steps.{IsReady, HasTold, taken_by};
-ghost use Rattle.amqp_dump.specs.Printing.{Prints, HasPrinted, IsDump, BeginsDump, Dumps, BreaksOff, Shows};
+ghost use Rattle.amqp_dump.specs.Printing.{Puts, Prints, HasPrinted, IsDump, BeginsDump, Dumps, BreaksOff, Shows};
 ghost use Rattle.amqp_dump.specs.declared.printer.DumpFault.TheVariants.{NoMemory};
 
 use crate::lines::line_of;
@@ -215,8 +215,7 @@ fn print_end<W: Write + Drop>(
     }
 }
 
-/// Appends the line of a unit to those that wait, and writes them where they are many or the last is a
-/// fault. Says whether it is one.
+/// Prints the line of a unit. Says whether that is a fault, which is the last line.
 fn print_unit<W: Write + Drop>(
     alloc: Global,
     item: Scanned,
@@ -234,12 +233,37 @@ fn print_unit<W: Write + Drop>(
         ⊎ ((missing : List ℕ) × Prints (entry_of item) (W.contents (device_inner writer.old)) (W.contents (device_inner writer.new)) (string_bytes lines.old) missing)) }
 {
     let line = line_of(alloc, &item)?;
-    lines.push_str(&line)?;
     let is_fault = item.is_fault();
-    if is_fault || lines.len() >= PIECE {
+    put_line(&line, is_fault, lines, writer)?;
+    Ok(is_fault)
+}
+
+/// Puts a line behind those that wait, and writes them where they are many or it is the last. A long line is
+/// written from where it stands, without a copy.
+fn put_line<W: Write + Drop>(
+    line: &str,
+    is_last: bool,
+    lines: &mut String,
+    writer: &mut Device<W>,
+) -> Result<(), DumpFault>
+    requires { ¬ (IsTrue (has_failed writer.old)) }
+    ensures read { result ≢ Err DumpFault.Read }
+    ensures short { result ≢ Err DumpFault.TooLong }
+    ensures write { (result ≡ Err DumpFault.Write) ↔ IsTrue (has_failed writer.new) }
+    ensures empty { IsTrue is_last → OnOk result (string_bytes lines.new ≡ []) }
+    ensures put { OnOk result (Puts line.now (W.contents (device_inner writer.old)) (W.contents (device_inner writer.new)) (string_bytes lines.old) (string_bytes lines.new)) }
+    ensures begun { OnErr result (Keeps (W.contents (device_inner writer.old)) (W.contents (device_inner writer.new))
+        ⊎ ((missing : List ℕ) × Puts line.now (W.contents (device_inner writer.old)) (W.contents (device_inner writer.new)) (string_bytes lines.old) missing)) }
+{
+    if line.len() >= PIECE {
+        write_lines(lines, writer)?;
+        return write_out(line.as_bytes(), writer);
+    }
+    lines.push_str(line)?;
+    if is_last || lines.len() >= PIECE {
         write_lines(lines, writer)?;
     }
-    Ok(is_fault)
+    Ok(())
 }
 
 /// Writes the lines that wait.

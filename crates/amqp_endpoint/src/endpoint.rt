@@ -287,7 +287,7 @@ impl<A: Allocator + Copy> Endpoint<A> {
 }
 
 /// The bytes that count as held, with all fields named, so that a new one does not compile until it is listed here; the
-/// input, the output and the connection do the same with theirs. Of a session and a link tests do (`fields_listed`).
+/// input, the output, the connection, its sessions and their links do the same with theirs.
 fn fields_listed<A: Allocator + Copy>(endpoint: &Endpoint<A>) -> u64
     ensures { result ≡ held endpoint.now }
 {

@@ -145,12 +145,20 @@ impl<A: Allocator + Copy> Link<A> {
     }
 
     /// The bytes that count as kept: for each open delivery 64, its tag, and what is held of its
-    /// message.
+    /// message. All fields are named, so that a new one is listed here.
     pub fn held(&self) -> u64
         ensures value { result ≡ link_bytes self.now }
         ensures most { result ≤ self.now.terms.bounds.allowed * (self.now.terms.bounds.max_message_size + 96) }
     {
-        self.deliveries.bytes()
+        let Link {
+            alloc: _,
+            terms: _,
+            credit: _,
+            delivery_count: _,
+            draining: _,
+            deliveries,
+        } = self;
+        deliveries.bytes()
     }
 
     /// Asks the sender to use its credit up [2.6.7], also where it has none. The flow that says so is the
@@ -407,6 +415,3 @@ fn begun<A: Allocator + Copy>(
         message: Vec::from_slice(alloc, payload)?,
     })
 }
-
-#[cfg(test)]
-mod tests;

@@ -164,11 +164,19 @@ impl<A: Allocator + Copy> OpenDeliveries<A> {
         Some(delivery)
     }
 
-    /// The bytes that count as kept of all open deliveries.
+    /// The bytes that count as kept of all open deliveries. All fields are named, so that a new one is listed here.
     pub fn bytes(&self) -> u64
         ensures { result ≡ set_bytes self.now }
     {
-        self.bytes
+        let OpenDeliveries {
+            alloc: _,
+            slab: _,
+            order: _,
+            handed_up: _,
+            unfinished: _,
+            bytes,
+        } = self;
+        *bytes
     }
 
     /// The delivery that is unfinished.
@@ -330,6 +338,3 @@ impl<A: Allocator + Copy> OpenDeliveries<A> {
         places::settle_at(&mut self.slab, &mut self.unfinished, settling).count
     }
 }
-
-#[cfg(test)]
-pub mod tests;

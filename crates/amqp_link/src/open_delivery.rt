@@ -60,11 +60,20 @@ pub struct Settling {
 }
 
 impl<A: Allocator + Copy> OpenDelivery<A> {
-    /// The bytes that count as kept of it.
+    /// The bytes that count as kept of it. All fields are named, so that a new one is listed here.
     pub fn bytes(&self) -> u64
         ensures { result ≡ delivery_bytes (delivery_of self.now) }
     {
-        64 + self.delivery_tag.as_bytes().len() as u64 + self.message.len() as u64
+        let OpenDelivery {
+            delivery_id: _,
+            delivery_tag,
+            message_format: _,
+            rcv_settle_mode: _,
+            settled: _,
+            told: _,
+            message,
+        } = self;
+        64 + delivery_tag.as_bytes().len() as u64 + message.len() as u64
     }
 
     /// One transfer more.

@@ -16,7 +16,8 @@ use Rattle.amqp_perform.specs.declared.descriptor.Descriptor.TheVariants as of_t
 use Rattle.amqp_perform.specs.Descriptors.{code_of}
 use Rattle.amqp_perform.specs.declared.field_text.FieldText.{FieldText}
 use Rattle.amqp_perform.specs.declared.performative.Performative.{Performative}
-use Rattle.amqp_perform.specs.Frames.{trimmed, list_text, list_head, head_text, frame_text, described_text, list_frame, frame_of, field_spelling, field_spellings, Writes, FitsFrame, IsWritten}
+use Rattle.amqp_perform.specs.Frames.{trimmed, list_text, list_head, head_text, frame_text, described_text, list_frame, performative_texts, frame_of, field_spelling, field_spellings, Writes, FitsFrame, IsWritten}
+use Rattle.amqp_perform.specs.Performatives.{type_of}
 use Rattle.amqp_perform.proofs.Writings.{writes-writes}
 
 -- The parts. ----------------------------------------------------------------------------------------------------------
@@ -162,6 +163,13 @@ same_texts channel d texts others payload r old new same w = subst (λ (x : List
 pub same_performative : (channel : ℕ) (p q : Performative) (payload : List ℕ) (r : Option ℕ) (old new : List ℕ) → p ≡ q
     → IsWritten (frame_of channel q payload) r old new → IsWritten (frame_of channel p payload) r old new
 same_performative channel p q payload r old new same w = subst (λ (x : Performative). IsWritten (frame_of channel x payload) r old new) (sym same) w
+
+-- the list that describes a performative, by the spellings of its fields, is its frame
+pub same_list : (channel : ℕ) (d : Descriptor) (p q : Performative) (texts : List (List ℕ)) (payload : List ℕ) (r : Option ℕ) (old new : List ℕ)
+    → d ≡ type_of p → p ≡ q → texts ≡ performative_texts q → IsWritten (list_frame channel d texts payload) r old new → IsWritten (frame_of channel p payload) r old new
+same_list channel d p q texts payload r old new described same spelled w =
+    let typed = subst (λ (x : Descriptor). IsWritten (list_frame channel x texts payload) r old new) (described ∙ ap type_of same) w in
+    same_performative channel p q payload r old new same (same_texts channel (type_of q) texts (performative_texts q) payload r old new spelled typed)
 
 -- One frame of the stream. --------------------------------------------------------------------------------------------
 

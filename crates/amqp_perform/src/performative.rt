@@ -4,6 +4,7 @@
 //! a span of bytes is the spelling of the field's value, of any type, and it is empty where the field is absent:
 //! its own default (of batchable and incomplete-unsettled) and its shortest spelling are up to whoever uses it.
 
+use crate::descriptor::Descriptor;
 use crate::modes::{ReceiverSettleMode, Role, SenderSettleMode};
 
 /// Negotiates the parameters of a connection. [2.7.1]
@@ -132,4 +133,26 @@ pub enum Performative<'a> {
     Detach(Detach<'a>),
     End(End<'a>),
     Close(Close<'a>),
+}
+
+impl Performative<'_> {
+    ghost use Rattle.std.specs.Prelude.{◌≡◌};
+    ghost use Rattle.amqp_perform.specs.Performatives.{type_of};
+
+    /// What describes its list. [2.7]
+    pub fn descriptor(&self) -> Descriptor
+        ensures { result ≡ type_of self.now }
+    {
+        match self {
+            Performative::Open(_) => Descriptor::Open,
+            Performative::Begin(_) => Descriptor::Begin,
+            Performative::Attach(_) => Descriptor::Attach,
+            Performative::Flow(_) => Descriptor::Flow,
+            Performative::Transfer(_) => Descriptor::Transfer,
+            Performative::Disposition(_) => Descriptor::Disposition,
+            Performative::Detach(_) => Descriptor::Detach,
+            Performative::End(_) => Descriptor::End,
+            Performative::Close(_) => Descriptor::Close,
+        }
+    }
 }

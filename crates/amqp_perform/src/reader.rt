@@ -8,7 +8,7 @@ ghost use Rattle.amqp_perform.specs.declared.descriptor.Descriptor.{Descriptor};
 ghost use Rattle.amqp_perform.specs.declared.performative.Performative.TheVariants as performative;
 ghost use Rattle.amqp_perform.specs.Bodies.{Body, BodyOf, IsFaultOf};
 ghost use Rattle.amqp_perform.specs.Cells.{Cell, Whole};
-ghost use Rattle.amqp_perform.specs.Performatives.{span, flag, open_cells, begin_cells, attach_cells, flow_cells, transfer_cells, disposition_cells, detach_cells, end_cells, close_cells, type_of, performative_cells};
+ghost use Rattle.amqp_perform.specs.Performatives.{span, flag, optional_whole, open_cells, begin_cells, attach_cells, flow_cells, transfer_cells, disposition_cells, detach_cells, end_cells, close_cells, type_of, performative_cells};
 ghost use Rattle.amqp_perform.specs.BodyReading.{TakesFrom, value_at, fields_at, IsPerformativeAt, body_at, fault_of, IsRead, IsOfOther};
 ghost use Rattle.amqp_perform.specs.Tables.{uint_from, default, open_fields, begin_fields, attach_fields, flow_fields, transfer_fields, disposition_fields, detach_fields, end_fields, close_fields};
 
@@ -100,6 +100,52 @@ fn read_attach<'a>(fields: &mut Fields<'a>) -> Option<Attach<'a>>
     let role = fields.role()??;
     let snd_settle_mode = fields.sender_mode()?.unwrap_or(SenderSettleMode::Mixed);
     let rcv_settle_mode = fields.receiver_mode()?.unwrap_or(ReceiverSettleMode::First);
+    let AttachRest {
+        source,
+        target,
+        unsettled,
+        incomplete_unsettled,
+        initial_delivery_count,
+        max_message_size,
+        offered_capabilities,
+        desired_capabilities,
+        properties,
+    } = read_attach_rest(fields)?;
+    Some(Attach {
+        name,
+        handle,
+        role,
+        snd_settle_mode,
+        rcv_settle_mode,
+        source,
+        target,
+        unsettled,
+        incomplete_unsettled,
+        initial_delivery_count,
+        max_message_size,
+        offered_capabilities,
+        desired_capabilities,
+        properties,
+    })
+}
+
+/// The fields of an attach behind its modes.
+struct AttachRest<'a> {
+    source: &'a [u8],
+    target: &'a [u8],
+    unsettled: &'a [u8],
+    incomplete_unsettled: &'a [u8],
+    initial_delivery_count: Option<u32>,
+    max_message_size: &'a [u8],
+    offered_capabilities: &'a [u8],
+    desired_capabilities: &'a [u8],
+    properties: &'a [u8],
+}
+
+fn read_attach_rest<'a>(fields: &mut Fields<'a>) -> Option<AttachRest<'a>>
+    ensures { TakesFrom (λ x. span x.source.now ∷ span x.target.now ∷ span x.unsettled.now ∷ span x.incomplete_unsettled.now ∷ optional_whole x.initial_delivery_count
+        ∷ span x.max_message_size.now ∷ span x.offered_capabilities.now ∷ span x.desired_capabilities.now ∷ span x.properties.now ∷ []) (fields_at (drop 5 attach_fields)) fields.old fields.new result }
+{
     let source = fields.span()?;
     let target = fields.span()?;
     let unsettled = fields.span()?;
@@ -107,12 +153,7 @@ fn read_attach<'a>(fields: &mut Fields<'a>) -> Option<Attach<'a>>
     let initial_delivery_count = fields.uint()?;
     let max_message_size = fields.span()?;
     let (offered_capabilities, desired_capabilities, properties) = read_capabilities(fields)?;
-    Some(Attach {
-        name,
-        handle,
-        role,
-        snd_settle_mode,
-        rcv_settle_mode,
+    Some(AttachRest {
         source,
         target,
         unsettled,

@@ -211,67 +211,83 @@ pub fn write_frame(
     ensures fits { IsSome result ↔ FitsFrame (frame_of channel performative.now payload.now) (length out.old) }
     ensures unchanged { IfNone result (out.new ≡ out.old) }
 {
+    write_any(channel, performative, payload, out)
+}
+
+/// The same, by the one relation that the writers of lists promise. Each of them is a function of its own, so that the
+/// fields of one alone stand on the stack.
+#[inline(always)]
+fn write_any(
+    channel: u16,
+    performative: &Performative<'_>,
+    payload: &[u8],
+    out: &mut [u8],
+) -> Option<usize>
+    ensures { IsWritten (frame_of channel performative.now payload.now) result out.old out.new }
+{
+    let head = Head {
+        channel,
+        descriptor: performative.descriptor(),
+    };
     match performative {
-        Performative::Open(p) => write_open(channel, p, payload, out),
-        Performative::Begin(p) => write_begin(channel, p, payload, out),
-        Performative::Attach(p) => write_attach(channel, p, payload, out),
-        Performative::Flow(p) => write_flow(channel, p, payload, out),
-        Performative::Transfer(p) => write_transfer(channel, p, payload, out),
+        Performative::Open(p) => write_open(head, p, payload, out),
+        Performative::Begin(p) => write_begin(head, p, payload, out),
+        Performative::Attach(p) => write_attach(head, p, payload, out),
+        Performative::Flow(p) => write_flow(head, p, payload, out),
+        Performative::Transfer(p) => write_transfer(head, p, payload, out),
         Performative::Disposition(p) => write_disposition(channel, p, payload, out),
-        Performative::Detach(p) => write_detach(channel, p, payload, out),
-        Performative::End(p) => write_end(channel, p, payload, out),
-        Performative::Close(p) => write_close(channel, p, payload, out),
+        Performative::Detach(p) => write_detach(head, p, payload, out),
+        Performative::End(p) => write_end(head, p, payload, out),
+        Performative::Close(p) => write_close(head, p, payload, out),
     }
 }
 
-fn write_open(channel: u16, p: &Open<'_>, payload: &[u8], out: &mut [u8]) -> Option<usize>
-    ensures { IsWritten (list_frame channel Descriptor.Open (field_texts open_fields (open_cells p.now)) payload.now) result out.old out.new }
+fn write_open(head: Head, p: &Open<'_>, payload: &[u8], out: &mut [u8]) -> Option<usize>
+    ensures { IsWritten (list_frame head.channel head.descriptor (field_texts open_fields (open_cells p.now)) payload.now) result out.old out.new }
 {
-    let head = Head {
-        channel,
-        descriptor: Descriptor::Open,
-    };
     write_list(head, &open_texts(p), payload, out)
 }
 
-fn write_begin(channel: u16, p: &Begin<'_>, payload: &[u8], out: &mut [u8]) -> Option<usize>
-    ensures { IsWritten (list_frame channel Descriptor.Begin (field_texts begin_fields (begin_cells p.now)) payload.now) result out.old out.new }
+fn write_begin(head: Head, p: &Begin<'_>, payload: &[u8], out: &mut [u8]) -> Option<usize>
+    ensures { IsWritten (list_frame head.channel head.descriptor (field_texts begin_fields (begin_cells p.now)) payload.now) result out.old out.new }
 {
-    let head = Head {
-        channel,
-        descriptor: Descriptor::Begin,
-    };
     write_list(head, &begin_texts(p), payload, out)
 }
 
-fn write_attach(channel: u16, p: &Attach<'_>, payload: &[u8], out: &mut [u8]) -> Option<usize>
-    ensures { IsWritten (list_frame channel Descriptor.Attach (field_texts attach_fields (attach_cells p.now)) payload.now) result out.old out.new }
+fn write_attach(head: Head, p: &Attach<'_>, payload: &[u8], out: &mut [u8]) -> Option<usize>
+    ensures { IsWritten (list_frame head.channel head.descriptor (field_texts attach_fields (attach_cells p.now)) payload.now) result out.old out.new }
 {
-    let head = Head {
-        channel,
-        descriptor: Descriptor::Attach,
-    };
     write_list(head, &attach_texts(p), payload, out)
 }
 
-fn write_flow(channel: u16, p: &Flow<'_>, payload: &[u8], out: &mut [u8]) -> Option<usize>
-    ensures { IsWritten (list_frame channel Descriptor.Flow (field_texts flow_fields (flow_cells p.now)) payload.now) result out.old out.new }
+fn write_flow(head: Head, p: &Flow<'_>, payload: &[u8], out: &mut [u8]) -> Option<usize>
+    ensures { IsWritten (list_frame head.channel head.descriptor (field_texts flow_fields (flow_cells p.now)) payload.now) result out.old out.new }
 {
-    let head = Head {
-        channel,
-        descriptor: Descriptor::Flow,
-    };
     write_list(head, &flow_texts(p), payload, out)
 }
 
-fn write_transfer(channel: u16, p: &Transfer<'_>, payload: &[u8], out: &mut [u8]) -> Option<usize>
-    ensures { IsWritten (list_frame channel Descriptor.Transfer (field_texts transfer_fields (transfer_cells p.now)) payload.now) result out.old out.new }
+fn write_transfer(head: Head, p: &Transfer<'_>, payload: &[u8], out: &mut [u8]) -> Option<usize>
+    ensures { IsWritten (list_frame head.channel head.descriptor (field_texts transfer_fields (transfer_cells p.now)) payload.now) result out.old out.new }
 {
-    let head = Head {
-        channel,
-        descriptor: Descriptor::Transfer,
-    };
     write_list(head, &transfer_texts(p), payload, out)
+}
+
+fn write_detach(head: Head, p: &Detach<'_>, payload: &[u8], out: &mut [u8]) -> Option<usize>
+    ensures { IsWritten (list_frame head.channel head.descriptor (field_texts detach_fields (detach_cells p.now)) payload.now) result out.old out.new }
+{
+    write_list(head, &detach_texts(p), payload, out)
+}
+
+fn write_end(head: Head, p: &End<'_>, payload: &[u8], out: &mut [u8]) -> Option<usize>
+    ensures { IsWritten (list_frame head.channel head.descriptor (field_texts end_fields (end_cells p.now)) payload.now) result out.old out.new }
+{
+    write_list(head, &end_texts(p), payload, out)
+}
+
+fn write_close(head: Head, p: &Close<'_>, payload: &[u8], out: &mut [u8]) -> Option<usize>
+    ensures { IsWritten (list_frame head.channel head.descriptor (field_texts close_fields (close_cells p.now)) payload.now) result out.old out.new }
+{
+    write_list(head, &close_texts(p), payload, out)
 }
 
 /// Writes the frame of a disposition, as [`write_frame`] does.
@@ -300,36 +316,6 @@ fn write_six(head: Head, p: &Disposition<'_>, payload: &[u8], out: &mut [u8]) ->
     ensures { IsWritten (list_frame head.channel head.descriptor (field_texts disposition_fields (disposition_written p.now)) payload.now) result out.old out.new }
 {
     write_list(head, &disposition_texts(p), payload, out)
-}
-
-fn write_detach(channel: u16, p: &Detach<'_>, payload: &[u8], out: &mut [u8]) -> Option<usize>
-    ensures { IsWritten (list_frame channel Descriptor.Detach (field_texts detach_fields (detach_cells p.now)) payload.now) result out.old out.new }
-{
-    let head = Head {
-        channel,
-        descriptor: Descriptor::Detach,
-    };
-    write_list(head, &detach_texts(p), payload, out)
-}
-
-fn write_end(channel: u16, p: &End<'_>, payload: &[u8], out: &mut [u8]) -> Option<usize>
-    ensures { IsWritten (list_frame channel Descriptor.End (field_texts end_fields (end_cells p.now)) payload.now) result out.old out.new }
-{
-    let head = Head {
-        channel,
-        descriptor: Descriptor::End,
-    };
-    write_list(head, &end_texts(p), payload, out)
-}
-
-fn write_close(channel: u16, p: &Close<'_>, payload: &[u8], out: &mut [u8]) -> Option<usize>
-    ensures { IsWritten (list_frame channel Descriptor.Close (field_texts close_fields (close_cells p.now)) payload.now) result out.old out.new }
-{
-    let head = Head {
-        channel,
-        descriptor: Descriptor::Close,
-    };
-    write_list(head, &close_texts(p), payload, out)
 }
 
 /// Writes the frame of a list of values, where it fits.

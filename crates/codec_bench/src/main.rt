@@ -1,5 +1,5 @@
-//! Times the calls of `amqp_types` and `amqp_perform`, and tests these crates from outside: tables of spellings,
-//! of faults with their places, of performatives, and of what is written.
+//! Times the calls of `amqp_types` and `amqp_perform`, and tests these crates and `amqp_frame` from outside: tables of
+//! spellings, of faults with their places, of performatives, and of what is written; streams in pieces.
 #![tactic(auto)]
 
 mod body;
@@ -7,25 +7,32 @@ mod case;
 mod measure;
 
 use crate::case::cases;
-use bench_order::order_of;
+use crate::measure::{Failure, time_case};
+use bench_parts::order::order_of;
 use std::env;
 
 /// How the program is run.
 const USAGE: &str = "usage: codec_bench run [CASE] [ROUNDS]";
 
 /// Measures what the command line asks for, or says how to ask.
-fn main(rt: HostRuntime) -> Result<(), measure::Failure> {
+fn main(rt: HostRuntime) -> Result<(), Failure> {
     let words: Vec<String> = env::args(&rt)?.collect(rt.alloc())?;
-    match order_of(&words, &cases()) {
-        Some(order) => measure::run(&rt, rt.alloc(), order),
-        None => Ok(println!(rt; "{USAGE}")?),
+    let all = cases();
+    let Some(order) = order_of(&words, &all) else {
+        return Ok(println!(rt; "{USAGE}")?);
+    };
+    for case in order.cases {
+        time_case(&rt, rt.alloc(), *case, order.rounds)?;
     }
+    Ok(())
 }
 
 #[cfg(test)]
 mod tests;
 #[cfg(test)]
 mod tests_faults;
+#[cfg(test)]
+mod tests_frames;
 #[cfg(test)]
 mod tests_large;
 #[cfg(test)]

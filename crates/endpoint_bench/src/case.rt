@@ -1,6 +1,6 @@
 //! What is measured.
 
-use bench_order::Named;
+use bench_parts::order::Named;
 
 /// Messages that come one after the other, are handed up and settled, and how many do where the command line doesn't say.
 #[derive(Clone, Copy)]

@@ -7,17 +7,22 @@ mod measure;
 mod stream;
 
 use crate::case::cases;
-use bench_order::order_of;
+use crate::measure::{Failure, time_case};
+use bench_parts::order::order_of;
 use std::env;
 
 /// How the program is run.
 const USAGE: &str = "usage: endpoint_bench run [CASE] [ROUNDS]";
 
 /// Measures what the command line asks for, or says how to ask.
-fn main(rt: HostRuntime) -> Result<(), measure::Failure> {
+fn main(rt: HostRuntime) -> Result<(), Failure> {
     let words: Vec<String> = env::args(&rt)?.collect(rt.alloc())?;
-    match order_of(&words, &cases()) {
-        Some(order) => measure::run(&rt, rt.alloc(), order),
-        None => Ok(println!(rt; "{USAGE}")?),
+    let all = cases();
+    let Some(order) = order_of(&words, &all) else {
+        return Ok(println!(rt; "{USAGE}")?);
+    };
+    for case in order.cases {
+        time_case(&rt, rt.alloc(), *case, order.rounds)?;
     }
+    Ok(())
 }

@@ -1,10 +1,8 @@
 //! The bytes of a sender.
 
 use crate::case::{Case, MAX_FRAME};
-use amqp_perform::{
-    Attach, Begin, Open, Performative, ReceiverSettleMode, Role, SenderSettleMode, Transfer,
-    write_frame,
-};
+use amqp_perform::{Begin, Open, Performative, Transfer, write_frame};
+use bench_parts::frames::{attach, last, whole};
 use std::alloc::{AllocError, Global};
 
 /// No transfer without its payload is longer.
@@ -66,28 +64,13 @@ pub fn opening(alloc: Global, links: u8) -> Result<Vec<u8>, AllocError> {
     push(&mut bytes, &open, &[])?;
     push(&mut bytes, &begin, &[])?;
     for handle in 0..links {
-        push(&mut bytes, &Performative::Attach(attach(handle)), &[])?;
+        push(
+            &mut bytes,
+            &Performative::Attach(attach(handle as u32)),
+            &[],
+        )?;
     }
     Ok(bytes)
-}
-
-fn attach(handle: u8) -> Attach<'static> {
-    Attach {
-        name: "link",
-        handle: handle as u32,
-        role: Role::Sender,
-        snd_settle_mode: SenderSettleMode::Unsettled,
-        rcv_settle_mode: ReceiverSettleMode::First,
-        source: b"\x00\x53\x28\x45",
-        target: b"\x00\x53\x29\x45",
-        unsettled: &[],
-        incomplete_unsettled: &[],
-        initial_delivery_count: Some(0),
-        max_message_size: &[],
-        offered_capabilities: &[],
-        desired_capabilities: &[],
-        properties: &[],
-    }
 }
 
 impl Block {
@@ -121,7 +104,7 @@ impl Block {
                 break;
             }
             rest = behind;
-            transfer = following(handle);
+            transfer = last(handle);
         }
         Ok(())
     }
@@ -144,27 +127,5 @@ impl Block {
 
 /// The first frame of a delivery, with an id that is written in four bytes.
 fn head(handle: u32) -> Transfer<'static> {
-    Transfer {
-        handle,
-        delivery_id: Some(u32::MAX),
-        delivery_tag: Some(b"tag".as_slice()),
-        message_format: Some(0),
-        settled: None,
-        more: false,
-        rcv_settle_mode: None,
-        state: &[],
-        resume: false,
-        aborted: false,
-        batchable: &[],
-    }
-}
-
-/// A later one.
-fn following(handle: u32) -> Transfer<'static> {
-    Transfer {
-        delivery_id: None,
-        delivery_tag: None,
-        message_format: None,
-        ..head(handle)
-    }
+    whole(handle, u32::MAX)
 }

@@ -1,6 +1,6 @@
 //! What is measured.
 
-use bench_order::Named;
+use bench_parts::order::Named;
 
 /// The deliveries that stay open on the link while others come and go, 1,000 of them or none.
 #[derive(Clone, Copy)]

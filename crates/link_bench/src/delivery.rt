@@ -5,6 +5,7 @@ use amqp_link::{
     Link, LinkBounds, LinkFault, MAX_ALLOWED, SettleFault, Step, Terms, TooMuchCredit,
 };
 use amqp_perform::{ReceiverSettleMode, Transfer};
+use bench_parts::frames::{last, whole};
 use std::alloc::{AllocError, Global};
 
 /// How many deliveries are open, if any are, before the first one is measured, whose ids are those below it.
@@ -52,31 +53,18 @@ fn terms() -> Terms {
     }
 }
 
-/// A transfer that begins a delivery.
+/// The first transfer of a delivery.
 fn head(id: u32, settled: bool, more: bool) -> Transfer<'static> {
     Transfer {
-        handle: 0,
-        delivery_id: Some(id),
-        delivery_tag: Some(b"tag".as_slice()),
-        message_format: Some(0),
         settled: Some(settled),
         more,
-        rcv_settle_mode: None,
-        state: &[],
-        resume: false,
-        aborted: false,
-        batchable: &[],
+        ..whole(0, id)
     }
 }
 
-/// A transfer that goes on with one.
+/// A later one.
 fn rest(more: bool) -> Transfer<'static> {
-    Transfer {
-        delivery_id: None,
-        delivery_tag: None,
-        message_format: None,
-        ..head(0, true, more)
-    }
+    Transfer { more, ..last(0) }
 }
 
 /// Credit for one delivery, and its frames. All but the last frame are followed by more.

@@ -1,68 +1,24 @@
 //! Timing, and what is printed of it.
 
-use crate::case::{Case, Open, Way, cases};
+use crate::case::{Case, Open, Way};
 use crate::delivery::{Stopped, copied, deliver, link_awaiting, link_with, settle_and_deliver};
-use bench_order::Order;
-use std::alloc::{AllocError, AllocFailed, Global};
-use std::io;
+use bench_parts::measure::{change, nanoseconds_each};
+use std::alloc::Global;
 use std::rt::Clock;
 use std::time::Instant;
 
 /// Why nothing more was measured.
-#[derive(Debug, Drop)]
-pub enum Failure {
-    /// Printing or the clock failed, or memory was refused.
-    Io(io::Error),
-    /// A delivery did not come through.
-    Link(Stopped),
-}
-
-impl From<io::Error> for Failure {
-    fn from(error: io::Error) -> Failure {
-        Failure::Io(error)
-    }
-}
-
-impl From<AllocError> for Failure {
-    fn from(error: AllocError) -> Failure {
-        Failure::Io(error.into())
-    }
-}
-
-impl<T: Drop> From<AllocFailed<T>> for Failure {
-    fn from(error: AllocFailed<T>) -> Failure {
-        Failure::Io(error.into())
-    }
-}
+pub type Failure = bench_parts::measure::Failure<Stopped>;
 
 impl From<Stopped> for Failure {
     fn from(stopped: Stopped) -> Failure {
-        Failure::Link(stopped)
+        Failure::Stopped(stopped)
     }
-}
-
-/// Measures what is ordered, and prints a line for each case.
-pub fn run(rt: &(impl Print + Clock), alloc: Global, order: Order<Case>) -> Result<(), Failure> {
-    match order.case {
-        Some(case) => measure(rt, alloc, case, order.rounds),
-        None => measure_all(rt, alloc, order.rounds),
-    }
-}
-
-fn measure_all(
-    rt: &(impl Print + Clock),
-    alloc: Global,
-    rounds: Option<u32>,
-) -> Result<(), Failure> {
-    for case in cases() {
-        measure(rt, alloc, case, rounds)?;
-    }
-    Ok(())
 }
 
 /// Prints the case, its rounds, the frames and the bytes of one message, the bytes of all that were handed up, and
 /// the nanoseconds of a frame.
-fn measure(
+pub fn time_case(
     rt: &(impl Print + Clock),
     alloc: Global,
     case: Case,
@@ -76,22 +32,14 @@ fn measure(
         Way::Settle(open) => settle_often(alloc, open, rounds, &mut payload)?,
         Way::Copy => copy_often(alloc, case.frames, rounds, &mut payload)?,
     };
-    let nanoseconds = start.elapsed(rt)?.as_nanos();
     let frames = u128::from(rounds) * u128::from(case.frames);
-    let per_frame = nanoseconds.checked_div(frames).unwrap_or(0);
+    let per_frame = nanoseconds_each(rt, &start, frames)?;
     let bytes = u64::from(case.frames) * u64::from(case.payload);
     let (name, frames) = (case.name, case.frames);
     println!(rt;
         "{name} rounds={rounds} frames={frames} bytes={bytes} moved={moved} ns={per_frame}"
     )?;
     Ok(())
-}
-
-/// Another byte in the payload, so that no answer can be kept for the next round.
-fn change(payload: &mut [u8]) {
-    if let Some(first) = payload.first_mut() {
-        *first = first.wrapping_add(1);
-    }
 }
 
 /// One delivery a round on one link. Answers how many bytes were handed up.

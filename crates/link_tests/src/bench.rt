@@ -1,28 +1,28 @@
 //! A link on the bench: its calls without their contracts, so that the tests are proved faster, and all that it shows.
 
-use crate::transfers::{bounded, head, rest};
-use amqp_link::{Link, LinkFault, SettleFault, Standing, Step, Taken, Terms, TooMuchCredit};
+use amqp_link::{Link, LinkBounds, LinkFault, Step, Taken, Terms, TooMuchCredit};
 use amqp_perform::{ReceiverSettleMode, Transfer};
 use std::alloc::{AllocError, Allocator, Global};
 use std::test::Fail;
-
-/// What a link shows of itself.
-#[derive(Clone, Copy, Debug, PartialEq, Eq)]
-pub struct Shown {
-    pub credit: u32,
-    pub delivery_count: u32,
-    pub is_draining: bool,
-    pub unfinished_id: Option<u32>,
-    pub opened: u32,
-    pub ready: u32,
-    pub room: u32,
-    pub held: u64,
-}
 
 /// A link under test.
 #[derive(Drop)]
 pub struct Bench<A: Allocator + Copy = Global> {
     link: Link<A>,
+}
+
+/// Terms with these bounds, where the sender's count is 0.
+pub fn terms(
+    rcv_settle_mode: ReceiverSettleMode,
+    allowed: u32,
+    max_message_size: u32,
+) -> Result<Terms, Fail> {
+    let bounds = LinkBounds::new(allowed, max_message_size).ok_or("refused bounds")?;
+    Ok(Terms {
+        initial_delivery_count: 0,
+        rcv_settle_mode,
+        bounds,
+    })
 }
 
 impl<A: Allocator + Copy> Bench<A> {
@@ -32,29 +32,52 @@ impl<A: Allocator + Copy> Bench<A> {
         }
     }
 
-    pub fn shown(&self) -> Shown {
-        Shown {
-            credit: self.link.credit(),
-            delivery_count: self.link.delivery_count(),
-            is_draining: self.link.is_draining(),
-            unfinished_id: self.link.unfinished_id(),
-            opened: self.link.opened(),
-            ready: self.link.ready(),
-            room: self.link.room(),
-            held: self.link.held(),
+    /// Its numbers, by their names.
+    pub fn numbers(&self, alloc: Global) -> Result<String, AllocError> {
+        let (credit, count) = (self.link.credit(), self.link.delivery_count());
+        let (opened, ready) = (self.link.opened(), self.link.ready());
+        let (room, held) = (self.link.room(), self.link.held());
+        format!(in alloc;
+            "credit={credit} count={count} opened={opened} ready={ready} room={room} held={held}"
+        )
+    }
+
+    /// What the next transfer is, the id of the delivery that it goes on with, and whether the sender is asked to use
+    /// its credit up.
+    pub fn standing_of_it(&self, alloc: Global) -> Result<String, AllocError> {
+        let next = if self.link.next_is_head() {
+            "head"
+        } else {
+            "rest"
+        };
+        let drain = if self.link.is_draining() {
+            "draining"
+        } else {
+            "steady"
+        };
+        let id = self.link.unfinished_id();
+        format!(in alloc; "{next} unfinished={id:?} {drain}")
+    }
+
+    /// The ids below 16 that are open.
+    pub fn open_ids(&self, alloc: Global) -> Result<String, AllocError> {
+        let mut text = String::from_str(alloc, "open=")?;
+        let mut mark = "";
+        for id in 0..16 {
+            if self.link.has_open(id) {
+                text.push_str(&format!(in alloc; "{mark}{id}")?)?;
+                mark = ",";
+            }
         }
-    }
-
-    pub fn next_is_head(&self) -> bool {
-        self.link.next_is_head()
-    }
-
-    pub fn held(&self) -> u64 {
-        self.link.held()
+        Ok(text)
     }
 
     pub fn opened(&self) -> u32 {
         self.link.opened()
+    }
+
+    pub fn held(&self) -> u64 {
+        self.link.held()
     }
 
     pub fn has_open(&self, id: u32) -> bool {
@@ -65,87 +88,45 @@ impl<A: Allocator + Copy> Bench<A> {
         self.link.grant(n)
     }
 
-    pub fn drain(&mut self) {
-        self.link.drain()
+    /// Does a call that names a number, if it is one, and says what it answers.
+    pub fn count_call(&mut self, alloc: Global, name: &str, n: u32) -> Result<String, Fail> {
+        match name {
+            "grant" => Ok(format!(in alloc; "{:?}", self.grant(n))?),
+            "count" => Ok(format!(in alloc; "{:?}", self.link.sender_count(n))?),
+            "standing" => Ok(format!(in alloc; "{:?}", self.link.standing(n))?),
+            _ => Err(Fail::from("no call")),
+        }
     }
 
-    pub fn sender_count(&mut self, stated: u32) -> Result<bool, LinkFault> {
-        self.link.sender_count(stated)
+    /// The same of one that names a range of ids.
+    pub fn range_call(
+        &mut self,
+        alloc: Global,
+        name: &str,
+        first: u32,
+        last: u32,
+    ) -> Result<String, Fail> {
+        match name {
+            "fault" => Ok(format!(in alloc; "{:?}", self.link.settle_fault(first, last))?),
+            "settle" => Ok(format!(in alloc; "{:?}", self.link.settle(first, last))?),
+            "peer" => Ok(format!(in alloc; "{:?}", self.link.peer_settled(first, last))?),
+            _ => Err(Fail::from("no call")),
+        }
+    }
+
+    pub fn drain(&mut self) {
+        self.link.drain()
     }
 
     pub fn transfer(&mut self, transfer: &Transfer<'_>, payload: &[u8]) -> Result<Step, LinkFault> {
         self.link.transfer(transfer, payload)
     }
 
-    /// A delivery in one frame.
-    pub fn whole(&mut self, id: u32, payload: &[u8]) -> Result<Step, LinkFault> {
-        self.transfer(&head(id, false), payload)
-    }
-
-    /// The first frame of a delivery that goes on.
-    pub fn begin(&mut self, id: u32, payload: &[u8]) -> Result<Step, LinkFault> {
-        self.transfer(&head(id, true), payload)
-    }
-
-    /// A frame of it behind which more come.
-    pub fn middle(&mut self, payload: &[u8]) -> Result<Step, LinkFault> {
-        self.transfer(&rest(true), payload)
-    }
-
-    /// Its last frame.
-    pub fn last(&mut self, payload: &[u8]) -> Result<Step, LinkFault> {
-        self.transfer(&rest(false), payload)
-    }
-
     pub fn take(&mut self) -> Option<Taken<A>> {
         self.link.take()
-    }
-
-    /// Hands a delivery up, and answers its id.
-    pub fn take_id(&mut self) -> Option<u32> {
-        Some(self.link.take()?.delivery_id)
-    }
-
-    pub fn standing(&self, id: u32) -> Standing {
-        self.link.standing(id)
-    }
-
-    pub fn settle_fault(&self, first: u32, last: u32) -> Option<SettleFault> {
-        self.link.settle_fault(first, last)
-    }
-
-    pub fn settle(&mut self, first: u32, last: u32) -> Result<u32, SettleFault> {
-        self.link.settle(first, last)
-    }
-
-    pub fn peer_settled(&mut self, first: u32, last: u32) -> u32 {
-        self.link.peer_settled(first, last)
     }
 
     pub fn drop_all(self) -> u32 {
         self.link.drop_all()
     }
-}
-
-/// A link in this mode with credit for so many deliveries, which is all that it allows.
-pub fn granted<A: Allocator + Copy>(
-    alloc: A,
-    mode: ReceiverSettleMode,
-    credit: u32,
-) -> Result<Bench<A>, Fail> {
-    let terms = Terms {
-        rcv_settle_mode: mode,
-        ..bounded(credit, 10)?
-    };
-    let mut bench = Bench::new(alloc, terms);
-    bench.grant(credit)?;
-    Ok(bench)
-}
-
-/// The bytes of a message that was handed up.
-pub fn bytes_of<A: Allocator + Copy>(
-    alloc: Global,
-    taken: &Taken<A>,
-) -> Result<Vec<u8>, AllocError> {
-    taken.message.to_vec(alloc)
 }

@@ -1,173 +1,124 @@
 //! Credit, and the delivery-counts of flows [2.6.7].
 
-use crate::bench::{Bench, Shown, granted};
-use crate::transfers::{bounded, rest, terms};
-use amqp_link::{LinkFault, Step, Terms, TooMuchCredit};
-use amqp_perform::{ReceiverSettleMode, Transfer};
+use crate::script::run;
 use std::test::Fail;
 
-/// A link at its attach, with 4 places.
-const EMPTY: Shown = Shown {
-    credit: 0,
-    delivery_count: 0,
-    is_draining: false,
-    unfinished_id: None,
-    opened: 0,
-    ready: 0,
-    room: 4,
-    held: 0,
-};
+const SHARED: &str = "
+attach first 4 10 0 | () | credit=0 count=0 opened=0 ready=0 room=4 held=0 unfinished=None steady
+grant 1 | Ok(())
+grant 4 | Err(TooMuchCredit)
+grant 4294967295 | Err(TooMuchCredit)
+grant 3 | Ok(()) | credit=4 room=0
+transfer id=0 tag=t < x | Ok(Ready) | credit=3 room=0 opened=1
+grant 1 | Err(TooMuchCredit)
+grant 0 | Ok(()) | same
+";
 
 #[test]
 fn credit_and_open_deliveries_share_what_is_allowed(rt: HostRuntime) -> Result<(), Fail> {
-    let mut link = Bench::new(rt.alloc(), terms()?);
-    assert_eq!(rt; link.shown(), EMPTY);
-    assert_eq!(rt; link.grant(1), Ok(()));
-    for much in [4, u32::MAX] {
-        assert_eq!(rt; link.grant(much), Err(TooMuchCredit), "{much}");
-    }
-    assert_eq!(rt; link.grant(3), Ok(()));
-    assert_eq!(rt; (link.shown().credit, link.shown().room), (4, 0));
-    assert_eq!(rt; link.whole(0, b"x"), Ok(Step::Ready));
-    let shown = link.shown();
-    assert_eq!(rt; (shown.credit, shown.room, shown.opened), (3, 0, 1));
-    assert_eq!(rt; link.grant(1), Err(TooMuchCredit));
-    assert_eq!(rt; link.grant(0), Ok(()));
-    assert_eq!(rt; link.shown(), shown);
-    Ok(())
+    run(&rt, rt.alloc(), SHARED)
 }
+
+const UNFINISHED: &str = "
+attach first 4 10 0 | ()
+grant 1 | Ok(())
+transfer id=7 tag=t more < x | Ok(Unfinished) | credit=0 count=1 steady unfinished=Some(7) opened=1 ready=0 room=3 held=66
+grant 4 | Err(TooMuchCredit)
+grant 3 | Ok(())
+transfer < y | Ok(Ready) | credit=3 opened=1 ready=1
+";
 
 #[test]
 fn an_unfinished_delivery_takes_a_place(rt: HostRuntime) -> Result<(), Fail> {
-    let mut link = Bench::new(rt.alloc(), terms()?);
-    assert_eq!(rt; link.grant(1), Ok(()));
-    assert_eq!(rt; link.begin(7, b"x"), Ok(Step::Unfinished));
-    let want = Shown {
-        delivery_count: 1,
-        unfinished_id: Some(7),
-        opened: 1,
-        room: 3,
-        held: 66,
-        ..EMPTY
-    };
-    assert_eq!(rt; link.shown(), want);
-    assert_eq!(rt; link.grant(4), Err(TooMuchCredit));
-    assert_eq!(rt; link.grant(3), Ok(()));
-    assert_eq!(rt; link.last(b"y"), Ok(Step::Ready));
-    let shown = link.shown();
-    assert_eq!(rt; (shown.credit, shown.opened, shown.ready), (3, 1, 1));
-    Ok(())
+    run(&rt, rt.alloc(), UNFINISHED)
 }
+
+const END_OF_THE_COUNT: &str = "
+attach first 4 10 4294967294 | ()
+grant 3 | Ok(())
+transfer id=9 tag=t < x | Ok(Ready) | count=4294967295
+transfer id=10 tag=t < x | Ok(Ready) | count=0
+transfer id=11 tag=t < x | Ok(Ready) | count=1 credit=0
+";
 
 #[test]
 fn the_count_goes_on_behind_its_end(rt: HostRuntime) -> Result<(), Fail> {
-    let terms = Terms {
-        initial_delivery_count: 4_294_967_294,
-        ..terms()?
-    };
-    let mut link = Bench::new(rt.alloc(), terms);
-    assert_eq!(rt; link.grant(3), Ok(()));
-    for (id, count) in [(9, 4_294_967_295), (10, 0), (11, 1)] {
-        assert_eq!(rt; link.whole(id, b"x"), Ok(Step::Ready));
-        assert_eq!(rt; link.shown().delivery_count, count);
-    }
-    assert_eq!(rt; link.shown().credit, 0);
-    Ok(())
+    run(&rt, rt.alloc(), END_OF_THE_COUNT)
 }
+
+const NO_CREDIT: &str = "
+attach first 4 10 0 | ()
+transfer id=0 tag=t < x | Err(TransferLimit)
+drain | ()
+transfer id=0 tag=t < x | Err(TransferLimit) | credit=0 count=0 opened=0 ready=0 room=4 held=0 unfinished=None draining
+grant 1 | Ok(()) | steady
+drain | ()
+transfer id=0 tag=t < x | Ok(Ready)
+transfer id=1 tag=t < x | Err(TransferLimit) | draining
+count 1 | Ok(true)
+";
 
 #[test]
 fn a_delivery_begins_with_credit_alone(rt: HostRuntime) -> Result<(), Fail> {
-    let mut link = Bench::new(rt.alloc(), terms()?);
-    assert_eq!(rt; link.whole(0, b"x"), Err(LinkFault::TransferLimit));
-    link.drain();
-    assert_eq!(rt; link.whole(0, b"x"), Err(LinkFault::TransferLimit));
-    let want = Shown {
-        is_draining: true,
-        ..EMPTY
-    };
-    assert_eq!(rt; link.shown(), want);
-    assert_eq!(rt; link.grant(1), Ok(()));
-    assert!(rt; !link.shown().is_draining);
-    link.drain();
-    assert_eq!(rt; link.whole(0, b"x"), Ok(Step::Ready));
-    assert_eq!(rt; link.whole(1, b"x"), Err(LinkFault::TransferLimit));
-    assert!(rt; link.shown().is_draining);
-    assert_eq!(rt; link.sender_count(1), Ok(true));
-    Ok(())
+    run(&rt, rt.alloc(), NO_CREDIT)
 }
 
 /// A delivery goes on without credit: a later transfer takes none.
+const GOES_ON: &str = "
+attach first 1 10 0 | ()
+grant 1 | Ok(())
+transfer id=0 tag=t more < a | Ok(Unfinished)
+transfer more < b | Ok(Unfinished)
+transfer more < b | Ok(Unfinished)
+transfer more < b | Ok(Unfinished)
+transfer format=0 < c | Ok(Ready) | credit=0 count=1 held=70
+";
+
 #[test]
 fn a_later_transfer_takes_no_credit(rt: HostRuntime) -> Result<(), Fail> {
-    let mut link = granted(rt.alloc(), ReceiverSettleMode::First, 1)?;
-    assert_eq!(rt; link.begin(0, b"a"), Ok(Step::Unfinished));
-    for _ in 0..3 {
-        assert_eq!(rt; link.middle(b"b"), Ok(Step::Unfinished));
-    }
-    let again = Transfer {
-        message_format: Some(0),
-        ..rest(false)
-    };
-    assert_eq!(rt; link.transfer(&again, b"c"), Ok(Step::Ready));
-    let shown = link.shown();
-    assert_eq!(rt;
-        (shown.credit, shown.delivery_count, shown.held),
-        (0, 1, 70)
-    );
-    Ok(())
+    run(&rt, rt.alloc(), GOES_ON)
 }
 
-/// With a count of 0 and a credit of 5: what is stated, and what it answers. From 2^31 on a count is behind.
+/// With a count of 0 and a credit of 5: from 2^31 on a count is behind.
+const BEHIND_OR_BEYOND: &str = "
+attach first 5 10 0 | ()
+grant 5 | Ok(())
+drain | ()
+count 0 | Ok(false) | same
+count 4294967295 | Ok(false) | same
+count 2147483648 | Ok(false) | same
+count 6 | Err(TransferLimit)
+count 2147483647 | Err(TransferLimit)
+";
+
 #[test]
 fn counts_behind_or_beyond_change_nothing(rt: HostRuntime) -> Result<(), Fail> {
-    let mut link = Bench::new(rt.alloc(), bounded(5, 10)?);
-    assert_eq!(rt; link.grant(5), Ok(()));
-    link.drain();
-    let before = link.shown();
-    for (stated, want) in [
-        (0, Ok(false)),
-        (4_294_967_295, Ok(false)),
-        (1 << 31, Ok(false)),
-        (6, Err(LinkFault::TransferLimit)),
-        ((1 << 31) - 1, Err(LinkFault::TransferLimit)),
-    ] {
-        assert_eq!(rt; link.sender_count(stated), want, "{stated}");
-        assert_eq!(rt; link.shown(), before, "{stated}");
-    }
-    Ok(())
+    run(&rt, rt.alloc(), BEHIND_OR_BEYOND)
 }
+
+const USED_UP: &str = "
+attach first 5 10 0 | ()
+grant 5 | Ok(())
+count 2 | Ok(false) | credit=3 room=2
+drain | ()
+count 5 | Ok(true) | credit=0 count=5 opened=0 ready=0 room=5 held=0 unfinished=None steady
+count 5 | Ok(false) | same
+count 6 | Err(TransferLimit)
+";
 
 #[test]
 fn a_sender_uses_its_credit_up_once(rt: HostRuntime) -> Result<(), Fail> {
-    let mut link = Bench::new(rt.alloc(), bounded(5, 10)?);
-    assert_eq!(rt; link.grant(5), Ok(()));
-    assert_eq!(rt; link.sender_count(2), Ok(false));
-    assert_eq!(rt; (link.shown().credit, link.shown().room), (3, 2));
-    link.drain();
-    assert_eq!(rt; link.sender_count(5), Ok(true));
-    let want = Shown {
-        delivery_count: 5,
-        room: 5,
-        ..EMPTY
-    };
-    assert_eq!(rt; link.shown(), want);
-    assert_eq!(rt; link.sender_count(5), Ok(false));
-    assert_eq!(rt; link.sender_count(6), Err(LinkFault::TransferLimit));
-    assert_eq!(rt; link.shown(), want);
-    Ok(())
+    run(&rt, rt.alloc(), USED_UP)
 }
 
 /// Not asked to, a sender can use its credit up as well.
+const USED_UP_UNASKED: &str = "
+attach first 4 10 4294967294 | ()
+grant 4 | Ok(())
+count 2 | Ok(false) | credit=0 count=2
+";
+
 #[test]
 fn credit_used_up_unasked_is_no_answer(rt: HostRuntime) -> Result<(), Fail> {
-    let terms = Terms {
-        initial_delivery_count: 4_294_967_294,
-        ..terms()?
-    };
-    let mut link = Bench::new(rt.alloc(), terms);
-    assert_eq!(rt; link.grant(4), Ok(()));
-    assert_eq!(rt; link.sender_count(2), Ok(false));
-    let shown = link.shown();
-    assert_eq!(rt; (shown.credit, shown.delivery_count), (0, 2));
-    Ok(())
+    run(&rt, rt.alloc(), USED_UP_UNASKED)
 }

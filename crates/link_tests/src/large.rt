@@ -1,9 +1,10 @@
 //! A message of 2,100,000 bytes in three frames, read in each way.
 
-use crate::bench::Bench;
-use crate::transfers::bounded;
+use crate::bench::{Bench, terms};
+use crate::words::transfer_of;
 use crate::writing::PacedWriter;
 use amqp_link::{Message, Taken};
+use amqp_perform::ReceiverSettleMode;
 use std::alloc::{AllocError, Global};
 use std::test::Fail;
 
@@ -21,13 +22,14 @@ fn pattern(alloc: Global) -> Result<Vec<u8>, AllocError> {
 
 /// A delivery with this message.
 fn delivered(alloc: Global, bytes: &[u8]) -> Result<Taken, Fail> {
-    let mut link = Bench::new(alloc, bounded(1, 3_000_000)?);
+    let mut link = Bench::new(alloc, terms(ReceiverSettleMode::First, 1, 3_000_000)?);
     link.grant(1)?;
     let (first, behind) = bytes.split_at_checked(FRAME).ok_or("too short")?;
     let (second, third) = behind.split_at_checked(FRAME).ok_or("too short")?;
-    link.begin(0, first)?;
-    link.middle(second)?;
-    link.last(third)?;
+    let frames = [("id=0 tag=t more", first), ("more", second), ("", third)];
+    for (fields, payload) in frames {
+        link.transfer(&transfer_of(fields)?, payload)?;
+    }
     Ok(link.take().ok_or("nothing ready")?)
 }
 

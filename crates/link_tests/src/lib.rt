@@ -21,8 +21,10 @@ mod order;
 #[cfg(test)]
 mod refusals;
 #[cfg(test)]
+mod script;
+#[cfg(test)]
 mod settling;
 #[cfg(test)]
-mod transfers;
+mod words;
 #[cfg(test)]
 mod writing;

@@ -1,85 +1,102 @@
 //! What memory a link asks for, and that it gives all of it back.
 
-use crate::bench::Bench;
-use crate::transfers::{aborted, bounded, head, rest, terms};
-use amqp_link::{LinkFault, Step};
-use amqp_perform::Transfer;
+use crate::bench::{Bench, terms};
+use crate::script::Runner;
+use crate::words::transfer_of;
+use amqp_link::LinkFault;
+use amqp_perform::ReceiverSettleMode;
 use std::alloc::{Allocator, Global};
 use std::process::Abort;
 use std::test::Fail;
 use test_heap::TestHeap;
 
+/// Runs a script on a link that goes, and answers how many bytes were asked for.
+fn requested(rt: &impl Abort, alloc: Global, script: &str) -> Result<u64, Fail> {
+    let heap = TestHeap::new(alloc, 0);
+    Runner::new(&heap)?.run(rt, alloc, script)?;
+    Ok(heap.requested())
+}
+
+const LONG: &str = "
+attach first 4 1000000 0 | ()
+grant 1 | Ok(())
+transfer id=0 tag=t more < *10 | Ok(Unfinished)
+";
+
 /// A message takes what has come of it, whatever may still come: nothing is reserved for the longest one.
 #[test]
 fn a_long_message_may_come_small(rt: HostRuntime) -> Result<(), Fail> {
-    let heap = TestHeap::new(rt.alloc(), 0);
-    let mut link = Bench::new(&heap, bounded(4, 1_000_000)?);
-    assert_eq!(rt; link.grant(1), Ok(()));
-    assert_eq!(rt; link.begin(0, &[0; 10]), Ok(Step::Unfinished));
-    assert!(rt; heap.requested() < 100_000);
+    assert!(rt; requested(&rt, rt.alloc(), LONG)? < 100_000);
     Ok(())
 }
+
+const NO_DELIVERY: &str = "
+attach first 1024 1073741824 0 | ()
+grant 1024 | Ok(())
+settle 0 7 | Ok(0)
+take | None
+";
 
 /// Neither an attached link nor one with all its credit keeps memory.
 #[test]
 fn nothing_is_asked_for_before_a_delivery(rt: HostRuntime) -> Result<(), Fail> {
-    let heap = TestHeap::new(rt.alloc(), 0);
-    let mut link = Bench::new(&heap, bounded(1024, 1 << 30)?);
-    assert_eq!(rt; link.grant(1024), Ok(()));
-    assert_eq!(rt; link.settle(0, 7), Ok(0));
-    assert!(rt; link.take().is_none());
-    assert_eq!(rt; heap.requested(), 0);
+    assert_eq!(rt; requested(&rt, rt.alloc(), NO_DELIVERY)?, 0);
     Ok(())
 }
 
-/// A transfer with a fault asks for no memory, so that none is refused it.
-#[test]
-fn faults_come_before_memory(rt: HostRuntime) -> Result<(), Fail> {
-    let heap = TestHeap::new(rt.alloc(), 1);
-    let mut link = Bench::new(&heap, terms()?);
-    let resumed = Transfer {
-        resume: true,
-        ..head(0, true)
-    };
-    assert_eq!(rt;
-        link.transfer(&resumed, b"x"),
-        Err(LinkFault::NotImplemented)
-    );
-    assert_eq!(rt;
-        link.transfer(&rest(true), b"x"),
-        Err(LinkFault::InvalidField)
-    );
-    assert_eq!(rt; link.whole(0, b"x"), Err(LinkFault::TransferLimit));
-    assert_eq!(rt; link.grant(1), Ok(()));
-    assert_eq!(rt; link.whole(0, &[0; 11]), Err(LinkFault::MessageSize));
-    assert!(rt; heap.is_waiting());
-    assert_eq!(rt; link.whole(0, &[0; 10]), Err(LinkFault::NoMemory));
-    assert_eq!(rt; link.whole(0, &[0; 10]), Ok(Step::Ready));
-    Ok(())
-}
+const ABORTED_ONCE: &str = "
+attach first 4 1000 0 | ()
+grant 3 | Ok(())
+transfer id=0 tag=t more < *10 | Ok(Unfinished)
+transfer more aborted < | Ok(Aborted)
+";
+
+const BEGUN: &str = "
+transfer id=1 tag=t more < *500 | Ok(Unfinished)
+transfer more < *500 | Ok(Unfinished)
+";
+
+const ABORTED: &str = "
+transfer more aborted < *500 | Ok(Aborted)
+";
+
+const ABORTED_AT_ONCE: &str = "
+transfer id=2 tag=t aborted < *500 | Ok(Aborted)
+";
 
 #[test]
 fn an_aborted_delivery_leaves_nothing(rt: HostRuntime) -> Result<(), Fail> {
     let heap = TestHeap::new(rt.alloc(), 0);
-    let mut link = Bench::new(&heap, bounded(4, 1_000)?);
-    assert_eq!(rt; link.grant(3), Ok(()));
-    assert_eq!(rt; link.begin(0, &[0; 10]), Ok(Step::Unfinished));
-    assert_eq!(rt; link.transfer(&aborted(), &[]), Ok(Step::Aborted));
+    let mut runner = Runner::new(&heap)?;
+    runner.run(&rt, rt.alloc(), ABORTED_ONCE)?;
     let before = heap.live();
-    assert_eq!(rt; link.begin(1, &[0; 500]), Ok(Step::Unfinished));
-    assert_eq!(rt; link.middle(&[0; 500]), Ok(Step::Unfinished));
+    runner.run(&rt, rt.alloc(), BEGUN)?;
     assert!(rt; before.saturating_add(1_000) <= heap.live());
-    assert_eq!(rt; link.transfer(&aborted(), &[0; 500]), Ok(Step::Aborted));
-    assert_eq!(rt; heap.live(), before);
+    runner.run(&rt, rt.alloc(), ABORTED)?;
     let requested = heap.requested();
-    let at_once = Transfer {
-        aborted: true,
-        ..head(2, false)
-    };
-    assert_eq!(rt; link.transfer(&at_once, &[0; 500]), Ok(Step::Aborted));
+    assert_eq!(rt; heap.live(), before);
+    runner.run(&rt, rt.alloc(), ABORTED_AT_ONCE)?;
     assert_eq!(rt; (heap.live(), heap.requested()), (before, requested));
-    drop(link);
+    drop(runner);
     assert_eq!(rt; heap.live(), 0);
+    Ok(())
+}
+
+/// A link that allows eight deliveries of ten bytes, with credit for six.
+fn with_credit<A: Allocator + Copy>(alloc: A) -> Result<Bench<A>, Fail> {
+    let mut link = Bench::new(alloc, terms(ReceiverSettleMode::First, 8, 10)?);
+    link.grant(6)?;
+    Ok(link)
+}
+
+/// A delivery of the link.
+fn arrive<A: Allocator + Copy>(
+    link: &mut Bench<A>,
+    fields: &str,
+    payload: &[u8],
+) -> Result<(), Fail> {
+    let arrived: Result<_, LinkFault> = link.transfer(&transfer_of(fields)?, payload);
+    arrived?;
     Ok(())
 }
 
@@ -87,9 +104,8 @@ fn an_aborted_delivery_leaves_nothing(rt: HostRuntime) -> Result<(), Fail> {
 #[test]
 fn a_taken_message_outlives_its_link(rt: HostRuntime) -> Result<(), Fail> {
     let heap = TestHeap::new(rt.alloc(), 0);
-    let mut link = Bench::new(&heap, terms()?);
-    assert_eq!(rt; link.grant(1), Ok(()));
-    assert_eq!(rt; link.whole(0, b"abcde"), Ok(Step::Ready));
+    let mut link = with_credit(&heap)?;
+    arrive(&mut link, "id=0 tag=t", b"abcde")?;
     let taken = link.take().ok_or("nothing ready")?;
     drop(link);
     assert_eq!(rt; taken.message.piece(0), b"abcde".as_slice());
@@ -101,15 +117,20 @@ fn a_taken_message_outlives_its_link(rt: HostRuntime) -> Result<(), Fail> {
 
 /// A link with two deliveries that were handed up, three that are ready, and one that is unfinished.
 fn with_six<A: Allocator + Copy>(alloc: A) -> Result<Bench<A>, Fail> {
-    let mut link = Bench::new(alloc, bounded(8, 10)?);
-    link.grant(6)?;
-    for id in 0..5 {
-        link.whole(id, b"abc")?;
+    let mut link = with_credit(alloc)?;
+    for fields in [
+        "id=0 tag=t",
+        "id=1 tag=t",
+        "id=2 tag=t",
+        "id=3 tag=t",
+        "id=4 tag=t",
+    ] {
+        arrive(&mut link, fields, b"abc")?;
     }
     for _ in 0..2 {
         link.take().ok_or("nothing ready")?;
     }
-    link.begin(5, b"abc")?;
+    arrive(&mut link, "id=5 tag=t more", b"abc")?;
     Ok(link)
 }
 
@@ -124,40 +145,5 @@ fn a_link_that_goes_leaves_nothing(rt: HostRuntime) -> Result<(), Fail> {
     assert_eq!(rt; link.opened(), 6);
     assert_eq!(rt; link.drop_all(), 3);
     assert_eq!(rt; heap.live(), 0);
-    Ok(())
-}
-
-/// Nine deliveries, where the request of this number is refused. The delivery that meets it changes nothing, and then
-/// comes again. Answers how many met it.
-fn nine_deliveries(rt: &impl Abort, alloc: Global, number: u64) -> Result<u32, Fail> {
-    let heap = TestHeap::new(alloc, number);
-    let mut link = Bench::new(&heap, bounded(9, 10)?);
-    link.grant(9)?;
-    let mut refused: u32 = 0;
-    for id in 0..9 {
-        let before = link.shown();
-        if link.whole(id, b"x") == Err(LinkFault::NoMemory) {
-            assert_eq!(rt; link.shown(), before, "{id} at {number}");
-            assert_eq!(rt; link.whole(id, b"x"), Ok(Step::Ready), "{id} at {number}");
-            refused = refused.saturating_add(1);
-        }
-    }
-    for id in 0..9 {
-        assert_eq!(rt; link.take_id(), Some(id), "at {number}");
-    }
-    assert_eq!(rt; link.settle(0, 8), Ok(9), "at {number}");
-    drop(link);
-    assert_eq!(rt; heap.live(), 0, "at {number}");
-    Ok(refused)
-}
-
-/// There are fifteen requests: nine messages, and room for 4, 8 and 16 deliveries, both among the open ones and in
-/// their order.
-#[test]
-fn each_growth_for_nine_is_refused_in_turn(rt: HostRuntime) -> Result<(), Fail> {
-    for number in 1..18 {
-        let want = if number <= 15 { 1 } else { 0 };
-        assert_eq!(rt; nine_deliveries(&rt, rt.alloc(), number)?, want, "{number}");
-    }
     Ok(())
 }

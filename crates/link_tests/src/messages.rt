@@ -1,101 +1,73 @@
 //! How messages come together, and how long they may be [2.6.14].
 
-use crate::bench::{Bench, bytes_of, granted};
-use crate::transfers::{aborted, head, terms};
-use amqp_link::{LinkFault, Step};
-use amqp_perform::{ReceiverSettleMode, Transfer};
+use crate::script::run;
 use std::test::Fail;
+
+const THREE_FRAMES: &str = "
+attach first 1 10 0 | ()
+grant 1 | Ok(()) | head
+transfer id=0 tag=t more < abc | Ok(Unfinished) | held=68 unfinished=Some(0) rest open=0
+take | None
+transfer more < d | Ok(Unfinished) | held=69
+transfer < e | Ok(Ready) | held=70 unfinished=None head
+take | 0 t 0 unsettled 5 abcde | held=65 opened=1
+take | None
+";
 
 #[test]
 fn a_message_in_three_frames(rt: HostRuntime) -> Result<(), Fail> {
-    let mut link = granted(rt.alloc(), ReceiverSettleMode::First, 1)?;
-    assert!(rt; link.next_is_head());
-    assert_eq!(rt; link.begin(0, b"abc"), Ok(Step::Unfinished));
-    assert_eq!(rt; (link.held(), link.shown().unfinished_id), (68, Some(0)));
-    assert!(rt; !link.next_is_head() && link.has_open(0) && !link.has_open(1));
-    assert!(rt; link.take().is_none());
-    assert_eq!(rt; link.middle(b"d"), Ok(Step::Unfinished));
-    assert_eq!(rt; link.held(), 69);
-    assert_eq!(rt; link.last(b"e"), Ok(Step::Ready));
-    assert_eq!(rt; (link.held(), link.shown().unfinished_id), (70, None));
-    assert!(rt; link.next_is_head());
-    let taken = link.take().ok_or("nothing ready")?;
-    assert_eq!(rt;
-        (taken.delivery_id, taken.message_format, taken.settled),
-        (0, 0, false)
-    );
-    assert_eq!(rt; taken.delivery_tag.as_bytes(), b"t".as_slice());
-    assert_eq!(rt; taken.message.len(), 5);
-    assert_eq!(rt;
-        bytes_of(rt.alloc(), &taken)?.as_slice(),
-        b"abcde".as_slice()
-    );
-    assert_eq!(rt; (link.held(), link.opened()), (65, 1));
-    assert!(rt; link.take().is_none());
-    Ok(())
+    run(&rt, rt.alloc(), THREE_FRAMES)
 }
 
 /// Frames without payload, of which the first begins the delivery, and a message of none.
+const EMPTY_FRAMES: &str = "
+attach first 2 10 0 | ()
+grant 2 | Ok(())
+transfer id=0 tag=t more < | Ok(Unfinished)
+transfer more < ab | Ok(Unfinished)
+transfer more < | Ok(Unfinished)
+transfer < | Ok(Ready)
+transfer id=1 tag=t < | Ok(Ready) | held=132
+take | 0 t 0 unsettled 2 ab
+take | 1 t 0 unsettled 0 empty
+";
+
 #[test]
 fn frames_without_payload(rt: HostRuntime) -> Result<(), Fail> {
-    let mut link = granted(rt.alloc(), ReceiverSettleMode::First, 2)?;
-    assert_eq!(rt; link.begin(0, b""), Ok(Step::Unfinished));
-    assert_eq!(rt; link.middle(b"ab"), Ok(Step::Unfinished));
-    assert_eq!(rt; link.middle(b""), Ok(Step::Unfinished));
-    assert_eq!(rt; link.last(b""), Ok(Step::Ready));
-    assert_eq!(rt; link.whole(1, b""), Ok(Step::Ready));
-    assert_eq!(rt; link.held(), 67 + 65);
-    for want in ["ab", ""] {
-        let taken = link.take().ok_or("nothing ready")?;
-        assert_eq!(rt; taken.message.is_empty(), want.is_empty());
-        assert_eq!(rt; bytes_of(rt.alloc(), &taken)?.as_slice(), want.as_bytes());
-    }
-    Ok(())
+    run(&rt, rt.alloc(), EMPTY_FRAMES)
 }
+
+const LONGEST: &str = "
+attach first 4 10 0 | ()
+grant 3 | Ok(())
+transfer id=0 tag=t < *11 | Err(MessageSize)
+transfer id=0 tag=t < 0123456789 | Ok(Ready)
+transfer id=1 tag=t more < abcdef | Ok(Unfinished) | held=146
+transfer < ghijk | Err(MessageSize)
+transfer < ghijk | Err(MessageSize)
+transfer < ghij | Ok(Ready)
+take | 0 t 0 unsettled 10 0123456789
+take | 1 t 0 unsettled 10 abcdefghij
+";
 
 #[test]
 fn a_message_is_at_most_so_long(rt: HostRuntime) -> Result<(), Fail> {
-    let mut link = Bench::new(rt.alloc(), terms()?);
-    assert_eq!(rt; link.grant(3), Ok(()));
-    assert_eq!(rt; link.whole(0, &[0; 11]), Err(LinkFault::MessageSize));
-    assert_eq!(rt; link.whole(0, &[0; 10]), Ok(Step::Ready));
-    assert_eq!(rt; link.begin(1, b"abcdef"), Ok(Step::Unfinished));
-    let before = link.shown();
-    assert_eq!(rt; before.held, 75 + 71);
-    for _ in 0..2 {
-        assert_eq!(rt; link.last(b"ghijk"), Err(LinkFault::MessageSize));
-        assert_eq!(rt; link.shown(), before);
-    }
-    assert_eq!(rt; link.last(b"ghij"), Ok(Step::Ready));
-    assert!(rt; link.take().is_some());
-    let taken = link.take().ok_or("nothing ready")?;
-    assert_eq!(rt;
-        bytes_of(rt.alloc(), &taken)?.as_slice(),
-        b"abcdefghij".as_slice()
-    );
-    Ok(())
+    run(&rt, rt.alloc(), LONGEST)
 }
+
+/// Aborted behind its first transfer, and at once.
+const ABORTED: &str = "
+attach first 3 10 0 | ()
+grant 3 | Ok(())
+transfer id=0 tag=t more < abcdef | Ok(Unfinished)
+transfer more aborted < *100 | Ok(Aborted) | held=0 opened=0 ready=0 room=1 head open=
+take | None
+transfer id=1 tag=t more aborted < *100 | Ok(Aborted) | credit=1 count=2 held=0 head
+transfer id=2 tag=t < g | Ok(Ready)
+take | 2 t 0 unsettled 1 g
+";
 
 #[test]
 fn an_aborted_delivery_is_gone(rt: HostRuntime) -> Result<(), Fail> {
-    let mut link = granted(rt.alloc(), ReceiverSettleMode::First, 3)?;
-    assert_eq!(rt; link.begin(0, b"abcdef"), Ok(Step::Unfinished));
-    assert_eq!(rt; link.transfer(&aborted(), &[0; 100]), Ok(Step::Aborted));
-    let shown = link.shown();
-    assert_eq!(rt;
-        (shown.held, shown.opened, shown.ready, shown.room),
-        (0, 0, 0, 1)
-    );
-    assert!(rt; link.next_is_head() && !link.has_open(0) && link.take().is_none());
-    let at_once = Transfer {
-        aborted: true,
-        ..head(1, true)
-    };
-    assert_eq!(rt; link.transfer(&at_once, &[0; 100]), Ok(Step::Aborted));
-    let shown = link.shown();
-    assert_eq!(rt; (shown.credit, shown.delivery_count, shown.held), (1, 2, 0));
-    assert!(rt; link.next_is_head());
-    assert_eq!(rt; link.whole(2, b"g"), Ok(Step::Ready));
-    assert_eq!(rt; link.take_id(), Some(2));
-    Ok(())
+    run(&rt, rt.alloc(), ABORTED)
 }

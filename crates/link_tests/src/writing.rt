@@ -1,6 +1,7 @@
 //! Small messages, read and written.
 
-use crate::bench::granted;
+use crate::bench::{Bench, terms};
+use crate::words::transfer_of;
 use amqp_link::Taken;
 use amqp_perform::ReceiverSettleMode;
 use std::alloc::Global;
@@ -65,8 +66,9 @@ impl Write for PacedWriter {
 
 /// A delivery with this message, of at most 10 bytes.
 fn delivered(alloc: Global, message: &[u8]) -> Result<Taken, Fail> {
-    let mut link = granted(alloc, ReceiverSettleMode::First, 1)?;
-    link.whole(0, message)?;
+    let mut link = Bench::new(alloc, terms(ReceiverSettleMode::First, 1, 10)?);
+    link.grant(1)?;
+    link.transfer(&transfer_of("id=0 tag=t")?, message)?;
     Ok(link.take().ok_or("nothing ready")?)
 }
 

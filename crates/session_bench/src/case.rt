@@ -1,6 +1,6 @@
 //! What is measured.
 
-use bench_order::Named;
+use bench_parts::order::Named;
 
 /// A session on which one delivery after the other comes in one transfer, is handed up and settled, and how often that
 /// is where the command line doesn't say.

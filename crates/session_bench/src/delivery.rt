@@ -1,12 +1,10 @@
 //! One delivery after the other through a session.
-ghost use Rattle.std.specs.Prelude.{◌≡◌};
 
 use crate::case::Case;
 use amqp_link::{LinkBounds, MAX_ALLOWED};
-use amqp_perform::{
-    Attach, Outcome, Performative, ReceiverSettleMode, Role, SenderSettleMode, Transfer,
-};
+use amqp_perform::{Outcome, Performative};
 use amqp_session::{CallFault, News, Session, SessionFault, SessionTerms};
+use bench_parts::frames::{attach, whole};
 use std::alloc::Global;
 
 /// Why a delivery did not come through.
@@ -40,45 +38,6 @@ fn terms() -> SessionTerms {
         handle_max: 255,
         max_frame_size: u32::MAX,
         bounds: LinkBounds::new(MAX_ALLOWED, 1_000_000).unwrap(),
-    }
-}
-
-/// An attach of a sender.
-fn attach(handle: u32) -> Attach<'static>
-    ensures { result.handle ≡ handle }
-{
-    Attach {
-        name: "link",
-        handle,
-        role: Role::Sender,
-        snd_settle_mode: SenderSettleMode::Mixed,
-        rcv_settle_mode: ReceiverSettleMode::First,
-        source: b"\x00\x53\x28\x45",
-        target: b"\x00\x53\x29\x45",
-        unsettled: &[],
-        incomplete_unsettled: &[],
-        initial_delivery_count: Some(0),
-        max_message_size: &[],
-        offered_capabilities: &[],
-        desired_capabilities: &[],
-        properties: &[],
-    }
-}
-
-/// A delivery in one transfer.
-fn whole(handle: u32, id: u32) -> Transfer<'static> {
-    Transfer {
-        handle,
-        delivery_id: Some(id),
-        delivery_tag: Some(b"tag".as_slice()),
-        message_format: Some(0),
-        settled: None,
-        more: false,
-        rcv_settle_mode: None,
-        state: &[],
-        resume: false,
-        aborted: false,
-        batchable: &[],
     }
 }
 

@@ -1,4 +1,4 @@
-use Rattle.std.proofs.Common.{◌≡◌, ℕ, ◌++◌, List, [], Option, Some, Ok, true, false, string_bytes, subst, sym, ap, ◌∙◌, rules, arith}
+use Rattle.std.proofs.Common.{◌≡◌, ◌++◌, Option, Some, Ok, false, string_bytes, subst, sym, ap, ◌∙◌, rules, arith}
 use Rattle.std.proofs.KnownBytes.{Keeps-refl}
 use Rattle.std.proofs.lemmas.Grind.{common_steps}
 use Rattle.amqp_frame.specs.Devices.{device_inner}

@@ -1,4 +1,4 @@
-use Rattle.std.proofs.Common.{◌+◌, ◌++◌, ℕ, List, take, drop, sym, ap, subst, ◌∙◌, rules, arith}
+use Rattle.std.proofs.Common.{◌++◌, ℕ, List, take, drop, sym, ap, subst, ◌∙◌, rules, arith}
 use Rattle.std.proofs.KnownBytes.{Appends-trans, Appends-kept}
 use Rattle.std.proofs.Math.Seq.{take-add}
 use Rattle.std.proofs.lemmas.Grind.{common_steps}

@@ -2,4 +2,4 @@ use Rattle.amqp_perform.proofs.Framed.{same_texts}
 use Rattle.amqp_perform.proofs.writer.write_attach.Goals as goal
 
 pub returns : goal.returns
-returns c = same_texts c.args.channel _ _ _ c.args.payload.now _ _ _ c.attach_texts.ensures c.write_list.ensures
+returns c = same_texts c.args.head.channel _ _ _ c.args.payload.now _ _ _ c.attach_texts.ensures c.write_list.ensures

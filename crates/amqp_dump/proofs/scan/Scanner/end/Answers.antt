@@ -1,4 +1,4 @@
-use Rattle.std.proofs.Common.{true, false, sym, ◌∙◌}
+use Rattle.std.proofs.Common.{sym, ◌∙◌}
 use Rattle.std.proofs.lemmas.Bool.{false≢true}
 use Rattle.amqp_dump.proofs.Tellings.{end_tells, rest_header, rest_none, rest_cut}
 use Rattle.amqp_dump.proofs.scan.Scanner.end.Goals as goal
