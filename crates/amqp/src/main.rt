@@ -1,5 +1,5 @@
 //! The program `amqp`: `command` reads the command line, `run` does what it asks for: `dump` by `amqp_dump`, `replay` by
-//! `amqp_script`, `recv` by `amqp_endpoint::serve` over sockets (`recv`), `send` by `amqp_send` (`send_file`, `send`).
+//! `amqp_script`, `recv` by `amqp_serve` over sockets (`recv`), `send` by `amqp_send` (`send_file`, `send`).
 #![tactic(auto)]
 
 mod command;

@@ -2,8 +2,9 @@
 ghost use Rattle.std.specs.Prelude.{◌≡◌, ◌↔◌, Err, IsTrue};
 ghost use Rattle.amqp_frame.specs.Devices.{has_failed};
 
-use amqp_endpoint::{Config, End, Endpoint, Policy, ServeFault, serve};
+use amqp_endpoint::{Config, End, Endpoint};
 use amqp_frame::Device;
+use amqp_serve::{Policy, ServeFault, serve};
 use std::alloc::{AllocError, Global};
 use std::fmt::{self, Display, Formatter};
 use std::io::{BufWriter, Read, Write};

@@ -1,9 +1,10 @@
 //! Connections one after the other, from a listener in memory.
 
 use crate::recv::recv_on;
-use amqp_endpoint::{Config, Policy};
+use amqp_endpoint::Config;
 use amqp_frame::Device;
 use amqp_perform::Outcome;
+use amqp_serve::Policy;
 use std::alloc::{AllocError, Global};
 use std::cell::{Cell, RefCell};
 use std::fmt::Display;

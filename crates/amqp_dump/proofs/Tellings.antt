@@ -3,7 +3,7 @@ use Rattle.std.proofs.Common.{◌≡◌, ℕ, zero-add, add-zero, ◌+◌, ◌-�
 use Rattle.std.proofs.Common.{arith, rules}
 use Rattle.std.proofs.Math.Seq.{take-length, take-add}
 use Rattle.std.proofs.lemmas.Bool.{false≢true, cases_lt}
-use Rattle.std.proofs.lemmas.List.{length-append, length-drop, take-append-drop, append_assoc, append-nil}
+use Rattle.std.proofs.lemmas.List.{take_rest, length-append, length-drop, take-append-drop, append_assoc, append-nil}
 use Rattle.std.proofs.lemmas.List.Folds.{list_any-append}
 use Rattle.std.proofs.lemmas.Grind.{flat_map-append}
 use Rattle.std.specs.List.{flat_map, list_any}
@@ -20,10 +20,6 @@ use Rattle.amqp_dump.specs.declared.scanned.Scanned.{Scanned}
 use Rattle.amqp_dump.specs.declared.scanned.StreamFault.TheVariants as stream
 use Rattle.amqp_dump.specs.Entries.{Entry, HeaderEntry, FaultEntry, entry_of, is_fault, unit_entry, unit_entries, whole_entries, rest_entries, until_fault, TellsOf, Tells, TellsFirst}
 use Rattle.amqp_dump.specs.Steps.{TellsWaiting, IsReady, HasTold, GoesOn, taken_by}
-
--- what is left from a place on
-pub left_is : (input : List ℕ) (place : ℕ) → take (length input - place) (drop place input) ≡ drop place input
-left_is input place = ap (λ (n : ℕ). take n (drop place input)) (sym (length-drop place input)) ∙ take-length (drop place input)
 
 -- less than a unit is held where no unit waits
 held_rest : (max : ℕ) (stage : Stage) (bytes : List ℕ) → (IsOver stage → ⊥) → IsHeld max stage bytes → (IsOne max stage bytes → ⊥) → IsRest max stage bytes
@@ -297,7 +293,7 @@ piece_first before piece end entries h more =
 piece_taken : (before piece : List ℕ) (at n : ℕ) → (before ++ take at piece) ++ take n (take (length piece - at) (drop at piece)) ≡ before ++ take (at + n) piece
 piece_taken before piece at n =
     append_assoc before (take at piece) (take n (take (length piece - at) (drop at piece)))
-    ∙ ap (λ (x : List ℕ). before ++ (take at piece ++ take n x)) (left_is piece at) ∙ ap (λ (x : List ℕ). before ++ x) (sym (take-add at n piece))
+    ∙ ap (λ (x : List ℕ). before ++ (take at piece ++ take n x)) (take_rest piece at) ∙ ap (λ (x : List ℕ). before ++ x) (sym (take-add at n piece))
 
 went_piece : (old : Scanner) (now : SplitterState) (before piece : List ℕ) (at n : ℕ) (entries : List Entry)
     → HasTold old (before ++ take at piece) entries → Pushed old.splitter now (take n (take (length piece - at) (drop at piece)))
@@ -324,7 +320,7 @@ pub goes_none : (old s : Scanner) (piece : List ℕ) (at n : ℕ) → s.place �
     → (before : List ℕ) (entries : List Entry) → HasTold old (before ++ take at piece) entries → HasTold s (before ++ piece) entries
 goes_none old s piece at n place ready within bound all p before entries t =
     let went = went_piece old s.splitter before piece at n entries t p in
-    let l = ap length (left_is piece at) ∙ length-drop at piece in
+    let l = ap length (take_rest piece at) ∙ length-drop at piece in
     let whole : at + n ≡ length piece = elim (cases_lt n (length (take (length piece - at) (drop at piece)))) [
       | inl below ↦ elim (all below) [ inl one ↦ absurd (ready.none one.unit one.stands) | inr over ↦ absurd (ready.due over) ]
       | inr above ↦ omega arith

@@ -10,7 +10,7 @@ use Rattle.amqp_perform.specs.declared.fault.BodyFault.{BodyFault}
 use Rattle.amqp_perform.specs.declared.fault.BodyFault.TheVariants as body
 use Rattle.amqp_perform.specs.Again.{IsOfField, AreOfFields}
 use Rattle.amqp_perform.specs.Bodies.{BodyOf}
-use Rattle.amqp_perform.specs.Cells.{Cell, Absent, Whole, Bytes, Span}
+use Rattle.amqp_perform.specs.Cells.{Cell, Absent, Whole, Bytes, Span, whole_in}
 use Rattle.amqp_perform.specs.BodyReading.{body_at, fault_of}
 use Rattle.amqp_perform.specs.Tables.{Absence, mandatory, optional, Field, field, uint, fields_of, begin_fields, attach_fields, transfer_fields}
 use Rattle.amqp_session.specs.declared.fault.SessionFault.{SessionFault}
@@ -34,7 +34,7 @@ use Rattle.amqp_endpoint.specs.declared.phase.Phase.{Phase}
 use Rattle.amqp_endpoint.specs.declared.phase.Phase.TheVariants as phase
 use Rattle.amqp_endpoint.specs.Configs.{Configured}
 use Rattle.amqp_endpoint.specs.Connections.{ConnectionState, ConnectionEvent, ConnectionMay, channels, slot_at, lesser, channel_limit, is_unopened, is_open, is_closing, is_dead}
-use Rattle.amqp_endpoint.specs.Fields.{whole_in, Read, Opens, Begins, Ends, Closes, ForSession, Other, begin_in, attach_in, transfer_in, read_in}
+use Rattle.amqp_endpoint.specs.Fields.{Read, Opens, Begins, Ends, Closes, ForSession, Other, begin_in, attach_in, transfer_in, read_in}
 use Rattle.amqp_endpoint.specs.Lines.{Line, attach_too_high, by_fault, session_line, channel_line, opened_line, unopened_line, read_line, unread_line, body_line, frame_line, is_read_close}
 use Rattle.amqp_endpoint.specs.Lines.{closing_line, line_of, event_on}
 use Rattle.amqp_endpoint.specs.Lines as line

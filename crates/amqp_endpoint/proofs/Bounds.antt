@@ -5,7 +5,6 @@ use Rattle.std.proofs.lemmas.List.Sums.{sum_by-cons, count_by-le-length}
 use Rattle.amqp_session.specs.declared.slot.Slot.{Slot}
 use Rattle.amqp_session.specs.declared.slot.Slot.TheVariants.{Free, Live, Waits}
 use Rattle.amqp_session.specs.declared.terms.SessionTerms.{SessionTerms}
-use Rattle.amqp_link.specs.Bounds.{Bounds}
 use Rattle.amqp_session.specs.Faults.{is_free}
 use Rattle.amqp_session.specs.Histories as session
 use Rattle.amqp_session.specs.Laws as laws
@@ -16,6 +15,7 @@ use Rattle.amqp_endpoint.specs.Connections.{ConnectionState, ConnectionEvent, ch
 use Rattle.amqp_endpoint.specs.Held.{channel_used, session_count, channel_links, link_count, link_most, session_parts, session_part_bytes, HoldsWithin}
 use Rattle.amqp_endpoint.specs.Histories.{part, state_of, IsSoundPart, Sound}
 use Rattle.amqp_endpoint.specs.Steps.{EndpointState}
+use Rattle.amqp_session.proofs.Bounds.{most_of}
 use Rattle.amqp_session.proofs.Places.{tabulate_long, sums_same, sums_within}
 
 -- what the sessions owe
@@ -52,18 +52,14 @@ pub connection_counted : SessionCounted → (config : Configured) (h : List Conn
 connection_counted law config h =
     sums_same channel_bytes session_part_bytes (λ k. life_state session.state_of (part k h)) (λ k. part k h) (λ k. one_counted law (part k h)) 0 (channels config)
 
-most_by : Bounds → ℕ
-most_by b = 1407 + b.allowed * (b.max_message_size + 96)
-
 one_within : SessionBound → (config : Configured) (l : Slot (Life SessionTerms SessionEvent)) → IfLive (λ life. IsSoundPart config life.0 life.1) l →
     channel_bytes (life_state session.state_of l) ≤ 64 * channel_used (life_state session.state_of l) + channel_links (life_state session.state_of l) * link_most config
-unfolding most_by
 one_within law config Free sound = omega arith
 one_within law config (Live l) sound =
     let links = laws.used_count (session.state_of l.0 l.1) in
     let bound = law l.0 l.1 sound.session in
-    let same : most_by l.0.bounds ≡ most_by config.bounds = ap most_by sound.begun.bounds in
-    let product : links * most_by l.0.bounds ≡ links * most_by config.bounds = ap (λ (n : ℕ). links * n) same in
+    let same : most_of l.0.bounds ≡ most_of config.bounds = ap most_of sound.begun.bounds in
+    let product : links * most_of l.0.bounds ≡ links * most_of config.bounds = ap (λ (n : ℕ). links * n) same in
     omega (arith, bound, product)
 one_within law config Waits sound = omega arith
 

@@ -18,7 +18,8 @@ use Rattle.amqp_perform.specs.Performatives.{flag, role, sender_mode, receiver_m
 use Rattle.amqp_perform.specs.Performatives.{attach_cells, flow_cells, transfer_cells, disposition_cells}
 use Rattle.amqp_link.specs.Links.{sent_of}
 use Rattle.amqp_session.specs.Frames.{Attaches, Flows, Transfers, Disposes, attaching, flowing, disposing}
-use Rattle.amqp_endpoint.specs.Fields.{number_in, flag_in, octets_in, span_in, role_in, sender_mode_of, receiver_mode_of, receiver_mode_in}
+use Rattle.amqp_perform.specs.Cells.{number_in, flag_in, span_in}
+use Rattle.amqp_endpoint.specs.Fields.{octets_in, role_in, sender_mode_of, receiver_mode_of, receiver_mode_in}
 use Rattle.amqp_endpoint.specs.Fields.{ForSession, attach_in, flow_in, transfer_in, disposition_in, read_in, read_of}
 
 -- Fields. ---------------------------------------------------------------------------------------------------------------

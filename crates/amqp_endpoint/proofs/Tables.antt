@@ -1,6 +1,7 @@
 -- The table of places, and what an event at one of them, or at all, makes of it.
 use Rattle.std.proofs.Common.{arith, ◌≡◌, ℕ, zero, suc, ◌+◌, ◌<◌, ◌≤◌, subst, Bool, List, [], ◌∷◌, ◌++◌, length, map, refl, sym, ap, ◌∙◌, ◌||◌, Option, Some, get_or}
 use Rattle.std.specs.Prelude.{slice_get, slice_set, unwrap_or}
+use Rattle.std.proofs.lemmas.List.{set-get_or}
 use Rattle.amqp_session.specs.declared.slot.Slot.{Slot}
 use Rattle.amqp_session.specs.declared.slot.Slot.TheVariants.{Free, Live, Waits}
 use Rattle.amqp_session.specs.declared.terms.SessionTerms.{SessionTerms}
@@ -80,6 +81,10 @@ module _ (config : Configured) (p : Phase) (failed closed : Bool) (slots : Table
   -- what stands at a channel
   pub slot_is : (i : ℕ) (x : Slot SessionState) → x ≡ get_or slots i x → i < length slots → slot_at s i ≡ x
   slot_is i x e l = subst (λ (t : ConnectionState). slot_at t i ≡ x) view (ap (λ (o : Option (Slot SessionState)). unwrap_or o Free) (there slots i x e l))
+
+  -- and is put there again
+  pub kept_again : (i : ℕ) (x : Slot SessionState) → x ≡ get_or slots i x → connection_of config p failed closed (slice_set slots i x) ≡ s
+  kept_again i x at = ap (λ (ls : Table). connection_of config p failed closed ls) (ap (λ (y : Slot SessionState). slice_set slots i y) at ∙ set-get_or slots i x) ∙ view
 
   pub channel_low : IsPlaced config p slots → (channel : ℕ) → channel ≤ s.config.channel_max → channel < length slots
   channel_low placed channel low =

@@ -12,11 +12,10 @@ use Rattle.amqp_session.specs.declared.fault.SessionFault.TheVariants as fault
 use Rattle.amqp_session.specs.declared.news.News.{News}
 use Rattle.amqp_session.specs.declared.slot.Slot.{Slot}
 use Rattle.amqp_session.specs.declared.slot.Slot.TheVariants.{Free, Live, Waits}
-use Rattle.amqp_session.specs.Answers as session
-use Rattle.amqp_session.specs.Answers.{said_by, answer_said, IsWithin, IsFrameRefusal}
+use Rattle.amqp_session.specs.Answers.{said_by, answer_said, IsWithin}
 use Rattle.amqp_session.specs.Faults.{session_fault, session_condition, event_of, news_of, answer_of, IsRefusal}
 use Rattle.amqp_session.specs.Frames.{Attaching, Frame, attaching, attach_said, refusal_said}
-use Rattle.amqp_session.specs.Sessions.{SessionState, session_after}
+use Rattle.amqp_session.specs.Sessions.{SessionState}
 use Rattle.amqp_endpoint.specs.Connections.{InSession}
 use Rattle.amqp_endpoint.specs.declared.event.Event.{Event}
 use Rattle.amqp_endpoint.specs.Connections.{ConnectionState, connection_after}
@@ -57,26 +56,6 @@ IsLive Waits = ⊥
 abbrev pub IsForSession : Option Frame → Type 0
 IsForSession None = ⊥
 IsForSession (Some f) = Unit {0}
-
--- what its frame leaves there, and is answered by
-abbrev pub PlaceDone : Slot SessionState → Slot SessionState → Option Frame → Result Done SessionFault → Type 0
-PlaceDone (Live old) (Live new) f (Ok done) = session.HasDone old new f done
-PlaceDone (Live old) (Live new) f (Err e) = IsFrameRefusal old f e × (new ≡ old)
-PlaceDone _ _ f result = ⊥
-
--- the session took a transfer, of which this is told
-pub record IsTransferred (old new : SessionState) (f : Frame) (told : News) : Type 0 where
-  pub accepted : session_fault old f ≡ None
-  pub after : new ≡ session_after old (event_of old f)
-  pub news : told ≡ news_of old f
-
-abbrev pub SessionTransferred : SessionState → SessionState → Frame → Result News SessionFault → Type 0
-SessionTransferred old new f (Ok told) = IsTransferred old new f told
-SessionTransferred old new f (Err e) = IsRefusal old f e × (new ≡ old)
-
-abbrev pub PlaceTransferred : Slot SessionState → Slot SessionState → Frame → Result News SessionFault → Type 0
-PlaceTransferred (Live old) (Live new) f result = SessionTransferred old new f result
-PlaceTransferred _ _ f result = ⊥
 
 -- an attach's handle is above the session's highest
 abbrev pub is_beyond : Slot SessionState → Performative → Bool

@@ -8,7 +8,6 @@ use Rattle.amqp_session.specs.declared.fault.CallFault as session_fault
 use Rattle.amqp_session.specs.declared.slot.Slot.{Slot}
 use Rattle.amqp_session.specs.declared.slot.Slot.TheVariants.{Free, Live, Waits}
 use Rattle.amqp_session.specs.Calls as session
-use Rattle.amqp_session.specs.Places.{slot_map}
 use Rattle.amqp_session.specs.Sessions as of_session
 use Rattle.amqp_session.specs.Sessions.{SessionState, session_after}
 use Rattle.amqp_session.specs.Slots.{HandsUp}
@@ -40,30 +39,12 @@ all_said a = asked_said a ∷ []
 abbrev pub outcome_said : Disposition → List Said
 outcome_said p = said (performative.Disposition p) ∷ []
 
--- a take says nothing
-abbrev pub none_said : {X : Type 0} → X → List Said
-none_said x = []
-
 -- The answer of a session to a call, where `said` is what is said for what it gives.
 abbrev pub SessionAsked : {X : Type 0} → (X → List Said) → SessionState → SessionState → session.Call → Result X session_fault.CallFault → Type 0
 SessionAsked said old new c (Ok x) = (session.call_fault old c ≡ None) × (new ≡ session_after old (session.call_event old c)) × (session.call_answer old c ≡ said x)
 SessionAsked said old new c (Err e) = (session.call_fault old c ≡ Some e) × (new ≡ old)
 
--- what an accepted call leaves at a place, and says
-abbrev pub slot_called : session.Call → Slot SessionState → Slot SessionState
-slot_called c x = slot_map (λ s. session_after s (session.call_event s c)) x
-
-abbrev pub slot_said : Slot SessionState → session.Call → List Said
-slot_said Free c = []
-slot_said (Live s) c = session.call_answer s c
-slot_said Waits c = []
-
--- the answer to a call for the session at a place
-abbrev pub SlotAsked : {X : Type 0} → (X → List Said) → Slot SessionState → Slot SessionState → session.Call → Result X CallFault → Type 0
-SlotAsked said old new c (Ok x) = (at_session old c ≡ None) × (new ≡ slot_called c old) × (slot_said old c ≡ said x)
-SlotAsked said old new c (Err e) = (at_session old c ≡ Some e) × (new ≡ old)
-
--- and for the session on a channel
+-- the answer to a call for the session on a channel
 abbrev pub IsAsked : {X : Type 0} → (X → List Said) → ConnectionState → ConnectionState → ℕ → session.Call → Result X CallFault → Type 0
 IsAsked said old new channel c (Ok x) =
     (at_session (slot_at old channel) c ≡ None) × (new ≡ connection_after old (call_event old channel c)) × (call_spoken old channel c ≡ on_channel channel (said x))

@@ -12,31 +12,15 @@ use Rattle.amqp_perform.specs.declared.performative.Performative.{Performative}
 use Rattle.amqp_perform.specs.declared.performative.Performative.TheVariants as performative
 use Rattle.amqp_perform.specs.declared.performative.Begin.{Begin}
 use Rattle.amqp_perform.specs.declared.performative.Open.{Open}
-use Rattle.amqp_perform.specs.Cells.{Cell, Whole, Bytes, Span}
+use Rattle.amqp_perform.specs.Cells.{Cell, Bytes, number_in, whole_in, flag_in, span_in}
 use Rattle.amqp_session.specs.Frames.{Frame, Attaches, Flows, Transfers, Disposes, Detaches, frame_of}
 
 -- What stands in a field. --------------------------------------------------------------------------------------------
 
--- a number, or none
-abbrev pub number_in : Cell → Option ℕ
-number_in (Whole n) = Some n
-number_in _ = None
-
--- a number that is there: one that is missing was read as its default
-abbrev pub whole_in : Cell → ℕ
-whole_in c = unwrap_or (number_in c) 0
-
-abbrev pub flag_in : Cell → Bool
-flag_in c = whole_in c == 1
-
+-- the bytes of a binary or a text, or none
 abbrev pub octets_in : Cell → Option (List ℕ)
 octets_in (Bytes octets) = Some octets
 octets_in _ = None
-
--- a span; nothing where it is absent
-abbrev pub span_in : Cell → List ℕ
-span_in (Span text) = text
-span_in _ = []
 
 -- true is the receiver [2.8.1]
 abbrev pub role_in : Cell → Role
@@ -56,7 +40,7 @@ receiver_mode_in (Some n) = Some (receiver_mode_of n)
 
 -- What the connection reads. -----------------------------------------------------------------------------------------
 
--- an open of the peer [2.7.1]
+-- An open of the peer. Its idle-time-out is ignored, as are its hostname, locales, capabilities and properties: no time is promised. [2.7.1]
 pub record Opening : Type 0 where
   pub max_frame_size : ℕ
   pub channel_max : ℕ

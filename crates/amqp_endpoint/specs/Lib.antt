@@ -17,5 +17,5 @@ pub mod Takings
 pub mod Windows
 pub mod Credits
 pub mod Traces
-pub mod Serving
-pub mod Cuts
+pub mod Lending
+pub mod ConnectionLending

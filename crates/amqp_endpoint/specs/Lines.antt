@@ -34,25 +34,25 @@ use Rattle.amqp_endpoint.specs.Fields.{Opening, Beginning, Read, Opens, Begins, 
 pub data Line : Type 0 where
   HeaderAccepted : Line  -- the header of this version [2.2]
   HeaderUnknown : Line  -- another
-  FrameBad : Line  -- a frame that is none, unless the peer's close is awaited [2.3.1]
+  FrameBad : Line  -- a malformed frame, unless the peer's close is awaited: amqp:connection:framing-error [2.3.1]
   FrameBadInClosing : Line  -- the same, while the peer's close is awaited
   CloseAwaited : Line  -- the peer's close, while it is awaited [2.4.3]
   DroppedInClosing : Line  -- anything else then
-  ChannelTooHigh : Line  -- a body on a channel above the limit [2.4.1]
+  ChannelTooHigh : Line  -- a body on a channel above the limit: amqp:connection:framing-error [2.4.1]
   BodyEmpty : Line  -- a frame without body [2.4.5]
-  BodyMisspelt : Line  -- its value is misspelt or too deep
-  BodyInvalid : Line  -- it is no performative, or one with a field that is missing or invalid [2.7]
-  OpenMissing : Line  -- something else before the peer's open [2.4.1]
-  OpenAgain : Line  -- a second open
+  BodyMisspelt : Line  -- its value is misspelt or too deep: amqp:decode-error
+  BodyInvalid : Line  -- it is no performative, or one with a field that is missing or invalid: amqp:invalid-field [2.7]
+  OpenMissing : Line  -- something else before the peer's open: amqp:illegal-state [2.4.1]
+  OpenAgain : Line  -- a second open: amqp:illegal-state
   PeerOpens : Opening → Line  -- the peer's open
   PeerCloses : Line  -- the peer's close [2.4.3]
   EndAwaited : ℕ → Line  -- the peer's end, where it is awaited on this channel [2.5.3]
   DroppedInEnding : Line  -- anything else there
-  BeginMisplaced : Line  -- a begin on a channel that has begun, or one that answers another [2.5.1]
-  BeginMissing : Line  -- another frame of a session on a channel that has not begun
+  BeginMisplaced : Line  -- a begin on a channel that has begun, or one that answers another: amqp:illegal-state [2.5.1]
+  BeginMissing : Line  -- another frame of a session on a channel that has not begun: amqp:illegal-state
   PeerBegins : ℕ → Beginning → Line  -- a session begins on this channel [2.5.1]
   PeerEnds : ℕ → Line  -- the peer ends the session on this channel [2.5.3]
-  HandleTooHigh : Line  -- an attach with a handle above the session's highest [2.7.2]
+  HandleTooHigh : Line  -- an attach with a handle above the session's highest: amqp:connection:framing-error [2.7.2]
   SessionBroken : ℕ → SessionFault → Line  -- a fault that ends the session on this channel [2.5.4]
   SessionFrame : ℕ → SessionState → Frame → Line  -- a frame that the session on this channel takes
 

@@ -99,6 +99,7 @@ pub fn detach<A: Allocator + Copy>(
     Ok(dropped)
 }
 
+#[tactic(auto, using(crate::proofs::Lent::went_on, crate::proofs::Lent::stayed))]
 /// Hands up the first ready delivery of the link at a handle. Refused, with nothing changed, with the first of these:
 /// `Dead`, `NoSession`, `NoLink`, `NothingReady`. Takes no memory, and no room of the output.
 pub fn take<A: Allocator + Copy>(
@@ -112,7 +113,13 @@ pub fn take<A: Allocator + Copy>(
     if takes_no_call(connection) {
         return Err(CallFault::Dead);
     }
-    connection.take(channel, handle)
+    let Some(session) = connection.session_mut(channel) else {
+        return Err(CallFault::NoSession);
+    };
+    match session.take(handle) {
+        Ok(taken) => Ok(taken),
+        Err(fault) => Err(fault_of(fault)),
+    }
 }
 
 /// A request for the session on a channel. Where it is refused nothing has changed.

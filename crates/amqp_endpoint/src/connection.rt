@@ -2,22 +2,26 @@
 ghost use Rattle.std.specs.Prelude.{◌≡◌, ◌≤◌, ◌<◌, ◌+◌, ◌^◌, true, false, Some, None, slice_get, IfOk, OnOk, OnErr, IfSome, IfNone, option_map};
 ghost use Rattle.amqp_link.specs.Links.{sent_of};
 ghost use Rattle.amqp_session.specs.declared.slot.Slot.TheVariants.{Free, Live, Waits};
-ghost use Rattle.amqp_session.specs.Calls.{Take, Settle};
+ghost use Rattle.amqp_session.specs.Calls.{Settle};
 ghost use Rattle.amqp_session.specs.Frames.{Frame, Transfers, frame_of};
+ghost use Rattle.std.specs.Option.{option_copied_mut};
+ghost use Rattle.std.specs.Borrow.{sem};
 ghost use Rattle.amqp_session.specs.Places.{live_in};
+ghost use Rattle.amqp_endpoint.specs.ConnectionLending.{LendsChannel};
 ghost use Rattle.amqp_session.specs.Sessions.{SessionState};
 ghost use Rattle.amqp_endpoint.specs.Acting.{IsLive, TakesIn, FrameDone, TransferDone};
-ghost use Rattle.amqp_endpoint.specs.Asking.{IsAsked, SlotHandsUp, all_said, none_said, outcome_said, asked_of};
+ghost use Rattle.amqp_endpoint.specs.Asking.{IsAsked, SessionAsked, all_said, outcome_said, asked_of};
 ghost use Rattle.amqp_endpoint.specs.Connections.{connection_begins, connection_after, connection_ready, connection_bytes, channel_ready, channel_limit, slot_at, Opened, Broken, Failed, CloseAsked, PeerClosed, Lost, HeaderRefused, Finished, Begun, SessionFailed, SessionEnded};
 
 use crate::channels::{self, KeptSession, Place};
 use crate::config::Config;
 use crate::fault::CallFault;
 use crate::phase::Phase;
-use crate::request::{Asked, Request};
-use amqp_link::Taken;
+use crate::request::{Asked, Request, fault_of};
 use amqp_perform::{Disposition, Outcome, Performative, Transfer};
-use amqp_session::{Done, News, Session, SessionFault, SessionTerms, Slot};
+use amqp_session::{
+    CallFault as SessionCallFault, Done, News, Session, SessionFault, SessionTerms, Slot,
+};
 use std::alloc::{AllocError, Allocator, Global};
 use std::marker::Model;
 
@@ -249,6 +253,7 @@ impl<A: Allocator + Copy> Connection<A> {
         dropped
     }
 
+    #[tactic(auto, using(crate::proofs::Lent::went_on, crate::proofs::Lent::stayed))]
     /// A frame of the live session on a channel. Where it is refused nothing has changed.
     pub fn frame(
         &mut self,
@@ -260,9 +265,13 @@ impl<A: Allocator + Copy> Connection<A> {
         requires live { TakesIn (slot_at self.old channel) performative.now }
         ensures { (s : SessionState) (f : Frame) → slot_at self.old channel ≡ Live s → frame_of performative.now payload.now ≡ Some f → FrameDone self.old self.new channel s f result }
     {
-        channels::frame(&mut self.places[channel as usize], performative, payload)
+        match self.session_mut(channel.into()) {
+            Some(session) => session.frame(performative, payload),
+            None => unreachable!(),
+        }
     }
 
+    #[tactic(auto, using(crate::proofs::Lent::went_on, crate::proofs::Lent::stayed))]
     /// A transfer with its payload for the live session on a channel. Where it is refused nothing has changed.
     pub fn transfer(
         &mut self,
@@ -274,7 +283,10 @@ impl<A: Allocator + Copy> Connection<A> {
         requires live { IsLive (slot_at self.old channel) }
         ensures { (s : SessionState) → slot_at self.old channel ≡ Live s → TransferDone self.old self.new channel s (Transfers transfer.now.handle (sent_of transfer.now payload.now)) result }
     {
-        channels::transfer(&mut self.places[channel as usize], transfer, payload)
+        match self.session_mut(channel.into()) {
+            Some(session) => session.transfer(transfer, payload),
+            None => unreachable!(),
+        }
     }
 
     /// The live session on a channel; `None` where none is live.
@@ -287,17 +299,36 @@ impl<A: Allocator + Copy> Connection<A> {
         }
     }
 
+    /// Lends the live session on a channel.
+    pub fn session_mut(&mut self, channel: u16) -> Option<&mut Session<A>>
+        ensures* writes_back { sem 𝓛 (LendsChannel A.row A.Allocator self.entry channel result) }
+        ensures value { option_copied_mut result ≡ live_in (slot_at self.old channel) }
+    {
+        let place = channel as usize;
+        if place >= self.places.len() {
+            return None;
+        }
+        match channels::session_mut(&mut self.places[place]) {
+            Some(session) => Some(session),
+            None => None,
+        }
+    }
+
+    #[tactic(auto, using(crate::proofs::Lent::went_on, crate::proofs::Lent::stayed))]
     /// A request of the application for the session on a channel. Where it is refused nothing has changed.
     pub fn ask(&mut self, channel: u16, request: Request) -> Result<Asked, CallFault>
         ensures { IsAsked all_said self.old self.new channel (asked_of request) result }
     {
-        let place = channel as usize;
-        if place >= self.places.len() {
+        let Some(session) = self.session_mut(channel) else {
             return Err(CallFault::NoSession);
+        };
+        match ask(session, request) {
+            Ok(asked) => Ok(asked),
+            Err(fault) => Err(fault_of(fault)),
         }
-        channels::ask(&mut self.places[place], request)
     }
 
+    #[tactic(auto, using(crate::proofs::Lent::went_on, crate::proofs::Lent::stayed))]
     /// What became of a delivery of the session on a channel. Where that is refused nothing has changed.
     pub fn settle(
         &mut self,
@@ -307,23 +338,27 @@ impl<A: Allocator + Copy> Connection<A> {
     ) -> Result<Disposition<'static>, CallFault>
         ensures { IsAsked outcome_said self.old self.new channel (Settle id outcome) result }
     {
-        let place = channel as usize;
-        if place >= self.places.len() {
+        let Some(session) = self.session_mut(channel) else {
             return Err(CallFault::NoSession);
+        };
+        match session.settle(id, outcome) {
+            Ok(told) => Ok(told),
+            Err(fault) => Err(fault_of(fault)),
         }
-        channels::settle(&mut self.places[place], id, outcome)
     }
+}
 
-    /// Hands up the first ready delivery of a link of the session on a channel. Where that is refused nothing has
-    /// changed.
-    pub fn take(&mut self, channel: u16, handle: u32) -> Result<Taken<A>, CallFault>
-        ensures asked { IsAsked none_said self.old self.new channel (Take handle) result }
-        ensures taken { IfOk result (λ taken. SlotHandsUp (slot_at self.old channel) handle taken) }
-    {
-        let place = channel as usize;
-        if place >= self.places.len() {
-            return Err(CallFault::NoSession);
-        }
-        channels::take(&mut self.places[place], handle)
+/// A request of the application. Where it is refused nothing has changed.
+fn ask<A: Allocator + Copy>(
+    session: &mut Session<A>,
+    request: Request,
+) -> Result<Asked, SessionCallFault>
+    ensures { SessionAsked all_said session.old session.new (asked_of request) result }
+{
+    match request {
+        Request::Widen { n } => Ok(Asked::Flow(session.widen(n)?)),
+        Request::Grant { handle, n } => Ok(Asked::Flow(session.grant(handle, n)?)),
+        Request::Drain { handle } => Ok(Asked::Flow(session.drain(handle)?)),
+        Request::Detach { handle } => Ok(Asked::Detach(session.detach(handle)?.0)),
     }
 }

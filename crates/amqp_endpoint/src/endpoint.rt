@@ -101,8 +101,8 @@ impl<A: Allocator + Copy> Endpoint<A> {
         Fed { used, outcome }
     }
 
-    /// A law: the buffer has room for the eight bytes of a header.
-    pub(crate) fn holds_a_header(&self)
+    /// A law: the buffer has room for the eight bytes of a header [2.2].
+    pub fn holds_a_header(&self)
         ensures { 8 ≤ self.now.input.limit }
     {
         let _ = &self.input; // what is known of every endpoint

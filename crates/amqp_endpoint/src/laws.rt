@@ -25,13 +25,10 @@ ghost use Rattle.amqp_endpoint.specs.Replies.{joined, reply_on};
 ghost use Rattle.amqp_endpoint.specs.Runs as runs;
 ghost use Rattle.amqp_endpoint.specs.Runs.{Answer, Run, IsStart, handed_of};
 ghost use Rattle.std.specs.List.{flat_map};
-ghost use Rattle.amqp_endpoint.specs.Serving.{Stand, Over, reading, Step, Serves, IsServed, fed, moved, recorded, record_of, calls_of, answers_of};
 ghost use Rattle.amqp_endpoint.specs.declared.event.End.{End};
-ghost use Rattle.amqp_endpoint.specs.Cuts.{Made, IsMade, AreAlike, IsFront};
 ghost use Rattle.amqp_endpoint.specs.Steps.{EndpointState};
 ghost use Rattle.amqp_endpoint.specs.Takings.{lives, taken_in, link_at, link_part, HasNoneReady};
 ghost use Rattle.amqp_endpoint.specs.Traces.{AreInRange, IsWholeRun, failure_in, heard, message_in};
-ghost use Rattle.amqp_endpoint.specs.declared.serving.Policy.{Policy};
 
 use amqp_link::laws::open_deliveries_are_selected;
 use amqp_perform::laws as performatives;
@@ -162,48 +159,12 @@ pub fn credit_rises_by_grants()
     session::credit_rises_by_grants();
 }
 
-/// What is served is a run: each call stands in it with its answer.
-#[tactic(auto, using(crate::proofs::Servings::run_of, crate::proofs::Servings::ranges_of))]
-pub fn serving_is_a_run()
-    ensures range { (p : Policy) (a b : Stand) (s t : EndpointState) (steps : List Step) → Serves p a s steps b t → AreInRange (calls_of steps) }
-    ensures run { (p : Policy) (a b : Stand) (s t : EndpointState) (steps : List Step) → Serves p a s steps b t → Run s (calls_of steps) (answers_of steps) t }
+/// Each byte of a piece in hand is a byte.
+pub fn are_bytes(piece: &[u8])
+    ensures { (i : ℕ) → slice_index piece.now i < 256 }
 {}
 
-/// What is served by a new endpoint has a history, as every run has: what it holds is bounded, what it told are the
-/// events of its units, and what it recorded are the first of each link's whole deliveries [2.2 to 2.7].
-pub fn what_is_served_has_a_history()
-    ensures { (p : Policy) (a b : Stand) (config : Configured) (s t : EndpointState) (steps : List Step) → IsConfigured config.container_id config.max_frame config.window → IsStart config s → Serves p a s steps b t → IsWholeRun config (calls_of steps) (answers_of steps) t }
-{
-    runs_have_a_history();
-    serving_is_a_run();
-}
-
-/// What serving records is the record of each message that was handed up, in order, and of no other.
-#[tactic(auto, using(crate::proofs::ServingRecords::records_handed_up))]
-pub fn records_are_what_was_handed_up()
-    ensures { (steps : List Step) → recorded steps ≡ flat_map (λ m. record_of m.0 m.1 m.2) (flat_map message_in (heard (calls_of steps) (answers_of steps))) }
+/// A delivery-id in hand has 32 bits [2.8.9].
+pub fn is_id(id: u32)
+    ensures { id < 2 ^ 32 }
 {}
-
-/// A new endpoint that was served to its end wrote and recorded what the units of the bytes make, served one by one,
-/// and ended so. Where its reader cut the bytes does not count.
-pub fn serving_follows_the_units()
-    ensures { (p : Policy) (config : Configured) (end : End) (bytes : List ℕ) (ended : Bool) (old new : EndpointState) (held now kept keeps : Option (List ℕ)) → IsStart config old → (x : IsServed p end bytes ended old new held now kept keeps) → IsMade p config bytes (record { connection = x.before.connection; written = moved x.steps; recorded = recorded x.steps }) end }
-{}
-
-/// So they are a function of the bytes: over the same bytes, by the same policy, two new endpoints that were served to
-/// their end wrote the same bytes, recorded the same, and ended alike, however their readers cut the bytes.
-pub fn serving_ignores_cuts()
-    ensures { (p : Policy) (config : Configured) (bytes : List ℕ) (end end2 : End) (ended ended2 : Bool) (old old2 new new2 : EndpointState) (held held2 now now2 kept kept2 keeps keeps2 : Option (List ℕ)) → IsConfigured config.container_id config.max_frame config.window → IsStart config old → IsStart config old2 → (x : IsServed p end bytes ended old new held now kept keeps) → (y : IsServed p end2 bytes ended2 old2 new2 held2 now2 kept2 keeps2) → (end ≡ end2) × (moved x.steps ≡ moved y.steps) × (recorded x.steps ≡ recorded y.steps) × AreAlike held now held2 now2 × AreAlike kept keeps kept2 keeps2 }
-{
-    serving_follows_the_units();
-}
-
-/// At any moment before its end, as where it breaks off, serving has moved out a beginning of what is written once the
-/// bytes go on and are served to their end, and recorded a beginning of what is recorded then: of what the units of
-/// these bytes make, whether another server comes to their end or not.
-pub fn serving_begins_the_same()
-    ensures made { (p : Policy) (config : Configured) (end : End) (bytes unfed : List ℕ) (old now : EndpointState) (stand : Stand) (steps : List Step) (made : Made) → IsConfigured config.container_id config.max_frame config.window → IsStart config old → Serves p reading old steps stand now → (stand ≡ Over → ⊥) → bytes ≡ fed steps ++ unfed → IsMade p config bytes made end → IsFront (moved steps) made.written × IsFront (recorded steps) made.recorded }
-    ensures same { (p : Policy) (config : Configured) (end : End) (bytes unfed : List ℕ) (ended : Bool) (old old2 now new : EndpointState) (stand : Stand) (steps : List Step) (held has kept keeps : Option (List ℕ)) → IsConfigured config.container_id config.max_frame config.window → IsStart config old → IsStart config old2 → Serves p reading old steps stand now → (stand ≡ Over → ⊥) → bytes ≡ fed steps ++ unfed → (y : IsServed p end bytes ended old2 new held has kept keeps) → IsFront (moved steps) (moved y.steps) × IsFront (recorded steps) (recorded y.steps) }
-{
-    serving_follows_the_units();
-}

@@ -4,8 +4,8 @@
 //! [`Endpoint::new`] with a [`Config`]; then [`Endpoint::feed`] until a piece is used up, what its [`Event`]s ask for by
 //! [`Endpoint::grant`], [`Endpoint::widen`], [`Endpoint::drain`], [`Endpoint::take`], [`Endpoint::settle`] and
 //! [`Endpoint::detach`], and [`Endpoint::output`] for the peer; [`Endpoint::close`], and at the end of the input
-//! [`Endpoint::finish`]. [`serve`] does this over a reader, a writer and a sink; [`replay`] makes a list of calls, and its
-//! contract is the theorem over all such lists.
+//! [`Endpoint::finish`]. [`replay`] makes a list of calls, and its contract is the theorem over all such lists; `amqp_serve`
+//! does this over a reader, a writer and a sink.
 //!
 //! A frame goes through `endpoint`, `units` (a unit), `bodies` (a performative), `sessions` (a frame of a live session),
 //! `connection` and `channels` (what stands at the channel) to `amqp_session`; `telling` makes an event of its news. A call
@@ -29,7 +29,6 @@ mod output;
 mod phase;
 mod replays;
 mod request;
-mod serving;
 mod sessions;
 mod telling;
 mod units;
@@ -41,4 +40,3 @@ pub use event::{End, Event, Fed, Outcome, Scope};
 pub use fault::CallFault;
 pub use phase::Phase;
 pub use replays::replay;
-pub use serving::{Policy, ServeFault, serve};

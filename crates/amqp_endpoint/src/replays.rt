@@ -1,5 +1,5 @@
 //! A whole run of an endpoint.
-ghost use Rattle.std.specs.Prelude.{◌≡◌, ℕ, ◌<◌, ◌^◌, slice_index, map, true, IfOk, IfErr};
+ghost use Rattle.std.specs.Prelude.{◌≡◌, map, true, IfOk, IfErr};
 ghost use Rattle.amqp_session.specs.Calls.{Widen, Grant, Drain, Take, Settle, Detach};
 ghost use Rattle.amqp_endpoint.specs.Endpoints.{call_of, answer_of, accepted_by, dropped_by, handed_by, IsReplay};
 ghost use Rattle.amqp_endpoint.specs.Runs.{Does, may_want};
@@ -9,7 +9,7 @@ use crate::call::{Answer, Call};
 use crate::config::Config;
 use crate::endpoint::Endpoint;
 use crate::fault::CallFault;
-use crate::laws::runs_have_a_history;
+use crate::laws::{are_bytes, is_id, runs_have_a_history};
 use amqp_link::Taken;
 use std::alloc::{AllocError, Allocator};
 
@@ -44,16 +44,6 @@ fn is_in_range(call: &Call<'_>)
         _ => {}
     }
 }
-
-/// A law: each of them is a byte.
-pub(crate) fn are_bytes(piece: &[u8])
-    ensures { (i : ℕ) → slice_index piece.now i < 256 }
-{}
-
-/// A law: it has 32 bits.
-pub(crate) fn is_id(id: u32)
-    ensures { id < 2 ^ 32 }
-{}
 
 impl<A: Allocator + Copy> Endpoint<A> {
     /// Makes one call. An error only where memory for the bytes that an output moves out is refused; nothing has changed

@@ -185,20 +185,20 @@ agrees same (Some there) here = same there here
 abbrev pub is_formed_continuation : Delivery → Sent → Bool
 is_formed_continuation d t = agrees nat_eq t.delivery_id d.delivery_id && agrees bytes_eq t.delivery_tag d.delivery_tag && agrees nat_eq t.message_format d.message_format
 
--- a transfer is well formed, where this delivery is unfinished
+-- A transfer is well formed, where this delivery is unfinished; one that isn't ends its link with amqp:invalid-field.
 abbrev pub is_formed : Terms → Option Delivery → Sent → Bool
 is_formed terms None t = is_formed_head terms t
 is_formed terms (Some d) t = is_formed_continuation d t
 
--- a head, and no credit for it [2.6.7]
+-- a head, and no credit for it: amqp:link:transfer-limit-exceeded [2.6.7]
 abbrev pub lacks_credit : LinkState → Bool
 lacks_credit s = is_none s.unfinished && nat_eq s.credit 0
 
--- the message would be longer than the link's max-message-size allows [2.7.3]; an aborted transfer adds nothing
+-- the message would be longer than the link's max-message-size allows: amqp:link:message-size-exceeded [2.7.3]; an aborted transfer adds nothing
 abbrev pub is_too_long : LinkState → Sent → Bool
 is_too_long s t = not t.aborted && nat_lt s.terms.bounds.max_message_size (length (delivery_after s.terms s.unfinished t).message)
 
--- the first fault of a transfer, if any
+-- The first fault of a transfer, if any. Deliveries are not resumed: amqp:not-implemented.
 abbrev pub fault_of : LinkState → Sent → Option LinkFault
 fault_of s t =
     if t.resume then Some NotImplemented

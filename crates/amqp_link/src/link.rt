@@ -12,7 +12,7 @@ use crate::open_deliveries::OpenDeliveries;
 use crate::open_delivery::{Ids, OpenDelivery};
 use crate::settlement::{SettleFault, Standing};
 use crate::tag::Tag;
-use crate::terms::Terms;
+use crate::terms::{LinkBounds, Terms};
 use crate::transfer::{LinkFault, Step};
 use amqp_perform::Transfer;
 use amqp_serial::Serial;
@@ -77,6 +77,13 @@ impl<A: Allocator + Copy> Link<A> {
             draining: false,
             deliveries,
         }
+    }
+
+    /// How many deliveries and how long messages it allows.
+    pub fn bounds(&self) -> LinkBounds
+        ensures { result ≡ self.now.terms.bounds }
+    {
+        self.terms.bounds
     }
 
     /// The credit that is left [2.6.7].

@@ -14,7 +14,7 @@ use Rattle.amqp_types.specs.declared.fault.ReadFault.{ReadFault}
 use Rattle.amqp_types.specs.Spelling.{Spells}
 use Rattle.amqp_types.specs.Trees.{Tree, Number, IsOfKind, depth_of}
 use Rattle.amqp_types.specs.Reading.{Is, Part, after, number_at, form_at, item_by, value_by, value_of}
-use Rattle.amqp_types.proofs.Calls.{ok_rest}
+use Rattle.amqp_types.proofs.Skips.{ok_rest}
 use Rattle.amqp_types.proofs.Peeks.{never_empty}
 use Rattle.amqp_perform.specs.Cells.{Cell, Absent, Span, ◌>>=◌, is_null, typed_cell}
 use Rattle.amqp_perform.specs.Performatives.{span}

@@ -1,5 +1,5 @@
 -- What stands in a field, and how it comes from an item. (part 1, section 1.4; part 2, section 2.7)
-use Rattle.std.specs.Prelude.{ℕ, Bool, true, false, nat_le, if◌then◌else◌, List, [], ◌∷◌, Option, Some, None}
+use Rattle.std.specs.Prelude.{ℕ, ◌==◌, Bool, true, false, nat_le, if◌then◌else◌, List, [], ◌∷◌, Option, Some, None, unwrap_or}
 use Rattle.amqp_types.specs.declared.kind.Kind.TheVariants as kind
 use Rattle.amqp_types.specs.Trees.{Tree, Number, Octets}
 use Rattle.amqp_perform.specs.Items.{Item}
@@ -13,6 +13,24 @@ pub data Cell : Type 0 where
   Bytes : List ℕ → Cell
   -- the bytes that spell a value of any type
   Span : List ℕ → Cell
+
+-- What stands in a field: a number, or none.
+abbrev pub number_in : Cell → Option ℕ
+number_in (Whole n) = Some n
+number_in _ = None
+
+-- a number that is there, and 0 where it is absent
+abbrev pub whole_in : Cell → ℕ
+whole_in c = unwrap_or (number_in c) 0
+
+-- a boolean that is there and true
+abbrev pub flag_in : Cell → Bool
+flag_in c = whole_in c == 1
+
+-- a span; nothing where it is absent
+abbrev pub span_in : Cell → List ℕ
+span_in (Span text) = text
+span_in _ = []
 
 infixl 10 ◌>>=◌
 abbrev pub ◌>>=◌ : {A B : Type 0} → Option A → (A → Option B) → Option B

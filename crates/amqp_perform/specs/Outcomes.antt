@@ -8,7 +8,7 @@ use Rattle.amqp_perform.specs.declared.descriptor.Descriptor.{Descriptor}
 use Rattle.amqp_perform.specs.declared.descriptor.Descriptor.TheVariants as of_type
 use Rattle.amqp_perform.specs.declared.outcome.Outcome.{Outcome}
 use Rattle.amqp_perform.specs.declared.outcome.Outcome.TheVariants as outcome
-use Rattle.amqp_perform.specs.Cells.{Cell, Whole, ◌>>=◌}
+use Rattle.amqp_perform.specs.Cells.{Cell, flag_in, ◌>>=◌}
 use Rattle.amqp_perform.specs.Descriptors.{code_of, described_by}
 use Rattle.amqp_perform.specs.Items.{Item}
 use Rattle.amqp_perform.specs.BodyReading.{ListAt, descriptor_at, typed_at, list_at}
@@ -36,12 +36,8 @@ outcome_span outcome.Rejected = state_text of_type.Rejected none
 outcome_span outcome.Released = state_text of_type.Released none
 outcome_span (outcome.Modified failed undeliverable) = state_text of_type.Modified (flag_trees failed undeliverable)
 
-abbrev pub is_one : Cell → Bool
-is_one (Whole n) = n == 1
-is_one _ = false
-
 abbrev pub is_true : Option (Cell × ℕ × List ℕ) → Bool
-is_true read = option_map_or (λ (x : Cell × ℕ × List ℕ). is_one x.0) read false
+is_true read = option_map_or (λ (x : Cell × ℕ × List ℕ). flag_in x.0) read false
 
 -- whether the next of so many items is a boolean that is true
 unfoldable pub true_at : ℕ → List ℕ → Bool

@@ -1,10 +1,11 @@
 -- What stands in a field, seen from a performative in hand and from its cells.
 use Rattle.std.proofs.Common.{◌≡◌, ℕ, Bool, true, false, List, [], ◌∷◌, Option, Some, None, refl, is_some, unwrap_or}
 use Rattle.amqp_perform.specs.Performatives.{flag, span, optional_whole}
-use Rattle.amqp_send.specs.Tellings.{number, maybe, is_there, is_set, span_of}
+use Rattle.amqp_perform.specs.Cells.{number_in, whole_in, flag_in, span_in}
+use Rattle.amqp_send.specs.Tellings.{is_there}
 
 -- an absent number counts as 0
-pub number_is : (n : Option ℕ) → number (optional_whole n) ≡ unwrap_or n 0
+pub number_is : (n : Option ℕ) → whole_in (optional_whole n) ≡ unwrap_or n 0
 number_is None = refl
 number_is (Some n) = refl
 
@@ -14,17 +15,17 @@ there_is None = refl
 there_is (Some n) = refl
 
 -- and is the one that was
-pub maybe_is : (n : Option ℕ) → maybe (optional_whole n) ≡ n
+pub maybe_is : (n : Option ℕ) → number_in (optional_whole n) ≡ n
 maybe_is None = refl
 maybe_is (Some n) = refl
 
 -- a flag is set where it was
-pub set_is : (b : Bool) → is_set (flag b) ≡ b
+pub set_is : (b : Bool) → flag_in (flag b) ≡ b
 set_is true = refl
 set_is false = refl
 
 -- a span is read as it was written
-pub span_is : (text : List ℕ) → span_of (span text) ≡ text
+pub span_is : (text : List ℕ) → span_in (span text) ≡ text
 span_is [] = refl
 span_is (b ∷ text) = refl
 

@@ -6,13 +6,13 @@ use Rattle.amqp_perform.specs.declared.performative.Performative.{Performative}
 use Rattle.amqp_perform.specs.declared.performative.Performative.TheVariants as performative
 use Rattle.amqp_perform.specs.Again.{AreOfFields}
 use Rattle.amqp_perform.specs.Bodies.{Body}
-use Rattle.amqp_perform.specs.Cells.{Whole, where_so}
+use Rattle.amqp_perform.specs.Cells.{Whole, where_so, number_in, flag_in, span_in}
 use Rattle.amqp_perform.specs.Frames.{written_cells}
 use Rattle.amqp_perform.specs.Outcomes.{outcome_of}
 use Rattle.amqp_perform.specs.Performatives.{type_of, performative_cells, role, flag, span, optional_whole}
 use Rattle.amqp_perform.specs.Tables.{Field, fields_of, open_fields}
 use Rattle.amqp_send.specs.declared.telling.Told.TheVariants.{Nothing}
-use Rattle.amqp_send.specs.Tellings.{told_by, disposed, is_set, span_of, maybe, IsLawful}
+use Rattle.amqp_send.specs.Tellings.{told_by, disposed, IsLawful}
 use Rattle.std.specs.Prelude.{unwrap_or, if◌then◌else◌}
 
 passes : (b : Bool) (m : ℕ) → where_so b (Whole m) ≡ Some (Whole m) → b ≡ true
@@ -36,7 +36,7 @@ module _ (again : (bytes : List ℕ) (p : Performative) (fields : List Field) (p
   lawful bytes (performative.Flow p) payload octets body = tt
   lawful bytes (performative.Transfer p) payload octets body = tt
   lawful bytes (performative.Disposition p) payload octets body =
-      disposed_lawful (is_set (role p.role)) (is_set (flag p.settled)) p.first (unwrap_or (maybe (optional_whole p.last)) p.first) (outcome_of (span_of (span p.state.now)))
+      disposed_lawful (flag_in (role p.role)) (flag_in (flag p.settled)) p.first (unwrap_or (number_in (optional_whole p.last)) p.first) (outcome_of (span_in (span p.state.now)))
   lawful bytes (performative.Detach p) payload octets body = tt
   lawful bytes (performative.End p) payload octets body = tt
   lawful bytes (performative.Close p) payload octets body = tt

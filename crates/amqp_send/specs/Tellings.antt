@@ -6,59 +6,41 @@ use Rattle.amqp_frame.specs.declared.units.Stage.TheVariants.{Header, Frames, Re
 use Rattle.amqp_perform.specs.declared.descriptor.Descriptor.{Descriptor}
 use Rattle.amqp_perform.specs.declared.descriptor.Descriptor.TheVariants as of_type
 use Rattle.amqp_perform.specs.declared.outcome.Outcome.{Outcome}
-use Rattle.amqp_perform.specs.Cells.{Cell, Absent, Whole, Span}
+use Rattle.amqp_perform.specs.Cells.{Cell, Absent, number_in, whole_in, flag_in, span_in}
 use Rattle.amqp_perform.specs.Conditions.{condition_of}
 use Rattle.amqp_perform.specs.Outcomes.{outcome_of}
 use Rattle.amqp_perform.specs.BodyReading.{body_at}
 use Rattle.amqp_send.specs.declared.telling.Told.{Told}
 use Rattle.amqp_send.specs.declared.telling.Told.TheVariants.{Nothing, Opened, Begun, Flowed, Disposed, Left, Closed, Unread}
 
--- What stands in a field. ---------------------------------------------------------------------------------------------
-
--- a number, 0 where it is absent
-abbrev pub number : Cell → ℕ
-number (Whole n) = n
-number _ = 0
-
-abbrev pub maybe : Cell → Option ℕ
-maybe (Whole n) = Some n
-maybe _ = None
-
+-- a field is there
 abbrev pub is_there : Cell → Bool
 is_there Absent = false
 is_there _ = true
-
-abbrev pub is_set : Cell → Bool
-is_set (Whole n) = n == 1
-is_set _ = false
-
-abbrev pub span_of : Cell → List ℕ
-span_of (Span text) = text
-span_of _ = []
 
 -- What a performative tells. ------------------------------------------------------------------------------------------
 
 -- [2.7.1]
 abbrev pub open_told : List Cell → Told
-open_told (container ∷ hostname ∷ max_frame_size ∷ rest) = Opened (number max_frame_size)
+open_told (container ∷ hostname ∷ max_frame_size ∷ rest) = Opened (whole_in max_frame_size)
 open_told _ = Nothing
 
 -- [2.7.2]
 abbrev pub begin_told : List Cell → Told
-begin_told (remote_channel ∷ next_outgoing_id ∷ incoming_window ∷ rest) = Begun (number next_outgoing_id) (number incoming_window)
+begin_told (remote_channel ∷ next_outgoing_id ∷ incoming_window ∷ rest) = Begun (whole_in next_outgoing_id) (whole_in incoming_window)
 begin_told _ = Nothing
 
 -- a flow with a handle is of the link [2.7.4]
 abbrev pub flow_told : List Cell → Told
 flow_told (next ∷ window ∷ outgoing ∷ outgoing_window ∷ handle ∷ count ∷ credit ∷ available ∷ drain ∷ echo ∷ rest) =
     Flowed (record {
-      next_incoming_id = number next;
-      incoming_window = number window;
+      next_incoming_id = whole_in next;
+      incoming_window = whole_in window;
       of_link = is_there handle;
-      delivery_count = number count;
-      link_credit = number credit;
-      drain = is_set drain;
-      echo = is_set echo;
+      delivery_count = whole_in count;
+      link_credit = whole_in credit;
+      drain = flag_in drain;
+      echo = flag_in echo;
     })
 flow_told _ = Nothing
 
@@ -69,22 +51,22 @@ disposed first last settled None = if settled then Disposed first last None else
 
 abbrev pub disposition_told : List Cell → Told
 disposition_told (role ∷ first ∷ last ∷ settled ∷ state ∷ rest) =
-    if is_set role then disposed (number first) (unwrap_or (maybe last) (number first)) (is_set settled) (outcome_of (span_of state)) else Nothing
+    if flag_in role then disposed (whole_in first) (unwrap_or (number_in last) (whole_in first)) (flag_in settled) (outcome_of (span_in state)) else Nothing
 disposition_told _ = Nothing
 
 -- [2.7.7]
 abbrev pub detach_told : List Cell → Told
-detach_told (handle ∷ closed ∷ error ∷ rest) = Left (condition_of (span_of error))
+detach_told (handle ∷ closed ∷ error ∷ rest) = Left (condition_of (span_in error))
 detach_told _ = Nothing
 
 -- [2.7.8]
 abbrev pub end_told : List Cell → Told
-end_told (error ∷ rest) = Left (condition_of (span_of error))
+end_told (error ∷ rest) = Left (condition_of (span_in error))
 end_told _ = Nothing
 
 -- [2.7.9]
 abbrev pub close_told : List Cell → Told
-close_told (error ∷ rest) = Closed (condition_of (span_of error))
+close_told (error ∷ rest) = Closed (condition_of (span_in error))
 close_told _ = Nothing
 
 abbrev pub told_by : Descriptor → List Cell → Told

@@ -42,7 +42,8 @@ used x = link.one_if (not (is_free x))
 
 -- The session. --------------------------------------------------------------------------------------------------------------
 
-abbrev most_of : Bounds → ℕ
+-- the most that one link counts
+abbrev pub most_of : Bounds → ℕ
 most_of b = 1407 + b.allowed * (b.max_message_size + 96)
 
 part_within : LinkBound → (terms : SessionTerms) (p : Slot (Life Attached LinkEvent)) → IfLive (λ l. IsSoundPart terms l.0 l.1) p →

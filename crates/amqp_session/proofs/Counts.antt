@@ -1,7 +1,8 @@
 -- The window and the next-incoming-id of a session, counted over its history.
 use Rattle.std.proofs.Common.{arith, ◌≡◌, ℕ, ◌+◌, ◌%◌, ◌^◌, true, false, List, [], ◌∷◌, ◌++◌, refl, ap, ◌∙◌, Option, Some}
 use Rattle.amqp_session.specs.declared.terms.SessionTerms.{SessionTerms}
-use Rattle.amqp_session.specs.Sessions.{SessionState, SessionEvent, SessionMay, session_after, is_transfer, widened_by, stated_by, one_if}
+use Rattle.amqp_link.specs.Histories.{one_if}
+use Rattle.amqp_session.specs.Sessions.{SessionState, SessionEvent, SessionMay, session_after, is_transfer, widened_by, stated_by}
 use Rattle.amqp_session.specs.Sessions as event
 use Rattle.amqp_session.specs.Histories.{widenings, transfers, counted_from, restarted, last_stated, since_stated, next_id, state_of, Sound}
 use Rattle.amqp_session.specs.Laws.{NoneStates, IsStatedBefore}

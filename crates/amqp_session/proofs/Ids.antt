@@ -16,7 +16,8 @@ use Rattle.amqp_session.specs.declared.slot.Slot.TheVariants.{Free, Live, Waits}
 use Rattle.amqp_session.specs.declared.terms.SessionTerms.{SessionTerms}
 use Rattle.amqp_session.specs.Places.{Happens, slot_after, slot_map, places_from, live_in}
 use Rattle.amqp_session.specs.Sessions.{Attached, LiveLink, live_begins, live_after, SessionState, SessionEvent, SessionMay, session_begins, session_after, slot_at, slot_has, is_open_id}
-use Rattle.amqp_session.specs.Sessions.{is_reused, one_if, slot_count, table_count, IsApart}
+use Rattle.amqp_link.specs.Histories.{one_if}
+use Rattle.amqp_session.specs.Sessions.{is_reused, slot_count, table_count, IsApart}
 use Rattle.amqp_session.specs.Histories.{after_all, Accepted}
 use Rattle.amqp_session.specs.Sessions as event
 use Rattle.amqp_session.specs.Places as place

@@ -4,6 +4,7 @@ use Rattle.std.specs.Prelude.{nat_lt, nat_eq, if◌then◌else◌, bytes_eq, ◌
 use Rattle.std.specs.List.{concat}
 use Rattle.std.proofs.lemmas.Bool.{le-ltb}
 use Rattle.std.specs.Int.{bytes_high_first}
+use Rattle.amqp_link.specs.Histories.{one_if}
 use Rattle.amqp_types.specs.declared.kind.Kind.{Kind}
 use Rattle.amqp_types.specs.declared.kind.Kind.TheVariants as kind
 use Rattle.amqp_types.specs.declared.shell.Short.{Short}
@@ -112,9 +113,6 @@ joined [] (most ∷ mosts) is = absurd is
 joined (text ∷ texts) [] is = absurd is
 joined (text ∷ texts) (most ∷ mosts) is = omega (arith, length-append text (concat texts), is.0, joined texts mosts is.1)
 
-abbrev flag_number : Bool → ℕ
-flag_number b = if b then 1 else 0
-
 -- a field that is a number, null where it is its default
 numbered : (b : Bool) (text : List ℕ) → length text ≤ 9 → length (if b then null_text else text) ≤ 9
 numbered true text l = omega arith
@@ -134,7 +132,7 @@ reply_short longest a name ends =
       (
         uint_short a.handle,
         (
-          boolean_short (flag_number (is_receiver (other_role a.role))),
+          boolean_short (one_if (is_receiver (other_role a.role))),
           (
             numbered (sender_mode a.snd_settle_mode == 2) (canonical (Number kind.Ubyte (sender_mode a.snd_settle_mode))) (ubyte_short (sender_mode a.snd_settle_mode)),
             (

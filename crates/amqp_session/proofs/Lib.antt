@@ -8,6 +8,7 @@ pub mod Accepts
 pub mod Padded
 pub mod States
 pub mod Dones
+pub mod Lent
 pub mod Lengths
 pub mod Coordinators
 pub mod Steps

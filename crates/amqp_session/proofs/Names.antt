@@ -12,7 +12,8 @@ use Rattle.amqp_link.specs.Histories as link
 use Rattle.amqp_link.specs.Links.{Delivery, open_set, untaken, has_id, covers, is_covered, standing_at}
 use Rattle.amqp_session.specs.declared.slot.Slot.{Slot}
 use Rattle.amqp_session.specs.declared.slot.Slot.TheVariants.{Free, Live, Waits}
-use Rattle.amqp_session.specs.Sessions.{LiveLink, SessionState, one_if, slot_count, table_count, IsApart}
+use Rattle.amqp_link.specs.Histories.{one_if}
+use Rattle.amqp_session.specs.Sessions.{LiveLink, SessionState, slot_count, table_count, IsApart}
 use Rattle.amqp_session.specs.Calls.{slot_standing, or_later, standing_in}
 use Rattle.amqp_session.specs.Laws.{slot_named, named_total}
 use Rattle.amqp_session.proofs.Ids.{table_cons}

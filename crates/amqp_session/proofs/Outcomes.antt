@@ -15,7 +15,8 @@ use Rattle.amqp_link.specs.Links.{Delivery, LinkState, ReceiverSettled, link_aft
 use Rattle.amqp_session.specs.declared.slot.Slot.{Slot}
 use Rattle.amqp_session.specs.declared.slot.Slot.TheVariants.{Free, Live, Waits}
 use Rattle.amqp_session.specs.Places.{AllGoOn, slot_map, places_from}
-use Rattle.amqp_session.specs.Sessions.{LiveLink, live_begins, live_after, SessionState, Settled, session_after, one_if, slot_has, is_open_id, slot_count, table_count, IsApart}
+use Rattle.amqp_link.specs.Histories.{one_if}
+use Rattle.amqp_session.specs.Sessions.{LiveLink, live_begins, live_after, SessionState, Settled, session_after, slot_has, is_open_id, slot_count, table_count, IsApart}
 use Rattle.amqp_session.specs.Calls.{slot_standing, or_later, standing_in}
 use Rattle.amqp_session.proofs.Ids as ids
 use Rattle.amqp_session.proofs.Ids.{table_cons}

@@ -69,7 +69,7 @@ padded_there (suc n) (t ∷ slots) zero s e most = e
 padded_there (suc n) (t ∷ slots) (suc i) s e most = padded_there n slots i s e (omega (arith, most))
 
 -- and is put there anew
-padded_set : (n : ℕ) (slots : List (Slot LiveLink)) (i : ℕ) (s new : Slot LiveLink) → slice_get slots i ≡ Some s → length slots ≤ n →
+pub padded_set : (n : ℕ) (slots : List (Slot LiveLink)) (i : ℕ) (s new : Slot LiveLink) → slice_get slots i ≡ Some s → length slots ≤ n →
     slice_set (padded n slots) i new ≡ padded n (slice_set slots i new)
 padded_set n [] i s new e most = absurd (grind (arith, e))
 padded_set zero (t ∷ slots) i s new e most = absurd (omega (arith, most))

@@ -15,7 +15,8 @@ use Rattle.amqp_link.specs.Laws.{id_count}
 use Rattle.amqp_link.specs.Links.{Delivery, LinkState, ReceiverSettled, LinkMay, open_set, untaken, has_id, covers, is_covered, is_first, tells, standing_at, standing_of}
 use Rattle.amqp_session.specs.declared.slot.Slot.{Slot}
 use Rattle.amqp_session.specs.declared.slot.Slot.TheVariants.{Free, Live, Waits}
-use Rattle.amqp_session.specs.Sessions.{LiveLink, SessionState, one_if, slot_count, table_count, IsApart}
+use Rattle.amqp_link.specs.Histories.{one_if}
+use Rattle.amqp_session.specs.Sessions.{LiveLink, SessionState, slot_count, table_count, IsApart}
 use Rattle.amqp_session.specs.Calls.{slot_standing, or_later, standing_in}
 use Rattle.amqp_session.proofs.Ids.{table_cons}
 

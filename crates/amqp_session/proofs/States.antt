@@ -14,7 +14,7 @@ use Rattle.amqp_link.specs.declared.settlement.Standing.TheVariants.{Absent, Unt
 use Rattle.amqp_link.specs.declared.link.Taken.{Taken}
 use Rattle.amqp_link.specs.declared.transfer.LinkFault.{LinkFault}
 use Rattle.amqp_link.specs.HandedUps.{IsHandedUp}
-use Rattle.amqp_link.specs.Links.{Sent, Delivery, LinkEvent, Transferred, FlowStated, HandedUp, ReceiverSettled, SenderSettled, is_beyond, first_ready, may_grow, LinkMay}
+use Rattle.amqp_link.specs.Links.{Sent, LinkState, Transferred, FlowStated, SenderSettled, is_beyond, may_grow}
 use Rattle.amqp_session.specs.declared.fault.SessionFault.{SessionFault}
 use Rattle.amqp_session.specs.declared.fault.SessionFault.TheVariants as fault
 use Rattle.amqp_session.specs.declared.news.News.{News}
@@ -24,18 +24,19 @@ use Rattle.amqp_session.specs.declared.terms.SessionTerms.{SessionTerms}
 use Rattle.amqp_session.specs.Places.{Begins, Leaves}
 use Rattle.amqp_perform.specs.Said.{Said}
 use Rattle.amqp_session.specs.Frames.{link_flow_said, Attaching, Flowing, Attaches, Flows, Transfers}
-use Rattle.amqp_session.specs.Sessions.{LiveLink, live_begins, live_after, SessionState, SessionEvent, handles, happens, is_transfer, one_if, widened_by, stated_by, session_after, slot_at}
+use Rattle.amqp_link.specs.Histories.{one_if}
+use Rattle.amqp_session.specs.Sessions.{LiveLink, live_begins, live_after, SessionState, SessionEvent, handles, happens, is_transfer, widened_by, stated_by, session_after, slot_at}
 use Rattle.amqp_session.specs.Sessions.{slot_has, slot_count, table_count, is_open_id, IsApart, session_begins}
 use Rattle.amqp_session.specs.Sessions as event
 use Rattle.amqp_session.specs.Faults.{is_free, handle_fault, session_fault, transfer_fault, attached, attach_event, transfer_event, flow_event, named_event, event_of, came_news, transfer_news}
 use Rattle.amqp_session.specs.Faults.{news_of, named_news, flow_news, IsRefusal, slot_may_grow, refusal, attach_fault, or_else, where_so, slot_flow, link_flow, named_fault, attach_news}
 use Rattle.amqp_session.specs.Calls.{Take, call_event, take_event, slot_standing, standing_in, standing_fault}
-use Rattle.amqp_session.specs.Slots.{padded, session_of, IsReached, is_live, came_fault, slot_reused, at_place, slot_came, slot_came_news, slot_grows, IsSlotRefusal, slot_flowed, slot_called, IsTaken}
-use Rattle.amqp_session.specs.Slots.{HandsUp, IsStated, IsFlowTold, IsSettling, stated_of}
+use Rattle.amqp_session.specs.Slots.{padded, session_of, IsReached, is_live, came_fault, slot_reused, at_place, slot_came, slot_came_news, slot_grows, IsSlotRefusal, slot_flowed, slot_called}
+use Rattle.amqp_session.specs.Slots.{IsStated, IsFlowTold, IsFound, stated_of}
 use Rattle.amqp_session.specs.declared.slots.LinkStated.{LinkStated}
-use Rattle.amqp_session.proofs.Standings.{settles_everywhere, some_stands}
-use Rattle.amqp_session.proofs.Founds.{stands_there, settled_at}
-use Rattle.amqp_session.proofs.Padded.{From, padded_get, padded_any, padded_standing, padded_sum, padded_long, padded_there, padded_none, none_after, begins_at, goes_on_at, leaves_at, gone_at}
+use Rattle.amqp_session.specs.Links.{slot_relinked, with_link}
+use Rattle.amqp_session.specs.declared.table.Found.{Found}
+use Rattle.amqp_session.proofs.Padded.{From, padded_set, padded_get, padded_any, padded_standing, padded_sum, padded_long, padded_there, padded_none, none_after, begins_at, goes_on_at, leaves_at, gone_at}
 use Rattle.amqp_session.proofs.Padded.{all_after}
 use Rattle.amqp_session.proofs.Tables.{there, put_again}
 
@@ -72,13 +73,6 @@ module _ (terms : SessionTerms) (w n : ℕ) (slots : List (Slot LiveLink)) (s : 
   pub ignored : n < 2 ^ 32 → s ≡ session_after s event.Ignored
   ignored l = sym view ∙ after_is event.Ignored w n slots (unmoved w) (stays n l) (none_after (padded (handles terms) slots))
 
-  -- a call for the link at a handle
-  pub called : (h : ℕ) (e : LinkEvent) (x new : Slot LiveLink) → n < 2 ^ 32 → x ≡ get_or slots h x → h < length slots → new ≡ slot_called e x →
-      session_of terms w n (slice_set slots h new) ≡ session_after s (event.Called h e)
-  called h e x new l at within is =
-      ap (λ (y : Slot LiveLink). session_of terms w n (slice_set slots h y)) is
-      ∙ after_is (event.Called h e) w n (slice_set slots h (slot_called e x)) (unmoved w) (stays n l) (goes_on_at (handles terms) slots h e x (there slots h x at within) reached.reached)
-
   -- a detach of this side
   pub left : (h : ℕ) (x new : Slot LiveLink) → n < 2 ^ 32 → x ≡ get_or slots h x → h < length slots → new ≡ Waits → session_of terms w n (slice_set slots h new) ≡ session_after s (event.Detached h)
   left h x new l at within is =
@@ -98,11 +92,6 @@ module _ (terms : SessionTerms) (w n : ℕ) (slots : List (Slot LiveLink)) (s : 
       session_of terms w n slots2 ≡ session_after s (event.PeerSettled first last)
   peer_settled first last slots2 l is =
       after_is (event.PeerSettled first last) w n slots2 (unmoved w) (stays n l) (all_after (handles terms) (SenderSettled first last) slots ∙ ap (padded (handles terms)) (sym is))
-
-  pub settled : (first last : ℕ) (slots2 : List (Slot LiveLink)) → n < 2 ^ 32 → slots2 ≡ map (slot_called (ReceiverSettled first last)) slots →
-      session_of terms w n slots2 ≡ session_after s (event.Settled first last)
-  settled first last slots2 l is =
-      after_is (event.Settled first last) w n slots2 (unmoved w) (stays n l) (all_after (handles terms) (ReceiverSettled first last) slots ∙ ap (padded (handles terms)) (sym is))
 
   -- a flow of the session
   pub flowed : (f : Flowing) → f.handle ≡ None → f.next_outgoing_id < 2 ^ 32 → session_of terms w f.next_outgoing_id slots ≡ session_after s (event_of s (Flows f))
@@ -130,22 +119,6 @@ module _ (terms : SessionTerms) (w n : ℕ) (slots : List (Slot LiveLink)) (s : 
               after_is (event.LinkFlowCame h f.next_outgoing_id f.delivery_count) w f.next_outgoing_id (slice_set slots h (Live (live_after l0 (FlowStated f.delivery_count)))) (unmoved w)
               (stays f.next_outgoing_id l) (goes_on_at (handles terms) slots h (FlowStated f.delivery_count) (Live l0) (there slots h (Live l0) at within) reached.reached)
       by_slot Waits at live = absurd (grind (arith, live))
-
-  -- what a take leaves
-  pub taken : {A : Type 0} (h : ℕ) (x new : Slot LiveLink) (t : Taken A) → n < 2 ^ 32 → x ≡ get_or slots h x → h < length slots → IsTaken x new t →
-      session_of terms w n (slice_set slots h new) ≡ session_after s (call_event s (Take h))
-  taken {A} h x new t l at within is =
-      by_slot x at is ∙ ap (λ (y : Slot LiveLink). session_after s (take_event h y)) (sym (slot_is h x at within))
-    where
-      by_slot : (x : Slot LiveLink) → x ≡ get_or slots h x → IsTaken x new t → session_of terms w n (slice_set slots h new) ≡ session_after s (take_event h x)
-      by_slot Free at is = absurd is
-      by_slot (Live l0) at is = by_first (first_ready l0.link) is
-        where
-          by_first : (o : Option Delivery) → IsSomeAnd o (λ d. IsHandedUp t d × (new ≡ Live (live_after l0 (HandedUp d)))) → session_of terms w n (slice_set slots h new) ≡ session_after s
-              (Rattle.amqp_session.specs.Calls.first_taken h o)
-          by_first None is = absurd is
-          by_first (Some d) is = called h (HandedUp d) (Live l0) new l at within is.1
-      by_slot Waits at is = absurd is
 
   -- the fault of a transfer is that of its link, where it is known whether it begins a delivery under an open id
   fault_is : (l : LiveLink) (t : Sent) → transfer_fault s l.link t ≡ came_fault (slot_reused slots t.delivery_id (Live l)) l.link t
@@ -250,14 +223,6 @@ module _ (terms : SessionTerms) (w n : ℕ) (slots : List (Slot LiveLink)) (s : 
   pub came_accepted : (t : Sent) (h : ℕ) (x : Slot LiveLink) → 1 ≤ w → x ≡ get_or slots h x → h < length slots → is_free x ≡ false → session_fault s (Transfers h t) ≡ None
   came_accepted t h x some at within used = by_handle t h some ∙ handle_used h x (slot_is h x at within) used
 
--- what stands at a handle where something was put
-pub slot_put : (terms : SessionTerms) (w n : ℕ) (slots : List (Slot LiveLink)) (h : ℕ) (new : Slot LiveLink) → IsReached terms slots → h < length slots →
-    slot_at (session_of terms w n (slice_set slots h new)) h ≡ new
-slot_put terms w n slots h new reached within =
-    let long : length (slice_set slots h new) ≡ length slots = length-set slots h new in
-    let fits : IsReached terms (slice_set slots h new) = record { reached = omega (arith, long, reached.reached); handles = reached.handles } in
-    slot_is terms w n (slice_set slots h new) (session_of terms w n (slice_set slots h new)) refl fits h new (sym (get_or-set_same slots h new new within)) (omega (arith, long, within))
-
 -- the flow that states what a link is
 pub flow_is : (s : SessionState) (h : ℕ) (x : Slot LiveLink) (stated : LinkStated) (said : Said) → slot_at s h ≡ x → IsStated x stated →
     said ≡ link_flow_said s.next_incoming_id s.window h stated.delivery_count stated.link_credit stated.drain → link_flow s h ≡ said ∷ []
@@ -269,68 +234,30 @@ flow_is s h x stated said at is same = ap (λ (y : Slot LiveLink). slot_flow s h
         ap (λ (z : LinkStated). link_flow_said s.next_incoming_id s.window h z.delivery_count z.link_credit z.drain ∷ []) (sym is) ∙ ap (λ (y : Said). y ∷ []) (sym same)
     by_slot Waits is = absurd is
 
--- the flow of a link that a call has changed
-pub stated_flow : (terms : SessionTerms) (w n : ℕ) (slots : List (Slot LiveLink)) (h : ℕ) (new : Slot LiveLink) (stated : LinkStated) (said : Said) → IsReached terms slots → h < length slots →
-    IsStated new stated → said ≡ link_flow_said n w h stated.delivery_count stated.link_credit stated.drain → link_flow (session_of terms w n (slice_set slots h new)) h ≡ said ∷ []
-stated_flow terms w n slots h new stated said reached low is same =
-    flow_is (session_of terms w n (slice_set slots h new)) h new stated said (slot_put terms w n slots h new reached low) is same
-
--- a take of a link is one of what stands at its handle
-pub hands_up : {A : Type 0} (x new : Slot LiveLink) (t : Taken A) → IsTaken x new t → HandsUp x t
-hands_up {A} Free new t is = absurd is
-hands_up {A} (Live l) new t is = by_first (first_ready l.link) is
-  where
-    by_first : (o : Option Delivery) → IsSomeAnd o (λ d. IsHandedUp t d × (new ≡ Live (live_after l (HandedUp d)))) → IsSomeAnd o (λ d. IsHandedUp t d)
-    by_first None is = absurd is
-    by_first (Some d) is = is.0
-hands_up {A} Waits new t is = absurd is
-
 -- Standings. -----------------------------------------------------------------------------------------------------------------
-
--- a delivery that can be settled awaits that
-pub awaits : (x : Standing) → standing_fault x ≡ None → (mode : ReceiverSettleMode) × (x ≡ Awaiting mode)
-awaits Absent e = absurd (grind (arith, e))
-awaits Untaken e = absurd (grind (arith, e))
-awaits Told e = absurd (grind (arith, e))
-awaits (Awaiting mode) e = (mode, refl)
 
 module _ (terms : SessionTerms) (w n : ℕ) (slots : List (Slot LiveLink)) (s : SessionState) (view : session_of terms w n slots ≡ s) (reached : IsReached terms slots) where
   pub standing_is : (id : ℕ) (x : Standing) → x ≡ standing_in id slots → standing_in id s.links ≡ x
   standing_is id x e = subst (λ (t : SessionState). standing_in id t.links ≡ x) view (padded_standing id (handles terms) slots reached.reached ∙ sym e)
 
-  -- as many open deliveries have an id as at the places that were reached
-  counts_are : (id : ℕ) → table_count id s.links ≡ table_count id slots
-  counts_are id = subst (λ (t : SessionState). table_count id t.links ≡ table_count id slots) view (padded_sum (slot_count id) (handles terms) slots refl reached.reached)
+  -- what was found at the handles that were reached is found at all
+  pub found_is : (id : ℕ) (o : Option Found) → IsFound id slots o → IsFound id s.links o
+  found_is id None none = standing_is id Absent (sym none)
+  found_is id (Some found) is =
+      let long : length s.links ≡ handles terms = subst (λ (t : SessionState). length t.links ≡ handles terms) view (padded_long (handles terms) slots) in (
+        omega (arith, is.0, reached.reached, long),
+        ap (slot_standing id) (subst (λ (t : SessionState). slot_at t found.handle ≡ at_place slots found.handle) view (padded_get (handles terms) slots found.handle reached.reached)) ∙ is.1,
+        standing_is id found.standing (sym is.2),
+      )
 
-  -- a settle at the place that has the id is one of all that live
-  pub settled_there : (id k : ℕ) (x new : Slot LiveLink) (y : Standing) → IsApart s → id < 2 ^ 32 → n < 2 ^ 32 → x ≡ get_or slots k x → k < length slots →
-      slot_standing id (at_place slots k) ≡ y → standing_fault y ≡ None → new ≡ slot_called (ReceiverSettled id id) x →
-      session_of terms w n (slice_set slots k new) ≡ session_after s (event.Settled id id)
-  settled_there id k x new y apart short l at low stands none is =
-      let mode = awaits y none in
-      let awaits_it : slot_standing id x ≡ Awaiting mode.0 = ap (slot_standing id) (sym (stands_there slots k x at low)) ∙ stands ∙ mode.1 in
-      let once : table_count id slots ≤ 1 = (let room : one_if (nat_lt id (2 ^ 32)) ≡ 1 = ap one_if (lt-ltb id (2 ^ 32) short) in let most = apart id in omega (arith, most, room, counts_are id)) in
-      settled terms w n slots s view reached id id (slice_set slots k new) l
-      (ap (λ (z : Slot LiveLink). slice_set slots k z) is ∙ settled_at id slots k x short few once (there slots k x at low) (some_stands id x mode.0 awaits_it))
-    where
-      few : (m : ℕ) → 2 ^ 32 ≤ m → table_count m slots ≡ 0
-      few m long =
-          let room : one_if (nat_lt m (2 ^ 32)) ≡ 0 = ap one_if (le-ltb m (2 ^ 32) long) in
-          let most = apart m in omega (arith, most, room, counts_are m)
-
-  -- every live link can settle the id
-  pub may_settle : (id : ℕ) (x : Standing) → IsApart s → id < 2 ^ 32 → x ≡ standing_in id slots → standing_fault x ≡ None → (place : ℕ) (l : LiveLink) → slice_get slots place ≡ Some (Live l) →
-      LinkMay l.link (ReceiverSettled id id)
-  may_settle id x apart short is none place l here =
-      let mode = awaits x none in
-      settles_everywhere s id mode.0 apart short (standing_is id x is ∙ mode.1) place l
-      (subst (λ (t : SessionState). slice_get t.links place ≡ Some (Live l)) view (padded_there (handles terms) slots place (Live l) here reached.reached))
-
-  pub slot_settles : (id : ℕ) (x : Standing) → IsApart s → id < 2 ^ 32 → standing_in id slots ≡ x → standing_fault x ≡ None →
-      (k : ℕ) (y : Slot LiveLink) → y ≡ get_or slots k y → k < length slots → IsSettling id y
-  slot_settles id x apart short is none k Free at low = tt
-  slot_settles id x apart short is none k (Live l) at low = may_settle id x apart short (sym is) none k l (there slots k (Live l) at low)
-  slot_settles id x apart short is none k Waits at low = tt
+  -- another state of the link at a handle that was reached
+  pub relinked_at : (h : ℕ) (x : Slot LiveLink) (u : LinkState) → x ≡ get_or slots h x → h < length slots → session_of terms w n (slice_set slots h (slot_relinked x u)) ≡ with_link s h u
+  relinked_at h x u at low =
+      subst (λ (t : SessionState). session_of terms w n (slice_set slots h (slot_relinked x u)) ≡ with_link t h u) view (
+      ap (λ (ls : List (Slot LiveLink)). record { terms = terms; window = w; next_incoming_id = n; links = ls })
+      (sym (padded_set (handles terms) slots h x (slot_relinked x u) (there slots h x at low) reached.reached)
+      ∙ ap (λ (y : Slot LiveLink). slice_set (padded (handles terms) slots) h (slot_relinked y u))
+      (sym (slot_is terms w n slots (session_of terms w n slots) refl reached h x at low))))
 
   -- sums over what was reached
   pub sum_is : (f : Slot LiveLink → ℕ) → f Free ≡ 0 → sum_by f s.links ≡ sum_by f slots

@@ -6,7 +6,8 @@ use Rattle.amqp_link.specs.Links.{LinkState, LinkEvent, LinkMay, link_begins, li
 use Rattle.amqp_link.specs.Histories as link
 use Rattle.amqp_session.specs.declared.slot.Slot.{Slot}
 use Rattle.amqp_session.specs.declared.terms.SessionTerms.{SessionTerms}
-use Rattle.amqp_session.specs.Sessions.{Attached, LiveLink, live_begins, live_after, live_may, SessionState, SessionEvent, happens, is_transfer, one_if, widened_by, stated_by, session_begins}
+use Rattle.amqp_link.specs.Histories.{one_if}
+use Rattle.amqp_session.specs.Sessions.{Attached, LiveLink, live_begins, live_after, live_may, SessionState, SessionEvent, happens, is_transfer, widened_by, stated_by, session_begins}
 use Rattle.amqp_session.specs.Sessions.{session_after, SessionMay, HasRoom, IsAttached, IsApart, handles}
 use Rattle.amqp_session.specs.Histories.{widenings, transfers, counted_from, last_stated, restarted, since_stated, part, live_state, state_of, IsSoundPart, Sound, after_all, Accepted}
 use Rattle.amqp_session.specs.Sessions as event

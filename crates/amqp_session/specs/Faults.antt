@@ -36,13 +36,14 @@ or_else (Some a) later = Some a
 abbrev pub where_so : {A : Type 0} → Bool → A → Option A
 where_so b a = if b then Some a else None
 
--- a name above 255 bytes, a handle in use, a sender without initial-delivery-count [2.6.2, 2.7.3]
+-- A name above 255 bytes is amqp:resource-limit-exceeded, a handle in use amqp:session:handle-in-use, a sender without initial-delivery-count
+-- amqp:invalid-field. [2.6.2, 2.7.3]
 abbrev pub attach_fault : SessionState → Attaching → Option SessionFault
 attach_fault s a =
     or_else (where_so (nat_lt 255 (length a.name)) fault.ResourceLimit)
     (or_else (where_so (not (is_free (slot_at s a.handle))) fault.HandleInUse) (where_so (not (is_receiver a.role) && is_none a.initial_delivery_count) fault.InvalidField))
 
--- a handle that is not in use [2.6.2]
+-- a handle that is not in use: amqp:session:unattached-handle [2.6.2]
 abbrev pub handle_fault : SessionState → ℕ → Option SessionFault
 handle_fault s handle = where_so (is_free (slot_at s handle)) fault.UnattachedHandle
 
@@ -50,7 +51,7 @@ abbrev pub named_fault : SessionState → Option ℕ → Option SessionFault
 named_fault s None = None
 named_fault s (Some handle) = handle_fault s handle
 
--- A transfer needs a place of the window, which is looked for before its handle. [2.5.6]
+-- A transfer needs a place of the window, which is looked for before its handle: amqp:session:window-violation. [2.5.6]
 abbrev pub session_fault : SessionState → Frame → Option SessionFault
 session_fault s (Attaches a) = attach_fault s a
 session_fault s (Flows f) = named_fault s f.handle
@@ -69,14 +70,16 @@ session_condition fault.NoMemory = condition.Other
 
 -- The first fault that ends a link. ----------------------------------------------------------------------------------------
 
--- Why an attach without fault is refused: this side would be the sender, or the coordinator of transactions; its ends are too long; the answer doesn't fit a frame of the peer. [2.6.3, 2.7.1, 2.7.3]
+-- Why an attach without fault is refused: this side would be the sender, or the coordinator of transactions (amqp:not-implemented); its ends are too long
+-- (amqp:resource-limit-exceeded); the answer doesn't fit a frame of the peer (amqp:frame-size-too-small). [2.6.3, 2.7.1, 2.7.3]
 abbrev pub refusal : SessionTerms → Attaching → Option Condition
 refusal terms a =
     or_else (where_so (is_receiver a.role || is_coordinator a.target) condition.NotImplemented)
     (or_else (where_so (nat_lt 1024 (length a.source + length a.target)) condition.ResourceLimitExceeded)
     (where_so (nat_lt terms.max_frame_size (length (said_frame 0 (attach_said terms.bounds.max_message_size a) []))) condition.FrameSizeTooSmall))
 
--- A transfer that resumes comes first, then one that begins a delivery under an open id, then what else the link says. [2.6.12, 2.7.5]
+-- A transfer that resumes comes first (amqp:not-implemented), then one that begins a delivery under an open id, a duplicate (amqp:invalid-field), then what
+-- else the link says. [2.6.12, 2.7.5]
 abbrev pub transfer_fault : SessionState → LinkState → Sent → Option LinkFault
 transfer_fault s l t = if not t.resume && is_reused s l t then Some link_fault.InvalidField else fault_of l t
 
@@ -107,6 +110,7 @@ transfer_event s handle t Free = event.Ignored  -- a session fault
 transfer_event s handle t (Live l) = if is_none (transfer_fault s l.link t) then event.TransferCame handle t else event.TransferEnded handle
 transfer_event s handle t Waits = event.TransferDropped handle
 
+-- a delivery-count ahead by more than the credit ends the link: amqp:link:transfer-limit-exceeded [2.6.7]
 abbrev pub flow_event : ℕ → Flowing → Slot LiveLink → SessionEvent
 flow_event handle f Free = event.Ignored  -- a session fault
 flow_event handle f (Live l) = if is_beyond l.link.delivery_count l.link.credit f.delivery_count then event.LinkFlowEnded handle f.next_outgoing_id else event.LinkFlowCame handle f.next_outgoing_id

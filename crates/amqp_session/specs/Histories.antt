@@ -6,7 +6,8 @@ use Rattle.amqp_session.specs.declared.slot.Slot.{Slot}
 use Rattle.amqp_session.specs.declared.slot.Slot.TheVariants.{Free}
 use Rattle.amqp_session.specs.declared.terms.SessionTerms.{SessionTerms}
 use Rattle.amqp_session.specs.Places.{Life, life_after, states, AreSound}
-use Rattle.amqp_session.specs.Sessions.{Attached, LiveLink, SessionState, SessionEvent, happens, is_transfer, one_if, widened_by, stated_by, session_begins, session_after, SessionMay, IsAttached}
+use Rattle.amqp_link.specs.Histories.{one_if}
+use Rattle.amqp_session.specs.Sessions.{Attached, LiveLink, SessionState, SessionEvent, happens, is_transfer, widened_by, stated_by, session_begins, session_after, SessionMay, IsAttached}
 use Rattle.amqp_session.specs.Sessions.{IsApart, handles}
 
 -- all places that were added to the window

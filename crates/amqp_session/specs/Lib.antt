@@ -1,6 +1,7 @@
 pub mod Places
 pub mod Frames
 pub mod Sessions
+pub mod Links
 pub mod Faults
 pub mod Calls
 pub mod Histories
@@ -9,4 +10,6 @@ pub mod Slots
 pub mod Keeping
 pub mod Answers
 pub mod Replies
+pub mod Lending
+pub mod StateLending
 pub mod Coordinators

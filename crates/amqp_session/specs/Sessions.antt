@@ -6,6 +6,7 @@ use Rattle.amqp_link.specs.declared.terms.Terms.{Terms}
 use Rattle.amqp_link.specs.Links.{Sent, LinkState, LinkEvent, Granted, DrainAsked, Transferred, FlowStated, HandedUp, ReceiverSettled, SenderSettled, link_begins, link_after, LinkMay, link_bytes}
 use Rattle.amqp_link.specs.Links.{deliveries, has_id}
 use Rattle.amqp_link.specs.Laws.{id_count}
+use Rattle.amqp_link.specs.Histories.{one_if}
 use Rattle.amqp_session.specs.declared.slot.Slot.{Slot}
 use Rattle.amqp_session.specs.declared.slot.Slot.TheVariants.{Free, Live, Waits}
 use Rattle.amqp_session.specs.declared.terms.SessionTerms.{SessionTerms}
@@ -66,10 +67,6 @@ is_open_id s id = list_any (slot_has id) s.links
 -- The transfer would begin a delivery under the id of an open one. [2.7.5]
 abbrev pub is_reused : SessionState → LinkState → Sent → Bool
 is_reused s l t = is_none l.unfinished && option_map_or (is_open_id s) t.delivery_id false
-
-abbrev pub one_if : Bool → ℕ
-one_if false = 0
-one_if true = 1
 
 -- how many open deliveries at a handle have the id
 abbrev pub slot_count : ℕ → Slot LiveLink → ℕ
@@ -161,7 +158,7 @@ stated_by (LinkFlowEnded handle next_id) = Some next_id
 stated_by e = None
 
 -- The session after an event. A transfer uses a place of the incoming-window and adds 1 to next-incoming-id; a next-outgoing-id that the peer states replaces
--- next-incoming-id and never changes the window. [2.5.6]
+-- next-incoming-id, whatever gap that leaves, and never changes the window. [2.5.6]
 abbrev pub session_after : SessionState → SessionEvent → SessionState
 session_after s e = record {
   terms = s.terms;

@@ -4,11 +4,10 @@ use Rattle.std.specs.List.{list_any}
 use Rattle.std.specs.Option.{option_map_or}
 use Rattle.amqp_link.specs.declared.transfer.LinkFault.{LinkFault}
 use Rattle.amqp_link.specs.declared.transfer.LinkFault.TheVariants as link_fault
-use Rattle.amqp_link.specs.Bounds.{IsBounded}
 use Rattle.amqp_link.specs.declared.link.Taken.{Taken}
 use Rattle.amqp_link.specs.declared.settlement.Standing.TheVariants.{Absent}
 use Rattle.amqp_link.specs.HandedUps.{IsHandedUp}
-use Rattle.amqp_link.specs.Links.{Sent, LinkState, LinkEvent, Transferred, FlowStated, HandedUp, fault_of, may_grow, is_beyond, first_ready, settle_fault, open_set, open_count}
+use Rattle.amqp_link.specs.Links.{Sent, LinkState, LinkEvent, Transferred, FlowStated, fault_of, may_grow, is_beyond, first_ready, open_count}
 use Rattle.amqp_session.specs.declared.fault.SessionFault.{SessionFault}
 use Rattle.amqp_session.specs.declared.fault.SessionFault.TheVariants as fault
 use Rattle.amqp_session.specs.declared.news.News.{News}
@@ -19,7 +18,7 @@ use Rattle.amqp_session.specs.declared.terms.SessionTerms.{SessionTerms}
 use Rattle.amqp_session.specs.declared.slots.LinkStated.{LinkStated}
 use Rattle.amqp_session.specs.declared.table.Found.{Found}
 use Rattle.amqp_session.specs.declared.view.LinkView.{LinkView}
-use Rattle.amqp_session.specs.Places.{slot_map, IfLive}
+use Rattle.amqp_session.specs.Places.{slot_map}
 use Rattle.amqp_session.specs.Frames.{Flowing}
 use Rattle.amqp_session.specs.Faults.{is_free, came_news, flow_news}
 use Rattle.amqp_session.specs.Calls.{slot_standing, standing_in}
@@ -44,11 +43,10 @@ pub record IsReached (terms : SessionTerms) (slots : List (Slot LiveLink)) : Typ
 
 -- One link. -----------------------------------------------------------------------------------------------------------------
 
--- what is kept of a link is short, and so are its messages
+-- what is kept of a link beside its deliveries is short
 pub record IsKept (l : LiveLink) : Type 0 where
   pub name : length l.name ≤ 255
   pub ends : length l.source + length l.target ≤ 1024
-  pub bounds : IsBounded l.link.terms.bounds.allowed l.link.terms.bounds.max_message_size
 
 -- the first fault of a transfer, where it is known whether it begins a delivery under an open id
 abbrev pub came_fault : Bool → LinkState → Sent → Option LinkFault
@@ -127,20 +125,10 @@ IsStated Free stated = ⊥
 IsStated (Live l) stated = stated ≡ stated_of l.link
 IsStated Waits stated = ⊥
 
--- a take leaves this there, and hands this up
-abbrev pub IsTaken : {A : Type 0} → Slot LiveLink → Slot LiveLink → Taken A → Type 0
-IsTaken Free new taken = ⊥
-IsTaken (Live l) new taken = IsSomeAnd (first_ready l.link) (λ d. IsHandedUp taken d × (new ≡ Live (live_after l (HandedUp d))))
-IsTaken Waits new taken = ⊥
-
--- Where an open delivery with this id is looked for: at the place of the first link that has one, if any has. [2.6.12]
+-- Where an open delivery with this id is looked for: at the handle of the first link that has one, if any has. [2.6.12]
 abbrev pub IsFound : ℕ → List (Slot LiveLink) → Option Found → Type 0
 IsFound id slots None = standing_in id slots ≡ Absent
-IsFound id slots (Some found) = (found.place < length slots) × (slot_standing id (at_place slots found.place) ≡ found.standing) × (standing_in id slots ≡ found.standing)
-
--- the live link there can settle this id
-abbrev pub IsSettling : ℕ → Slot LiveLink → Type 0
-IsSettling id s = IfLive (λ l. settle_fault id id (open_set l.link) ≡ None) s
+IsFound id slots (Some found) = (found.handle < length slots) × (slot_standing id (at_place slots found.handle) ≡ found.standing) × (standing_in id slots ≡ found.standing)
 
 -- what a take of the link there hands up
 abbrev pub HandsUp : {A : Type 0} → Slot LiveLink → Taken A → Type 0

@@ -1,14 +1,14 @@
 //! What is kept of a live link.
 ghost use Rattle.std.specs.Prelude.{◌≡◌, ◌<◌, ◌≤◌, ◌+◌, ◌*◌, ◌^◌, length, Option, Some, None, OnOk, OnErr, IfOk, IfErr, IfSome, IfNone, IsSomeAnd, true, false, nat_lt};
-ghost use Rattle.amqp_link.specs.Bounds.{IsBounded};
-ghost use Rattle.amqp_link.specs.Links.{sent_of, Granted, DrainAsked, Transferred, FlowStated, HandedUp, ReceiverSettled, SenderSettled, LinkMay, open_set, open_count, first_ready, step_of, is_drained, is_beyond, newly_settled, settle_fault};
-ghost use Rattle.amqp_link.specs.HandedUps.{IsHandedUp};
+ghost use Rattle.amqp_link.specs.Links.{sent_of, Transferred, FlowStated, SenderSettled, LinkMay, open_set, open_count, step_of, is_drained, is_beyond, newly_settled};
+ghost use Rattle.std.specs.Borrow.{sem};
+ghost use Rattle.amqp_session.specs.Lending.{LendsLink};
 ghost use Rattle.amqp_session.specs.Sessions.{live_begins, live_after, slot_bytes};
 ghost use Rattle.amqp_session.specs.declared.slot.Slot.{Slot};
 ghost use Rattle.amqp_session.specs.Slots.{came_fault, IsCameFault, IsView};
 
 use crate::view::LinkView;
-use amqp_link::{Link, LinkFault, MAX_ALLOWED, Step, Taken, Terms, TooMuchCredit, laws};
+use amqp_link::{Link, LinkFault, Step, Terms, laws};
 use amqp_perform::Transfer;
 use std::alloc::{AllocError, Allocator, Global};
 use std::marker::Model;
@@ -54,7 +54,6 @@ impl<A: Allocator + Copy> KeptLink<A> {
         requires ends { length source.now + length target.now ≤ 1024 }
         ensures { IfOk result (λ l. l ≡ live_begins (record { name = name.now; source = source.now; target = target.now; terms = terms })) }
     {
-        let _ = terms.bounds.allowed();
         let record = Record {
             name: Vec::from_slice(alloc, name)?,
             source: Vec::from_slice(alloc, source)?,
@@ -71,6 +70,14 @@ impl<A: Allocator + Copy> KeptLink<A> {
         ensures { result.now ≡ self.now.link }
     {
         &self.record.link
+    }
+
+    /// Lends the link.
+    pub fn link_mut(&mut self) -> &mut Link<A>
+        ensures* writes_back { sem 𝓛 (LendsLink A.row A.Allocator self.entry result) }
+        ensures value { result.now ≡ self.old.link }
+    {
+        &mut self.record.link
     }
 
     /// Takes a transfer and its payload, of which it is known whether it begins a delivery under an open id.
@@ -113,47 +120,15 @@ impl<A: Allocator + Copy> KeptLink<A> {
         n > self.record.link.room()
     }
 
-    /// Grants `n` places of credit.
-    pub fn grant(&mut self, n: u32) -> Result<(), TooMuchCredit>
-        ensures new { OnOk result (self.new ≡ live_after self.old (Granted n)) }
-        ensures within { OnOk result (nat_lt self.old.link.terms.bounds.allowed (self.old.link.credit + open_count self.old.link + n) ≡ false) }
-        ensures much { OnErr result (nat_lt self.old.link.terms.bounds.allowed (self.old.link.credit + open_count self.old.link + n) ≡ true) }
-        ensures err { OnErr result (self.new ≡ self.old) }
-    {
-        self.record.link.grant(n)
-    }
-
-    /// Asks the sender to use its credit up.
-    pub fn drain(&mut self)
-        ensures { self.new ≡ live_after self.old DrainAsked }
-    {
-        self.record.link.drain()
-    }
-
-    /// Hands up the first ready delivery.
-    pub fn take(&mut self) -> Option<Taken<A>>
-        ensures none { IfNone result ((first_ready self.old.link ≡ None) × (self.new ≡ self.old)) }
-        ensures some { IfSome result (λ taken. IsSomeAnd (first_ready self.old.link) (λ d. IsHandedUp taken d × (self.new ≡ live_after self.old (HandedUp d)))) }
-    {
-        self.record.link.take()
-    }
-
     /// The sender settles the ids from `first` to `last`. Answers how many open deliveries it settles.
     pub fn peer_settled(&mut self, first: u32, last: u32) -> u32
         ensures new { self.new ≡ live_after self.old (SenderSettled first last) }
         ensures count { result ≡ newly_settled first last (open_set self.old.link) }
         ensures most { result ≤ 1024 }
     {
-        prove!(self.record.link.room() <= MAX_ALLOWED);
+        let allowed = self.record.link.bounds().allowed();
+        prove!(self.record.link.room() <= allowed);
         self.record.link.peer_settled(first, last)
-    }
-
-    /// The receiver settles the delivery with this id, or tells the sender of it, if the link has it.
-    pub fn settle(&mut self, id: u32)
-        requires { settle_fault id id (open_set self.old.link) ≡ None }
-        ensures { self.new ≡ live_after self.old (ReceiverSettled id id) }
-    {
-        self.record.link.settle_faultless(id, id);
     }
 
     /// The bytes that count as kept. All fields are named, so that a new one is listed here.
@@ -170,6 +145,7 @@ impl<A: Allocator + Copy> KeptLink<A> {
             link,
         } = record;
         let ends = name.len() + source.len() + target.len();
+        let _ = link.bounds().allowed(); // a law: what a link holds is small
         128 + ends as u64 + link.held()
     }
 
@@ -193,6 +169,7 @@ impl<A: Allocator + Copy> KeptLink<A> {
         ensures value { result ≡ length self.now.link.ready }
         ensures most { result ≤ 1024 }
     {
+        let _ = self.record.link.bounds().allowed(); // a law: it allows few
         self.record.link.ready()
     }
 }

@@ -17,7 +17,8 @@ use crate::done::{Answer, Done};
 use crate::fault::{CallFault, SessionFault};
 use crate::news::News;
 use crate::replies;
-use crate::state::State;
+use crate::slots::stated;
+use crate::state::{State, settles_at_once, standing_fault};
 use crate::terms::SessionTerms;
 use crate::view::LinkView;
 use amqp_link::{Taken, laws};
@@ -324,8 +325,14 @@ impl<A: Allocator + Copy> Session<A> {
     {
         laws::open_ids_grow_by_heads();
         self.state.is_long();
-        let flow = self.state.grant(handle, n)?;
-        Ok(flow)
+        let Some(link) = self.state.link_mut(handle) else {
+            return Err(CallFault::NoLink);
+        };
+        let Ok(()) = link.grant(n) else {
+            return Err(CallFault::TooMuchCredit);
+        };
+        let stated = stated(link);
+        Ok(self.state.flow_stating(handle, stated))
     }
 
     /// Asks the sender on the link at a handle to use its credit up, and answers the flow that says so [2.6.7].
@@ -340,8 +347,12 @@ impl<A: Allocator + Copy> Session<A> {
     {
         laws::open_ids_grow_by_heads();
         self.state.is_long();
-        let flow = self.state.drain(handle)?;
-        Ok(flow)
+        let Some(link) = self.state.link_mut(handle) else {
+            return Err(CallFault::NoLink);
+        };
+        link.drain();
+        let stated = stated(link);
+        Ok(self.state.flow_stating(handle, stated))
     }
 
     /// Hands up the first ready delivery of the link at a handle. Refused, with nothing changed: with `NoLink`,
@@ -356,7 +367,12 @@ impl<A: Allocator + Copy> Session<A> {
     {
         laws::open_ids_grow_by_heads();
         self.state.is_long();
-        let taken = self.state.take(handle)?;
+        let Some(link) = self.state.link_mut(handle) else {
+            return Err(CallFault::NoLink);
+        };
+        let Some(taken) = link.take() else {
+            return Err(CallFault::NothingReady);
+        };
         Ok(taken)
     }
 
@@ -373,7 +389,19 @@ impl<A: Allocator + Copy> Session<A> {
     {
         laws::open_ids_grow_by_heads();
         self.state.is_long();
-        let settled = self.state.settle(id)?;
+        let Some(found) = self.state.find(id) else {
+            return Err(CallFault::NoDelivery);
+        };
+        if let Some(fault) = standing_fault(found.standing) {
+            return Err(fault);
+        }
+        match self.state.link_mut(found.handle) {
+            Some(link) => {
+                link.settle_faultless(id, id);
+            }
+            None => unreachable!(),
+        }
+        let settled = settles_at_once(found.standing);
         Ok(replies::disposition(id, settled, outcome))
     }
 

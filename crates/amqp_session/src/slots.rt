@@ -1,7 +1,11 @@
 //! What stands at one handle.
 ghost use Rattle.std.specs.Prelude.{◌≡◌, ◌<◌, ◌≤◌, ◌+◌, ◌*◌, ◌^◌, length, Option, Some, None, OnOk, OnErr, IfOk, IfErr, IfSome, IfNone, IsSomeAnd, true, false, is_none, nat_lt};
-ghost use Rattle.amqp_link.specs.Links.{sent_of, LinkState, Granted, DrainAsked, SenderSettled, ReceiverSettled, open_count, first_ready};
-ghost use Rattle.amqp_session.specs.Slots.{slot_came, slot_came_news, IsSlotRefusal, slot_flowed, slot_called, IsStated, IsTaken, IsSettling, IsFlowTold, is_live, IsViewAt};
+ghost use Rattle.amqp_link.specs.Links.{sent_of, LinkState, SenderSettled, open_count};
+ghost use Rattle.std.specs.Option.{option_copied_mut};
+ghost use Rattle.std.specs.Borrow.{sem};
+ghost use Rattle.amqp_session.specs.Lending.{LendsPlace};
+ghost use Rattle.amqp_session.specs.Links.{link_in};
+ghost use Rattle.amqp_session.specs.Slots.{slot_came, slot_came_news, IsSlotRefusal, slot_flowed, slot_called, stated_of, IsStated, IsFlowTold, is_live, IsViewAt};
 ghost use Rattle.amqp_session.specs.Faults.{is_free, link_condition, step_news, flow_news, slot_settled, where_so};
 ghost use Rattle.amqp_session.specs.Sessions.{slot_ready, slot_has, slot_bytes};
 ghost use Rattle.amqp_session.specs.Calls.{at_link, slot_standing};
@@ -12,7 +16,7 @@ use crate::kept_link::KeptLink;
 use crate::news::News;
 use crate::slot::Slot;
 use crate::view::LinkView;
-use amqp_link::{LinkFault, Standing, Step, Taken};
+use amqp_link::{Link, LinkFault, Standing, Step};
 use amqp_perform::{Condition, Flow, Transfer};
 use std::alloc::Allocator;
 
@@ -154,48 +158,21 @@ pub fn link_fault<A: Allocator + Copy>(slot: &Slot<KeptLink<A>>) -> Option<CallF
     }
 }
 
-/// Grants the link `n` places of credit, and answers what a flow then states of it.
-pub fn grant<A: Allocator + Copy>(
-    slot: &mut Slot<KeptLink<A>>,
-    n: u32,
-) -> Result<LinkStated, CallFault>
-    ensures new { OnOk result (slot.new ≡ slot_called (Granted n) slot.old) }
-    ensures stated { IfOk result (λ stated. IsStated slot.new stated) }
-    ensures accepted { OnOk result (at_link slot.old (λ l. where_so (nat_lt l.terms.bounds.allowed (l.credit + open_count l + n)) CallFault.TooMuchCredit) ≡ None) }
-    ensures refused { IfErr result (λ e. at_link slot.old (λ l. where_so (nat_lt l.terms.bounds.allowed (l.credit + open_count l + n)) CallFault.TooMuchCredit) ≡ Some e) }
-    ensures err { OnErr result (slot.new ≡ slot.old) }
+/// Lends the live link there.
+pub fn link_mut<A: Allocator + Copy>(slot: &mut Slot<KeptLink<A>>) -> Option<&mut Link<A>>
+    ensures* writes_back { sem 𝓛 (LendsPlace A.row A.Allocator slot.entry result) }
+    ensures value { option_copied_mut result ≡ link_in slot.old }
 {
     match slot {
-        Slot::Live(kept) => match kept.grant(n) {
-            Ok(()) => Ok(stated(kept)),
-            Err(_) => Err(CallFault::TooMuchCredit),
-        },
-        _ => Err(CallFault::NoLink),
-    }
-}
-
-/// Asks the sender to use its credit up, and answers what a flow then states of the link.
-pub fn drain<A: Allocator + Copy>(slot: &mut Slot<KeptLink<A>>) -> Result<LinkStated, CallFault>
-    ensures new { OnOk result (slot.new ≡ slot_called DrainAsked slot.old) }
-    ensures stated { IfOk result (λ stated. IsStated slot.new stated) }
-    ensures accepted { OnOk result (at_link slot.old (λ l. None) ≡ None) }
-    ensures refused { IfErr result (λ e. at_link slot.old (λ l. None) ≡ Some e) }
-    ensures err { OnErr result (slot.new ≡ slot.old) }
-{
-    match slot {
-        Slot::Live(kept) => {
-            kept.drain();
-            Ok(stated(kept))
-        }
-        _ => Err(CallFault::NoLink),
+        Slot::Live(kept) => Some(kept.link_mut()),
+        _ => None,
     }
 }
 
 /// What a flow states of a link.
-fn stated<A: Allocator + Copy>(kept: &KeptLink<A>) -> LinkStated
-    ensures { IsStated (Slot.Live kept.now) result }
+pub fn stated<A: Allocator + Copy>(link: &Link<A>) -> LinkStated
+    ensures { result ≡ stated_of link.now }
 {
-    let link = kept.link();
     LinkStated {
         delivery_count: link.delivery_count(),
         link_credit: link.credit(),
@@ -209,24 +186,8 @@ pub fn stated_at<A: Allocator + Copy>(slot: &Slot<KeptLink<A>>) -> Option<LinkSt
     ensures none { IfNone result ((stated : LinkStated) → IsStated slot.now stated → ⊥) }
 {
     match slot {
-        Slot::Live(kept) => Some(stated(kept)),
+        Slot::Live(kept) => Some(stated(kept.link())),
         _ => None,
-    }
-}
-
-/// Hands up the first ready delivery of the link.
-pub fn take<A: Allocator + Copy>(slot: &mut Slot<KeptLink<A>>) -> Result<Taken<A>, CallFault>
-    ensures taken { IfOk result (λ taken. IsTaken slot.old slot.new taken) }
-    ensures accepted { OnOk result (at_link slot.old (λ l. where_so (is_none (first_ready l)) CallFault.NothingReady) ≡ None) }
-    ensures refused { IfErr result (λ e. at_link slot.old (λ l. where_so (is_none (first_ready l)) CallFault.NothingReady) ≡ Some e) }
-    ensures err { OnErr result (slot.new ≡ slot.old) }
-{
-    match slot {
-        Slot::Live(kept) => match kept.take() {
-            Some(taken) => Ok(taken),
-            None => Err(CallFault::NothingReady),
-        },
-        _ => Err(CallFault::NoLink),
     }
 }
 
@@ -277,17 +238,6 @@ pub fn peer_settled<A: Allocator + Copy>(slot: &mut Slot<KeptLink<A>>, first: u3
     match slot {
         Slot::Live(kept) => kept.peer_settled(first, last),
         _ => 0,
-    }
-}
-
-/// The receiver settles the delivery with this id, or tells the sender of it, if the link has it.
-pub fn settle<A: Allocator + Copy>(slot: &mut Slot<KeptLink<A>>, id: u32)
-    requires { IsSettling id slot.old }
-    ensures { slot.new ≡ slot_called (ReceiverSettled id id) slot.old }
-{
-    match slot {
-        Slot::Live(kept) => kept.settle(id),
-        _ => {}
     }
 }
 

@@ -3,24 +3,29 @@ ghost use Rattle.std.specs.Prelude.{◌≡◌, ◌<◌, ◌≤◌, ◌+◌, ◌^
 ghost use Rattle.amqp_link.specs.Links.{sent_of};
 ghost use Rattle.amqp_perform.specs.declared.performative.Performative.TheVariants as performative;
 ghost use Rattle.amqp_perform.specs.Performatives.{is_receiver};
-ghost use Rattle.amqp_session.specs.Calls.{Widen, Grant, Drain, Take, Settle, Detach as DetachCall, call_fault, call_event, standing_in, standing_fault, settles_at_once};
+ghost use Rattle.amqp_session.specs.Calls.{Widen, Grant, Drain, Settle, Detach as DetachCall, call_fault, call_event, standing_fault, settles_at_once};
+ghost use Rattle.std.specs.Option.{option_copied_mut};
+ghost use Rattle.std.specs.Borrow.{sem};
+ghost use Rattle.amqp_session.specs.Links.{link_at};
+ghost use Rattle.amqp_session.specs.StateLending.{LendsHandle};
 ghost use Rattle.amqp_session.specs.Faults.{session_fault, event_of, news_of, attach_fault, IsRefusal, session_flow, link_flow, attached, is_settling, settled_news};
 ghost use Rattle.amqp_perform.specs.Said.{said};
 ghost use Rattle.amqp_session.specs.Frames.{Attaches, Flows, Transfers, Disposes, Detaches, attaching, flowing, disposing, link_flow_said};
-ghost use Rattle.amqp_session.specs.Sessions.{SessionState, session_begins, session_after, session_bytes, session_ready, slot_at, slot_ready, handles, IsApart, live_begins};
-ghost use Rattle.amqp_session.specs.Slots.{HandsUp, IsViewAt, is_live};
+ghost use Rattle.amqp_session.specs.Sessions.{SessionState, session_begins, session_after, session_bytes, session_ready, slot_at, slot_ready, handles, live_begins};
+ghost use Rattle.amqp_session.specs.Slots.{IsFound, IsViewAt, is_live};
 ghost use Rattle.amqp_perform.specs.declared.outcome.Outcome.{Outcome};
 
 use crate::fault::{CallFault, SessionFault};
 use crate::kept_link::KeptLink;
 use crate::news::News;
 use crate::refusal::refusal;
+use crate::replies;
 use crate::slot::Slot;
 use crate::slots::{self, LinkStated, PeerDetached};
+use crate::table::{self, Found};
 use crate::terms::SessionTerms;
 use crate::view::LinkView;
-use crate::{replies, table};
-use amqp_link::{Standing, Taken, Terms};
+use amqp_link::{Link, Standing, Terms};
 use amqp_perform::{Attach, Disposition, Flow, ReceiverSettleMode, Role, Transfer};
 use std::alloc::{AllocError, Allocator, Global};
 use std::marker::Model;
@@ -128,6 +133,30 @@ impl<A: Allocator + Copy> State<A> {
         slots::view(&self.table[place])
     }
 
+    /// Lends the live link at a handle.
+    pub fn link_mut(&mut self, handle: u32) -> Option<&mut Link<A>>
+        ensures* writes_back { sem 𝓛 (LendsHandle A.row A.Allocator self.entry handle result) }
+        ensures value { option_copied_mut result ≡ link_at self.old handle }
+        ensures number { self.old.next_incoming_id < 2 ^ 32 }
+    {
+        let place = handle as usize;
+        if place >= self.table.len() {
+            return None;
+        }
+        match slots::link_mut(&mut self.table[place]) {
+            Some(link) => Some(link),
+            None => None,
+        }
+    }
+
+    /// The handle of the link with an open delivery of this id, and what that is to its receiver; `None` where no link
+    /// has one.
+    pub fn find(&self, id: u32) -> Option<Found>
+        ensures { IsFound id self.now.links result }
+    {
+        table::find(&self.table, id)
+    }
+
     /// The flow of the session.
     pub fn session_flow(&self) -> Flow<'static>
         ensures { said (performative.Flow result) ≡ session_flow self.now }
@@ -150,7 +179,7 @@ impl<A: Allocator + Copy> State<A> {
     }
 
     /// The flow that states this of the link at a handle.
-    fn flow_stating(&self, handle: u32, stated: LinkStated) -> Flow<'static>
+    pub fn flow_stating(&self, handle: u32, stated: LinkStated) -> Flow<'static>
         ensures { said (performative.Flow result) ≡ link_flow_said self.now.next_incoming_id self.now.window handle stated.delivery_count stated.link_credit stated.drain }
     {
         replies::link_flow(self.next_incoming_id, self.window, handle, stated)
@@ -336,7 +365,7 @@ impl<A: Allocator + Copy> State<A> {
     pub fn settle_fault(&self, id: u32) -> Option<CallFault>
         ensures { (outcome : Outcome) → result ≡ call_fault self.now (Settle id outcome) }
     {
-        match table::find(&self.table, id) {
+        match self.find(id) {
             Some(found) => standing_fault(found.standing),
             None => Some(CallFault::NoDelivery),
         }
@@ -356,54 +385,6 @@ impl<A: Allocator + Copy> State<A> {
         Ok(())
     }
 
-    /// Grants the link at a handle `n` places of credit, and answers the flow that says so.
-    pub fn grant(&mut self, handle: u32, n: u32) -> Result<Flow<'static>, CallFault>
-        ensures new { OnOk result (self.new ≡ session_after self.old (call_event self.old (Grant handle n))) }
-        ensures accepted { OnOk result (call_fault self.old (Grant handle n) ≡ None) }
-        ensures answer { IfOk result (λ flow. link_flow self.new handle ≡ said (performative.Flow flow) ∷ []) }
-        ensures refused { IfErr result (λ e. call_fault self.old (Grant handle n) ≡ Some e) }
-        ensures err { OnErr result (self.new ≡ self.old) }
-    {
-        let place = handle as usize;
-        if place >= self.table.len() {
-            return Err(CallFault::NoLink);
-        }
-        let stated = slots::grant(&mut self.table[place], n)?;
-        Ok(self.flow_stating(handle, stated))
-    }
-
-    /// Asks the sender on the link at a handle to use its credit up, and answers the flow that says so.
-    pub fn drain(&mut self, handle: u32) -> Result<Flow<'static>, CallFault>
-        ensures new { OnOk result (self.new ≡ session_after self.old (call_event self.old (Drain handle))) }
-        ensures accepted { OnOk result (call_fault self.old (Drain handle) ≡ None) }
-        ensures answer { IfOk result (λ flow. link_flow self.new handle ≡ said (performative.Flow flow) ∷ []) }
-        ensures refused { IfErr result (λ e. call_fault self.old (Drain handle) ≡ Some e) }
-        ensures err { OnErr result (self.new ≡ self.old) }
-    {
-        let place = handle as usize;
-        if place >= self.table.len() {
-            return Err(CallFault::NoLink);
-        }
-        let stated = slots::drain(&mut self.table[place])?;
-        Ok(self.flow_stating(handle, stated))
-    }
-
-    /// Hands up the first ready delivery of the link at a handle.
-    pub fn take(&mut self, handle: u32) -> Result<Taken<A>, CallFault>
-        ensures new { OnOk result (self.new ≡ session_after self.old (call_event self.old (Take handle))) }
-        ensures accepted { OnOk result (call_fault self.old (Take handle) ≡ None) }
-        ensures taken { IfOk result (λ taken. HandsUp (slot_at self.old handle) taken) }
-        ensures refused { IfErr result (λ e. call_fault self.old (Take handle) ≡ Some e) }
-        ensures err { OnErr result (self.new ≡ self.old) }
-    {
-        let place = handle as usize;
-        if place >= self.table.len() {
-            return Err(CallFault::NoLink);
-        }
-        let taken = slots::take(&mut self.table[place])?;
-        Ok(taken)
-    }
-
     /// Ends the link at a handle, and answers how many ready deliveries are dropped.
     pub fn detach(&mut self, handle: u32) -> Result<u32, CallFault>
         ensures new { OnOk result (self.new ≡ session_after self.old (call_event self.old (DetachCall handle))) }
@@ -418,26 +399,6 @@ impl<A: Allocator + Copy> State<A> {
         }
         let dropped = slots::detach(&mut self.table[place])?;
         Ok(dropped)
-    }
-
-    /// Settles the delivery with this id, or tells the sender what became of it. Answers whether it is settled.
-    pub fn settle(&mut self, id: u32) -> Result<bool, CallFault>
-        requires { IsApart self.old }
-        ensures new { OnOk result ((outcome : Outcome) → self.new ≡ session_after self.old (call_event self.old (Settle id outcome))) }
-        ensures accepted { OnOk result ((outcome : Outcome) → call_fault self.old (Settle id outcome) ≡ None) }
-        ensures settled { IfOk result (λ settled. settled ≡ settles_at_once (standing_in id self.old.links)) }
-        ensures refused { IfErr result (λ e. (outcome : Outcome) → call_fault self.old (Settle id outcome) ≡ Some e) }
-        ensures err { OnErr result (self.new ≡ self.old) }
-    {
-        let found = match table::find(&self.table, id) {
-            Some(found) => found,
-            None => return Err(CallFault::NoDelivery),
-        };
-        if let Some(fault) = standing_fault(found.standing) {
-            return Err(fault);
-        }
-        slots::settle(&mut self.table[found.place], id);
-        Ok(settles_at_once(found.standing))
     }
 }
 
@@ -466,7 +427,7 @@ fn settled_news(count: u32) -> News
 }
 
 /// Why a delivery that stands so can't be settled.
-fn standing_fault(standing: Standing) -> Option<CallFault>
+pub fn standing_fault(standing: Standing) -> Option<CallFault>
     ensures { result ≡ standing_fault standing }
 {
     match standing {
@@ -478,7 +439,7 @@ fn standing_fault(standing: Standing) -> Option<CallFault>
 }
 
 /// Whether a delivery that stands so is settled by its receiver alone.
-fn settles_at_once(standing: Standing) -> bool
+pub fn settles_at_once(standing: Standing) -> bool
     ensures { result ≡ settles_at_once standing }
 {
     matches!(standing, Standing::Awaiting(ReceiverSettleMode::First))

@@ -15,8 +15,8 @@ use std::alloc::{AllocError, Allocator};
 /// An open delivery that was looked for.
 #[derive(Clone, Copy)]
 pub struct Found {
-    /// The place of its link.
-    pub place: usize,
+    /// The handle of its link.
+    pub handle: u32,
     /// What it is to its receiver.
     pub standing: Standing,
 }
@@ -57,15 +57,19 @@ pub fn is_reused<A: Allocator + Copy>(
     }
 }
 
-/// The place of the link with an open delivery of this id, and what that is to its receiver; `None` where no
+/// The handle of the link with an open delivery of this id, and what that is to its receiver; `None` where no
 /// link has one.
 pub fn find<A: Allocator + Copy>(table: &[Slot<KeptLink<A>>], id: u32) -> Option<Found>
+    requires { length table.now ≤ 256 }
     ensures { IsFound id table.now result }
 {
     for (place, slot) in table.iter().enumerate() {
         match slots::standing(slot, id) {
             Standing::Absent => {}
-            standing => return Some(Found { place, standing }),
+            standing => {
+                let handle = place as u32;
+                return Some(Found { handle, standing });
+            }
         }
     }
     None

@@ -232,7 +232,8 @@ same_constructor element a b p q = some (sym p ∙ q)
     some : Some a ≡ Some b → a ≡ b
     some e = cc
 
-same_head : (a b : ℕ) (xs ys : List ℕ) → a ∷ xs ≡ b ∷ ys → (a ≡ b) × (xs ≡ ys)
+-- two lists are the same in their heads and behind them
+pub same_head : (a b : ℕ) (xs ys : List ℕ) → a ∷ xs ≡ b ∷ ys → (a ≡ b) × (xs ≡ ys)
 same_head a b xs ys e = (cc, cc)
 
 -- what an item is behind its constructor, whatever stands in front of the data

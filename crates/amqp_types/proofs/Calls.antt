@@ -10,6 +10,7 @@ use Rattle.amqp_types.specs.InHand.{Budget, outermost}
 use Rattle.amqp_types.specs.Reading.{Part, ◌>>=◌, Is, Gives, after, value_of}
 use Rattle.amqp_types.specs.Decoding.{decoded}
 use Rattle.amqp_types.proofs.Octets.{IsBytes}
+use Rattle.amqp_types.proofs.Skips.{ok_rest}
 use Rattle.amqp_types.proofs.Compounds.{value_sound}
 use Rattle.amqp_types.proofs.Again.{value_again}
 use Rattle.amqp_types.proofs.Joined.{Spent}
@@ -24,10 +25,6 @@ front bytes text rest n parts le same =
 
 ok_parts : (a b : Tree × List ℕ) → ◌≡◌ {A = Result (Tree × List ℕ) ReadFault} (Ok a) (Ok b) → a ≡ b
 ok_parts a b e = cc
-
--- the bytes of two equal answers are the same
-pub ok_rest : (a b : List ℕ) → ◌≡◌ {A = Result (List ℕ) ReadFault} (Ok a) (Ok b) → a ≡ b
-ok_rest a b e = cc
 
 -- ---- skip
 

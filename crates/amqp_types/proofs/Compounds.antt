@@ -162,7 +162,8 @@ abbrev Apart : Trees → Pairs → Type 0
 Apart seen no_pair = Unit {0}
 Apart seen (pair k v ps) = (has_key k seen ≡ false) × Apart seen ps
 
-same_bytes : (xs : List ℕ) → bytes_eq xs xs ≡ true
+-- bytes are equal to themselves
+pub same_bytes : (xs : List ℕ) → bytes_eq xs xs ≡ true
 same_bytes xs = (bytes_eq-Decides xs xs).1 refl
 
 apart_parts : (key : Tree) (seen : Trees) (ps : Pairs) → Apart (more key seen) ps → HasNoKey key ps × Apart seen ps

@@ -36,7 +36,7 @@ use Rattle.amqp_types.specs.Misreading.{bad_item, bad_later_item}
 use Rattle.amqp_types.proofs.Complete.{octets_again, big_again, form_again}
 use Rattle.amqp_types.proofs.ImageLaws.{AreSmall, small}
 use Rattle.amqp_types.proofs.Again.{charged, block_again, count_again, no_zero, may_stand, inside_holds, same_constructor, value_again, item_again}
-use Rattle.amqp_types.proofs.Misreads.{among, found_among, opened, block_window}
+use Rattle.amqp_types.proofs.Misreads.{behind_same, behind_spend, among, found_among, opened, block_window}
 
 -- ---- numbers and bytes
 
@@ -239,14 +239,6 @@ behind_once : (budget : Budget) (n : ℕ) → behind budget (spend budget n) ≡
 behind_once None n = refl
 behind_once (Some b) n = refl
 
-behind_of_spent : (budget left : Budget) (m : ℕ) → behind (spend budget m) left ≡ behind budget left
-behind_of_spent None left m = refl
-behind_of_spent (Some b) left m = refl
-
-behind_self : (budget : Budget) → behind budget budget ≡ budget
-behind_self None = refl
-behind_self (Some b) = refl
-
 part_read : (t : Tree) (depth : ℕ) (w : Window) (budget : Budget) (bytes text rest : List ℕ) → bytes ≡ text ++ rest → Spells t text → IsWithin depth budget t
     → value_by (inside depth) w 0 budget bytes ≡ Ok (t, spend budget (nodes_in t), rest)
 part_read t depth w budget bytes text rest parts spelled within =
@@ -380,7 +372,7 @@ parts_fail d (ArrayIn r) s w budget bytes parts count within at e holder b enoug
     (made head items) in
     let same : (read >>= tail budget) ≡ (read >>= tail (spend budget count)) = bind_same read (tail budget) (tail (spend budget count))
     (λ head. ap (λ (left : Budget). trees_at (item_by (inside d) head.0.constructor) count within left head.2 >>= λ items. ended within items.2 (made head items))
-    (sym (behind_of_spent budget head.1 count))) in
+    (sym (behind_spend budget count head.1))) in
     subst (λ (z : SizeWidth). item_by (inside (suc d)) (ArrayIn z) w budget bytes ≡ Err e) holder.0
     (opened_parts w s (size_len s + 1) count false parts bytes within at budget e
     (λ block n left. head_at (length n.1) (level_by (inside d)) block.within left n.1 >>= λ head. trees_at (item_by (inside d) head.0.constructor) n.0 block.within (behind budget head.1) head.2
@@ -483,7 +475,7 @@ few_descriptors_fail n depth w budget rest few = at_fuel
 with_more : (depth n : ℕ) (w : Window) (budget : Budget) (m k : ℕ) (read : Part Head) (d : Tree) (e : ReadFault) → (read >>= items_to_end depth n w (spend (spend budget m) k)) ≡ Err e
     → ((read >>= λ head. Ok (with_descriptor d head.0, head.1, head.2)) >>= items_to_end depth n w budget) ≡ Err e
 with_more depth n w budget m k (Ok head) d e h =
-    ap (λ (left : Budget). to_end w (trees_at (item_by (inside depth) head.0.constructor) n w left head.2)) (sym (behind_of_spent budget head.1 m) ∙ sym (behind_of_spent (spend budget m) head.1 k))
+    ap (λ (left : Budget). to_end w (trees_at (item_by (inside depth) head.0.constructor) n w left head.2)) (sym (behind_spend budget m head.1) ∙ sym (behind_spend (spend budget m) k head.1))
     ∙ h
 with_more depth n w budget m k (Err x) d e h = cc
 
@@ -514,7 +506,7 @@ items_fail n depth w budget code rest e c is may h = at_fuel
   where
     at_fuel : (fuel : ℕ) → length (code ∷ rest) ≤ fuel → (head_at fuel (level_by (inside depth)) w budget (code ∷ rest) >>= items_to_end depth n w budget) ≡ Err e
     at_fuel zero le = absurd (omega arith)
-    at_fuel (suc fuel) le = rw (ne_eqb code 0 (code_is_some code c is), is, allowed_is c depth (place w (code ∷ rest)) may, behind_self budget) (h c is)
+    at_fuel (suc fuel) le = rw (ne_eqb code 0 (code_is_some code c is), is, allowed_is c depth (place w (code ∷ rest)) may, behind_same budget) (h c is)
 
 many_fails : (due depth : ℕ) (w : Window) (budget : Budget) (code : ℕ) (rest : List ℕ) (c : Constructor) → find_code code ≡ Some c → MayStand c depth → IsShort budget due →
     Fails (AValue due) depth w budget (code ∷ rest) (TooManyNodes (place w (code ∷ rest)))

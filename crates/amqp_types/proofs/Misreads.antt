@@ -36,7 +36,7 @@ use Rattle.amqp_types.proofs.Sound.{bind_ok, guard_ok, ok_is, Takes-then, octets
 use Rattle.amqp_types.proofs.Faults.{bind_err, then_ok_err, guard_err, unless_err, big_short, octets_short, form_short, fault_of_number, fault_of_octets}
 use Rattle.amqp_types.proofs.Joined.{Spent, spent_same, SpellsItem}
 use Rattle.amqp_types.proofs.ImageLaws.{IsSmall, AreSmall, small, image_apart}
-use Rattle.amqp_types.proofs.Compounds.{block_sound, block_text, IsRead, IsReader, IsSoundLevel, distinct_ok, allowed_ok, either_way, inside_sound}
+use Rattle.amqp_types.proofs.Compounds.{same_bytes, block_sound, block_text, IsRead, IsReader, IsSoundLevel, distinct_ok, allowed_ok, either_way, inside_sound}
 
 -- ---- what is left
 
@@ -52,11 +52,13 @@ charge_ok : (budget left : Budget) (n at : ℕ) → charge budget n at ≡ Ok le
 charge_ok None left n at h = (sym (ok_is None left h), tt)
 charge_ok (Some b) left n at h = let g = guard_ok (ltb b n) (TooManyNodes at) (Some (b - n)) left h in (sym g.1, ltb-false b n g.0)
 
-behind_same : (budget : Budget) → behind budget budget ≡ budget
+-- what is left of a budget of which nothing was spent
+pub behind_same : (budget : Budget) → behind budget budget ≡ budget
 behind_same None = refl
 behind_same (Some b) = refl
 
-behind_spend : (budget : Budget) (n : ℕ) (left : Budget) → behind (spend budget n) left ≡ behind budget left
+-- and behind one of which so much was
+pub behind_spend : (budget : Budget) (n : ℕ) (left : Budget) → behind (spend budget n) left ≡ behind budget left
 behind_spend None n left = refl
 behind_spend (Some b) n left = refl
 
@@ -179,9 +181,6 @@ items_misread depth level sound mis c element is may = sequence_misread (level.i
 
 -- ---- maps
 
-same_octets : (xs : List ℕ) → bytes_eq xs xs ≡ true
-same_octets xs = (bytes_eq-Decides xs xs).1 refl
-
 -- a key that is found is among those before it
 pub among : (key : Tree) (seen : Trees) → IsSmall key → AreSmall seen → has_key key seen ≡ true → IsAmong key seen
 unfolding has_key
@@ -200,7 +199,7 @@ among key (more t ts) p q h =
 pub found_among : (key : Tree) (seen : Trees) → IsAmong key seen → has_key key seen ≡ true
 unfolding has_key
 found_among key none h = absurd h
-found_among key (more t ts) (inl same) = or_left (bytes_eq (image t) (image key)) (has_key key ts) (ap (λ (u : Tree). bytes_eq (image t) (image u)) (sym same) ∙ same_octets (image t))
+found_among key (more t ts) (inl same) = or_left (bytes_eq (image t) (image key)) (has_key key ts) (ap (λ (u : Tree). bytes_eq (image t) (image u)) (sym same) ∙ same_bytes (image t))
   where
     or_left : (a b : Bool) → a ≡ true → (a || b) ≡ true
     or_left true b e = refl

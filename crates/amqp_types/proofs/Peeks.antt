@@ -19,7 +19,7 @@ use Rattle.amqp_types.specs.Peeks.{IsUnsigned, IsOtherNumber, IsOther}
 use Rattle.amqp_types.specs.Reading.{Block, octets_at, big_at, number_at, block_at, count_at, allowed}
 use Rattle.amqp_types.specs.Spelling.{size_len, SpellsNumber, SpellsOctets, SpellsBlock, Spells, SpellAll, IsNumberOf, AreOctetsOf}
 use Rattle.amqp_types.specs.Trees.{Tree, Number, Octets, ListOf, MapOf, ArrayOf, Described, Trees, none, Pairs, count_of, depth_of}
-use Rattle.amqp_types.proofs.Again.{no_zero, same_constructor, may_stand, block_again, count_again}
+use Rattle.amqp_types.proofs.Again.{no_zero, same_constructor, same_head, may_stand, block_again, count_again}
 use Rattle.amqp_types.proofs.Complete.{octets_again, big_again, number_again}
 use Rattle.amqp_types.proofs.Depths.{depth_within}
 
@@ -29,9 +29,6 @@ same_ok a b e = cc
 -- an answer is no fault
 pub no_ok : {A : Type 0} (e : ReadFault) (a : A) → ◌≡◌ {A = Result A ReadFault} (Err e) (Ok a) → ⊥
 no_ok e a h = absurd cc
-
-heads : (a b : ℕ) (xs ys : List ℕ) → a ∷ xs ≡ b ∷ ys → (a ≡ b) × (xs ≡ ys)
-heads a b xs ys e = (cc, cc)
 
 -- ---- data behind a constructor
 
@@ -47,7 +44,7 @@ SpellsBehind (ArrayIn s) t data_ = (ds : Trees) × (k : Kind) × (ts : Trees) ×
 own_behind : (c d : Constructor) (t : Tree) (code own : ℕ) (data_ text : List ℕ) → find_code code ≡ Some c → code ∷ data_ ≡ own ∷ text → find_code own ≡ Some d → SpellsBehind d t text →
     SpellsBehind c t data_
 own_behind c d t code own data_ text found e is spelled =
-    let same = heads code own data_ text e in
+    let same = same_head code own data_ text e in
     let con : c ≡ d = same_constructor code c d found (ap find_code same.0 ∙ is) in
     subst (λ (x : Constructor). SpellsBehind x t data_) (sym con) (subst (λ (x : List ℕ). SpellsBehind d t x) (sym same.1) spelled)
 
@@ -60,7 +57,7 @@ behind c (ListOf ts) code data_ found (inl h) = own_behind c EmptyList (ListOf t
 behind c (ListOf ts) code data_ found (inr h) = own_behind c (ListIn h.1) (ListOf ts) code h.0 data_ h.3 found h.5 h.4 (ts, h.2, refl, h.6, h.7)
 behind c (MapOf ps) code data_ found h = own_behind c (MapIn h.1) (MapOf ps) code h.0 data_ h.3 found h.5 h.4 (ps, refl)
 behind c (ArrayOf ds k ts) code data_ found h = own_behind c (ArrayIn h.1) (ArrayOf ds k ts) code h.0 data_ h.6 found h.8 h.7 (ds, k, ts, refl)
-behind c (Described d t) code data_ found h = absurd (no_zero code c found (heads code 0 data_ (h.0 ++ h.1) h.2).0)
+behind c (Described d t) code data_ found h = absurd (no_zero code c found (same_head code 0 data_ (h.0 ++ h.1) h.2).0)
 
 -- a map or an array is none of the other cases
 pub map_or_array : (c : Constructor) (t : Tree) (code : ℕ) (data_ : List ℕ) → ((s : SizeWidth) × (c ≡ MapIn s)) ⊎ ((s : SizeWidth) × (c ≡ ArrayIn s)) → find_code code ≡ Some c →
@@ -249,7 +246,7 @@ Opened text rest code after = (c : Constructor) × (data_ : List ℕ) × (find_c
 opened : (text rest : List ℕ) (code : ℕ) (after : List ℕ) (own : ℕ) (c : Constructor) (data_ : List ℕ) → code ∷ after ≡ text ++ rest → find_code own ≡ Some c → text ≡ own ∷ data_ →
     Opened text rest code after
 opened text rest code after own c data_ e found is =
-    let same = heads code own after (data_ ++ rest) (e ∙ ap (λ (b : List ℕ). b ++ rest) is) in
+    let same = same_head code own after (data_ ++ rest) (e ∙ ap (λ (b : List ℕ). b ++ rest) is) in
     (c, data_, ap find_code same.0 ∙ found, is ∙ ap (λ (x : ℕ). x ∷ data_) (sym same.0), same.1)
 
 -- a spelled value that is not described opens with a code
@@ -261,14 +258,14 @@ opens (ListOf ts) text rest code after (inl h) e nz = opened text rest code afte
 opens (ListOf ts) text rest code after (inr h) e nz = opened text rest code after h.0 (ListIn h.1) h.3 e h.4 h.5
 opens (MapOf ps) text rest code after h e nz = opened text rest code after h.0 (MapIn h.1) h.3 e h.4 h.5
 opens (ArrayOf ds k ts) text rest code after h e nz = opened text rest code after h.0 (ArrayIn h.1) h.6 e h.7 h.8
-opens (Described d t) text rest code after h e nz = absurd (nz (heads code 0 after ((h.0 ++ h.1) ++ rest) (e ∙ ap (λ (b : List ℕ). b ++ rest) h.2)).0)
+opens (Described d t) text rest code after h e nz = absurd (nz (same_head code 0 after ((h.0 ++ h.1) ++ rest) (e ∙ ap (λ (b : List ℕ). b ++ rest) h.2)).0)
 
 -- only a described value begins with 00
 abbrev pub IsDescribed : Tree → List ℕ → List ℕ → List ℕ → Type 0
 IsDescribed t text rest after = (d u : Tree) × (first second : List ℕ) × (t ≡ Described d u) × (text ≡ 0 ∷ (first ++ second)) × (after ≡ first ++ (second ++ rest)) × Spells d first × Spells u second
 
 not_zero : (text rest : List ℕ) (code : ℕ) (after : List ℕ) (own : ℕ) (c : Constructor) (data_ : List ℕ) → code ∷ after ≡ text ++ rest → find_code own ≡ Some c → text ≡ own ∷ data_ → code ≡ 0 → ⊥
-not_zero text rest code after own c data_ e found is z = no_zero own c found (sym (heads code own after (data_ ++ rest) (e ∙ ap (λ (b : List ℕ). b ++ rest) is)).0 ∙ z)
+not_zero text rest code after own c data_ e found is z = no_zero own c found (sym (same_head code own after (data_ ++ rest) (e ∙ ap (λ (b : List ℕ). b ++ rest) is)).0 ∙ z)
 
 -- a described one opens with 00
 pub described_opens : (t : Tree) (text rest : List ℕ) (code : ℕ) (after : List ℕ) → Spells t text → code ∷ after ≡ text ++ rest → code ≡ 0 → IsDescribed t text rest after
@@ -280,7 +277,7 @@ described_opens (ListOf ts) text rest code after (inr h) e z = absurd (not_zero 
 described_opens (MapOf ps) text rest code after h e z = absurd (not_zero text rest code after h.0 (MapIn h.1) h.3 e h.4 h.5 z)
 described_opens (ArrayOf ds k ts) text rest code after h e z = absurd (not_zero text rest code after h.0 (ArrayIn h.1) h.6 e h.7 h.8 z)
 described_opens (Described d t) text rest code after h e z =
-    let same = heads code 0 after ((h.0 ++ h.1) ++ rest) (e ∙ ap (λ (b : List ℕ). b ++ rest) h.2) in
+    let same = same_head code 0 after ((h.0 ++ h.1) ++ rest) (e ∙ ap (λ (b : List ℕ). b ++ rest) h.2) in
     (d, t, h.0, h.1, refl, h.2, same.1 ∙ append_assoc h.0 h.1 rest, h.3, h.4)
 
 -- a constructor that a spelling has may stand where depth is left

@@ -23,11 +23,8 @@ use Rattle.amqp_types.specs.InHand.{place}
 use Rattle.amqp_types.specs.Reading.{Part, Level, Block, ◌>>=◌, after, allowed, octets_at, big_at, octets_fault, number_at, form_at, sized_at, block_at, block_of, count_at, trees_at, list_at}
 use Rattle.amqp_types.specs.Reading.{map_at, array_at, head_at, item_by, described_at, value_by}
 use Rattle.amqp_types.specs.Skipping.{rest_of, is_still, plain_width, counted, IsBody, constructor_after}
-use Rattle.amqp_types.proofs.Skips.{rest_of_number}
+use Rattle.amqp_types.proofs.Skips.{ok_rest, rest_of_number}
 use Rattle.amqp_types.proofs.Walks.{after_step, first_ok, uncharged_rest, still_number, closes, map_after, array_after, head_code}
-
-same_list : (a b : List ℕ) → ◌≡◌ {A = Result (List ℕ) ReadFault} (Ok a) (Ok b) → a ≡ b
-same_list a b e = cc
 
 same_number : (a b : ℕ) → ◌≡◌ {A = Option ℕ} (Some a) (Some b) → a ≡ b
 same_number a b e = cc
@@ -147,7 +144,7 @@ plain_value inner w code bytes rest n parts e le =
 described_then : (level : Level) (w : Window) (read : Part Tree) (first second : List ℕ) → after read ≡ Ok first → after (level.value w 0 None first) ≡ Ok second
     → after (read >>= λ d. level.value w 0 None d.2 >>= λ v. Ok (Described d.0 v.0, v.1, v.2)) ≡ Ok second
 described_then level w (Ok x) first second e1 e2 =
-    after_step (level.value w 0 None x.2) (λ v. Described x.0 v.0) (λ v. v.1) ∙ ap (λ (r : List ℕ). after (level.value w 0 None r)) (same_list x.2 first e1) ∙ e2
+    after_step (level.value w 0 None x.2) (λ v. Described x.0 v.0) (λ v. v.1) ∙ ap (λ (r : List ℕ). after (level.value w 0 None r)) (ok_rest x.2 first e1) ∙ e2
 described_then level w (Err d) first second e1 e2 = absurd cc
 
 -- a descriptor and what it describes are passed in turn

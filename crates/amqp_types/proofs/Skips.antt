@@ -1,5 +1,5 @@
 -- What is left behind a value does not depend on what the value is.
-use Rattle.std.proofs.Common.{◌≡◌, ℕ, Bool, true, false, List, length, take, drop, Option, None, Ok, Err, refl, sym, ap, ◌∙◌, cond, ltb, arith}
+use Rattle.std.proofs.Common.{◌≡◌, ℕ, Bool, true, false, List, length, take, drop, Option, None, Result, Ok, Err, refl, sym, ap, ◌∙◌, cond, ltb, arith}
 use Rattle.std.proofs.lemmas.Bool.{le-ltb}
 use Rattle.byteorder.specs.Endian.{big_number}
 use Rattle.amqp_types.specs.declared.kind.Kind.{Kind}
@@ -13,6 +13,10 @@ use Rattle.amqp_types.specs.Spelling.{form_len, sign_extended}
 use Rattle.amqp_types.specs.Skipping.{rest_of}
 use Rattle.amqp_types.specs.InHand.{place}
 use Rattle.amqp_types.specs.Reading.{Read, ◌>>=◌, unless, number_fault, octets_at, big_at, form_at, number_at}
+
+-- the bytes of two equal answers are the same
+pub ok_rest : (a b : List ℕ) → ◌≡◌ {A = Result (List ℕ) ReadFault} (Ok a) (Ok b) → a ≡ b
+ok_rest a b e = cc
 
 -- most kinds have every number
 pub no_fault : (k : Kind) (at n : ℕ) → is_partial k ≡ false → number_fault k at n ≡ None

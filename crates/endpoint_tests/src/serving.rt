@@ -1,8 +1,9 @@
 //! Whole connections, over readers and writers in memory.
 
-use amqp_endpoint::{Config, End, Endpoint, Policy, ServeFault, serve};
+use amqp_endpoint::{Config, End, Endpoint};
 use amqp_frame::Device;
 use amqp_perform::Outcome as Settlement;
+use amqp_serve::{Policy, ServeFault, serve};
 use std::alloc::{AllocError, Global};
 use std::cell::Cell;
 use std::io::{self, BufWriter, Read, Write};

@@ -2,10 +2,9 @@ use Rattle.std.proofs.Common.{◌++◌, ℕ, List, take, drop, sym, ap, subst, �
 use Rattle.std.proofs.KnownBytes.{Appends-trans, Appends-kept}
 use Rattle.std.proofs.Math.Seq.{take-add}
 use Rattle.std.proofs.lemmas.Grind.{common_steps}
-use Rattle.std.proofs.lemmas.List.{take-append-drop}
+use Rattle.std.proofs.lemmas.List.{take_rest, take-append-drop}
 use Rattle.std.specs.Io.KnownBytes.{Appends}
 use Rattle.amqp_frame.specs.Devices.{device_inner}
-use Rattle.amqp_dump.proofs.Tellings.{left_is}
 use Rattle.amqp_dump.proofs.printer.write_out.Goals as goal
 
 pub loop-at-preserved : goal.loop-at-preserved
@@ -17,7 +16,7 @@ loop-at-preserved g c =
       within = first_of (search rules, grind (arith, common_steps));
       unmarked = first_of (search rules, grind (arith, common_steps));
       written = subst (λ (x : List ℕ). Appends (g.W.Write.contents (device_inner c.args.writer.now)) (g.W.Write.contents (device_inner c.write.new.self)) x)
-          (ap (λ (x : List ℕ). take at bytes ++ take n x) (left_is bytes at) ∙ sym (take-add at n bytes))
+          (ap (λ (x : List ℕ). take at bytes ++ take n x) (take_rest bytes at) ∙ sym (take-add at n bytes))
           (Appends-trans _ _ _ _ _ c.loop-at.invariant.written c.in-Ok.ensures.bytes);
     }
 

@@ -1,9 +1,9 @@
-use Rattle.std.proofs.Common.{arith}
 use Rattle.amqp_session.specs.Calls.{Settle}
 use Rattle.amqp_endpoint.specs.Asking.{outcome_said}
-use Rattle.amqp_endpoint.proofs.Calling.{asked}
+use Rattle.amqp_endpoint.proofs.Lent.{called}
 use Rattle.amqp_endpoint.proofs.connection.Connection.settle.Goals as goal
 
-pub returns : goal.returns
-returns g c = asked c.self.inside.config c.self.inside.phase c.self.inside.failed c.self.inside.closed c.self.inside.places.items c.args.self.now c.self.view_is outcome_said
-    c.args.channel c.index_mut.result.now c.settle.new.place (Settle c.args.id c.args.outcome) c.settle.result c.index_mut.ensures.value (omega arith) c.settle.ensures
+pub returns-in-Ok : goal.returns-in-Ok
+returns-in-Ok g c =
+    called c.args.self.now c.args.channel c.in-Some.session.now c.settle.new.self (Settle c.args.id c.args.outcome) (outcome_said c.in-Ok.told) c.in-Some.ensures.value
+    c.in-Ok.ensures.accepted c.in-Ok.ensures.new c.in-Ok.ensures.answer

@@ -1,11 +1,37 @@
+use Rattle.std.proofs.Common.{◌≡◌, subst, ap, sym, ◌∙◌}
 use Rattle.amqp_session.specs.Calls as call
+use Rattle.amqp_session.specs.Calls.{call_event}
+use Rattle.amqp_session.specs.Faults.{link_flow}
+use Rattle.amqp_session.specs.Links.{with_link}
+use Rattle.amqp_session.specs.Sessions.{SessionState, session_after}
 use Rattle.amqp_session.proofs.Dones.{call_apart, call_may}
+use Rattle.amqp_session.proofs.Lent.{granted, flow_after, unchanged, apart_still}
 use Rattle.amqp_session.proofs.session.Session.grant.Goals as goal
 
 pub invariant_of-self-2 : goal.invariant_of-self-2
 invariant_of-self-2 g c =
-    call_apart c.open_ids_grow_by_heads.ensures c.self.inside.state c.grant.new.self (call.Grant c.args.handle c.args.n) c.self.invariant tt c.in_ok-flow.ensures.accepted c.in_ok-flow.ensures.new
+    let done = granted c.self.inside.state c.args.handle c.in-Some.link.now c.grant.new.self c.in-Some.ensures.number c.in-Some.ensures.value c.args.n c.in-Ok.ensures.may c.in-Ok.ensures.new in
+    call_apart c.open_ids_grow_by_heads.ensures c.self.inside.state (with_link c.self.inside.state c.args.handle c.grant.new.self) (call.Grant c.args.handle c.args.n) c.self.invariant tt done.0 done.1
 
 pub returns-clause-may : goal.returns-clause-may
 returns-clause-may g c =
-    call_may c.self.inside.state c.args.self.now (call.Grant c.args.handle c.args.n) c.self.view_is c.self.invariant tt c.in_ok-flow.ensures.accepted
+    let done = granted c.self.inside.state c.args.handle c.in-Some.link.now c.grant.new.self c.in-Some.ensures.number c.in-Some.ensures.value c.args.n c.in-Ok.ensures.may c.in-Ok.ensures.new in
+    call_may c.self.inside.state c.args.self.now (call.Grant c.args.handle c.args.n) c.self.view_is c.self.invariant tt done.0
+
+pub returns-clause-new : goal.returns-clause-new
+returns-clause-new g c =
+    let done = granted c.self.inside.state c.args.handle c.in-Some.link.now c.grant.new.self c.in-Some.ensures.number c.in-Some.ensures.value c.args.n c.in-Ok.ensures.may c.in-Ok.ensures.new in
+    subst (λ (t : SessionState). with_link c.self.inside.state c.args.handle c.grant.new.self ≡ session_after t (call_event t (call.Grant c.args.handle c.args.n))) c.self.view_is done.1
+
+pub returns-clause-answer : goal.returns-clause-answer
+returns-clause-answer g c =
+    let done = granted c.self.inside.state c.args.handle c.in-Some.link.now c.grant.new.self c.in-Some.ensures.number c.in-Some.ensures.value c.args.n c.in-Ok.ensures.may c.in-Ok.ensures.new in
+    ap (λ (t : SessionState). link_flow t c.args.handle) (sym (subst (λ (t : SessionState). with_link c.self.inside.state c.args.handle c.grant.new.self ≡ session_after t (call_event t (call.Grant c.args.handle c.args.n)))
+    c.self.view_is done.1))
+    ∙ flow_after c.self.inside.state c.args.handle c.in-Some.link.now c.grant.new.self c.stated-stated.result _ c.in-Some.ensures.value c.stated-stated.ensures c.flow_stating.ensures
+
+pub invariant_of-self-in_default-grant : goal.invariant_of-self-in_default-grant
+invariant_of-self-in_default-grant g c = apart_still c.self.inside.state c.args.handle c.in-Some.link.now c.grant.new.self c.in-Some.ensures.value c.in_default-grant.ensures.err c.self.invariant
+
+pub returns-in_default-grant-clause-err : goal.returns-in_default-grant-clause-err
+returns-in_default-grant-clause-err g c = unchanged c.self.inside.state c.args.handle c.in-Some.link.now c.grant.new.self c.in-Some.ensures.value c.in_default-grant.ensures.err c.args.self.now c.self.view_is

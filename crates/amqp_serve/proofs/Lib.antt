@@ -1,0 +1,11 @@
+pub mod Servings
+pub mod ServingRecords
+pub mod ServingTops
+pub mod ServingFeeds
+pub mod ServingReads
+pub mod ServingMessages
+pub mod CutTops
+pub mod CutSteps
+pub mod CutRuns
+pub mod Cuts
+pub mod CutFronts

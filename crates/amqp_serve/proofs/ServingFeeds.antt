@@ -1,0 +1,125 @@
+-- A piece that is fed while serving.
+use Rattle.std.proofs.Common.{◌≡◌, ◌≢◌, ℕ, ◌<◌, ◌≤◌, inl, inr, Bool, true, false, List, [], ◌∷◌, ◌++◌, Option, Some, None, length, take, refl, sym, ap, subst, ◌∙◌, arith, append-nil}
+use Rattle.std.proofs.KnownBytes.{Appends-nil}
+use Rattle.std.specs.Prelude.{if◌then◌else◌}
+use Rattle.std.proofs.lemmas.Bool.{cases_lt}
+use Rattle.amqp_frame.specs.Splits.{SplitterState, Waits, IsOver, IsUnchanged}
+use Rattle.amqp_frame.specs.Units.{StreamUnit, HeaderUnit, FrameUnit, FaultUnit, bytes_of, IsUnit}
+use Rattle.amqp_frame.specs.declared.units.Stage.{Stage}
+use Rattle.amqp_frame.specs.declared.units.Stage.TheVariants.{Header, Frames, Refused, Faulty}
+use Rattle.amqp_frame.proofs.Fronts.{header_exact, frame_length, waits_or_not}
+use Rattle.amqp_endpoint.specs.declared.event.Event.{Event}
+use Rattle.amqp_endpoint.specs.declared.event.Outcome.{Outcome}
+use Rattle.amqp_endpoint.specs.declared.event.Outcome.TheVariants as outcome
+use Rattle.amqp_serve.specs.declared.serving.Policy.{Policy}
+use Rattle.amqp_endpoint.specs.Connections.{ConnectionState, is_dead}
+use Rattle.amqp_endpoint.specs.Lines.{line_of, told_on, may_grow_on}
+use Rattle.amqp_endpoint.specs.Runs.{Feed, Fed}
+use Rattle.amqp_serve.specs.Serving.{reading, stand_told, Rests, Feeds, Served, IsIdle, IsStarved}
+use Rattle.amqp_endpoint.specs.Steps as steps
+use Rattle.amqp_endpoint.specs.Traces.{IsInRange}
+use Rattle.amqp_endpoint.specs.Steps.{EndpointState, IsFed, TakesAndActs, Acts, acted_after, room_for, told_outcome}
+
+unit_some : (max : ℕ) (stage : Stage) (u : StreamUnit) → IsUnit max stage u → 4 ≤ length (bytes_of u)
+unit_some max Header u is = omega (arith, header_exact max u is)
+unit_some max Frames u is = frame_length max u is
+unit_some max Refused u is = absurd is
+unit_some max (Faulty fault) u is = absurd is
+
+-- no unit waits in an empty buffer
+none_waits : (s : SplitterState) (u : StreamUnit) → s.filled ≡ [] → Waits s u → ⊥
+none_waits s u none w = let some = unit_some s.limit s.stage u w.is in let same = ap length (sym none ∙ w.whole) in absurd (omega (arith, some, same))
+
+-- what waits in a buffer that has not changed waited in it before
+pub waits_before : (s t : SplitterState) (u : StreamUnit) → IsUnchanged s t → Waits t u → Waits s u
+waits_before s t u x w = record {
+  is = subst (λ (n : ℕ). IsUnit n s.stage u) x.limit (subst (λ (stage : Stage). IsUnit t.limit stage u) x.stage w.is);
+  whole = sym x.filled ∙ w.whole;
+}
+
+-- an empty output has room for the answer to any unit
+pub room_for_all : (u : StreamUnit) → room_for [] u ≡ true
+room_for_all (HeaderUnit bytes) = refl
+room_for_all (FrameUnit bytes) = refl
+room_for_all (FaultUnit fault bytes) = refl
+
+alive_feeds : (s t : EndpointState) (piece : List ℕ) (used : ℕ) (told : Outcome) → is_dead s.connection.phase ≡ false → IsFed s t piece used told → TakesAndActs s t piece used told
+alive_feeds s t piece used told alive x = subst (λ (b : Bool). steps.FeedDone b s t piece used told) alive x
+
+-- a unit that was acted upon tells of no want of memory
+pub never_starved : (c : ConnectionState) (o : Option Event) → told_outcome c o ≡ outcome.NoMemory → ⊥
+never_starved c (Some e) is = absurd (grind (arith, is))
+never_starved c None is = by (is_dead c.phase) is
+  where
+    by : (over : Bool) → (if over then outcome.Dead else outcome.More) ≡ outcome.NoMemory → ⊥
+    by true f = absurd (grind (arith, f))
+    by false f = absurd (grind (arith, f))
+
+-- Where nothing waits to be sent, a unit that waits is acted upon, unless memory is refused.
+pub fed_idle : (s t : EndpointState) (piece : List ℕ) (used : ℕ) (told : Outcome) → is_dead s.connection.phase ≡ false → s.unsent ≡ [] → told ≢ outcome.NoMemory → IsFed s t piece used told → IsIdle t
+fed_idle s t piece used told alive none fine x = λ u w.
+    let y = alive_feeds s t piece used told alive x in
+    let between : EndpointState = record s { input = y.between } in
+    let idle : (v : StreamUnit) → Waits y.between v → ⊥ = λ v waits.
+    let room : room_for s.unsent v ≡ true = ap (λ (l : List ℕ). room_for l v) none ∙ room_for_all v in
+    let acts : Acts between t v true told = subst (λ (b : Bool). Acts between t v b told) room (y.comes.unit v waits) in
+    elim acts [
+      | inl acted ↦ none_waits t.input u acted.input.filled w
+      | inr kept ↦ absurd (fine kept.1)
+    ] in
+    idle u (waits_before y.between t.input u (y.comes.none idle).0.input w)
+
+-- Where memory is refused the unit that wants it waits, and nothing else has changed.
+pub fed_starved : (s t : EndpointState) (piece : List ℕ) (used : ℕ) → 8 ≤ s.input.limit → is_dead s.connection.phase ≡ false → s.unsent ≡ [] → IsFed s t piece used outcome.NoMemory → IsStarved t
+fed_starved s t piece used least alive none x =
+    let y = alive_feeds s t piece used outcome.NoMemory alive x in
+    let between : EndpointState = record s { input = y.between } in
+    elim (waits_or_not y.between (subst (λ (n : ℕ). 8 ≤ n) (sym y.taken.limit) least)) [
+      | inl w ↦
+          let u = w.0 in
+          let room : room_for s.unsent u ≡ true = ap (λ (l : List ℕ). room_for l u) none ∙ room_for_all u in
+          let acts : Acts between t u true outcome.NoMemory = subst (λ (b : Bool). Acts between t u b outcome.NoMemory) room (y.comes.unit u w.1) in
+          elim acts [
+            | inl acted ↦ absurd (never_starved (acted_after s.connection u) (told_on s.connection (line_of s.connection u)) (sym acted.told))
+            | inr kept ↦
+                let same = kept.0.input in
+                record {
+                  unit = u;
+                  waits = waits_before t.input y.between u (record { limit = sym same.limit; stage = sym same.stage; filled = sym same.filled }) w.1;
+                  wants = ap (λ (c : ConnectionState). may_grow_on (line_of c u)) kept.0.connection ∙ kept.2;
+                  sent = kept.0.unsent ∙ none;
+                  alive = ap (λ (c : ConnectionState). is_dead c.phase) kept.0.connection ∙ alive;
+                }
+          ]
+      | inr idle ↦ absurd (never_starved s.connection None (sym (y.comes.none idle).1))
+    ]
+
+-- Where no unit waits something of a piece is taken.
+pub fed_some : (s t : EndpointState) (piece : List ℕ) (used : ℕ) (told : Outcome) → is_dead s.connection.phase ≡ false → (IsOver s.input.stage → ⊥) → IsIdle s → 0 < length piece
+    → IsFed s t piece used told → 0 < used
+fed_some s t piece used told alive over idle some x =
+    let y = alive_feeds s t piece used told alive x in
+    elim (cases_lt 0 used) [
+      | inl h ↦ h
+      | inr h ↦
+          let zero : used ≡ 0 = omega arith in
+          let same : y.between.filled ≡ s.input.filled = y.taken.filled ∙ ap (λ (n : ℕ). s.input.filled ++ take n piece) zero ∙ append-nil s.input.filled in
+          elim (y.taken.all (omega arith)) [
+            | inl one ↦ absurd (idle one.unit (record {
+              is = subst (λ (n : ℕ). IsUnit n s.input.stage one.unit) y.taken.limit (subst (λ (stage : Stage). IsUnit y.between.limit stage one.unit) y.taken.stage one.stands.is);
+              whole = sym same ∙ one.stands.whole;
+            }))
+            | inr gone ↦ absurd (over (subst (λ (stage : Stage). IsOver stage) y.taken.stage gone))
+          ]
+    ]
+
+-- a piece is fed
+pub feed_served : (p : Policy) (s t : EndpointState) (piece : List ℕ) (used : ℕ) (told : Outcome) (w k : Option (List ℕ)) → s.unsent ≡ [] → IsInRange (Feed piece) → IsFed s t piece used told
+    → Served p reading (stand_told t.connection.config told) (take used piece) s t w w k k
+feed_served p s t piece used told w k none bytes x = record {
+  steps = record { call = Feed piece; answer = Fed used told } ∷ [];
+  serves = Feeds t piece used told none bytes x Rests;
+  fed = append-nil (take used piece);
+  written = Appends-nil w;
+  recorded = Appends-nil k;
+}

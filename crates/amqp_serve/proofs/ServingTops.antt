@@ -1,0 +1,139 @@
+-- Topping up while serving, and what else asks something of a session.
+use Rattle.std.proofs.Common.{◌≡◌, ℕ, zero, suc, ◌+◌, ◌-◌, ◌<◌, ◌≤◌, false, List, [], ◌∷◌, ◌++◌, Option, Result, Ok, Err, refl, sym, ap, subst, ◌∙◌, arith, add-one, option_map, is_some}
+use Rattle.std.proofs.lemmas.Bool.{true≢false}
+use Rattle.std.proofs.KnownBytes.{Appends-nil}
+use Rattle.std.specs.List.{flat_map}
+use Rattle.amqp_frame.specs.Splits.{IsUnchanged}
+use Rattle.amqp_session.specs.declared.slot.Slot.{Slot}
+use Rattle.amqp_session.specs.declared.slot.Slot.TheVariants.{Free, Live, Waits as Awaits}
+use Rattle.amqp_session.specs.Calls as session
+use Rattle.amqp_session.specs.Calls.{Widen, Grant, Take, Settle}
+use Rattle.amqp_session.specs.Places.{tabulate, live_in}
+use Rattle.amqp_session.specs.Sessions.{SessionState}
+use Rattle.amqp_endpoint.specs.declared.fault.CallFault.{CallFault}
+use Rattle.amqp_serve.specs.declared.serving.Policy.{Policy}
+use Rattle.amqp_endpoint.specs.Configs.{Configured}
+use Rattle.amqp_endpoint.specs.Connections.{slot_at}
+use Rattle.amqp_endpoint.specs.Endpoints.{accepted_by}
+use Rattle.amqp_endpoint.specs.Runs.{Answer, Fed, Accepted, Dropped, HandedUp, Refused, MovedOut, Holds, Ended, CallDone}
+use Rattle.amqp_endpoint.specs.Takings.{link_in}
+use Rattle.amqp_endpoint.specs.Traces.{moved_by}
+use Rattle.amqp_serve.specs.Serving.{Place, WindowOf, CreditOf, window_lack, credit_lack, lack, session_places, all_places_from, Stand, ToppingUp, all_places, Serves, Rests, TopsUp, Passes, Works}
+use Rattle.amqp_endpoint.specs.Steps.{EndpointState}
+use Rattle.amqp_serve.proofs.Servings.{works_one}
+
+-- a call for a session leaves the bytes that came
+pub call_keeps : (s t : EndpointState) (channel : ℕ) (c : session.Call) (answer : Answer) → CallDone s t channel c answer → IsUnchanged s.input t.input
+call_keeps s t channel c (Refused fault) d = d.1.input
+call_keeps s t channel c (Fed used told) d = d.1.input
+call_keeps s t channel c Accepted d = d.1.input
+call_keeps s t channel c (Dropped n) d = d.1.input
+call_keeps s t channel c (HandedUp h) d = d.1.input
+call_keeps s t channel c (MovedOut bytes) d = d.1.input
+call_keeps s t channel c (Holds n) d = d.1.input
+call_keeps s t channel c (Ended end) d = d.1.input
+
+-- such an answer moves nothing out
+pub accepted_silent : (r : Result (Unit {0}) CallFault) → moved_by (accepted_by r) ≡ []
+accepted_silent (Ok x) = refl
+accepted_silent (Err fault) = refl
+
+-- a place is given what it lacks
+pub window_topped : (p : Policy) (rest : List Place) (s t : EndpointState) (channel n : ℕ) (r : Result (Unit {0}) CallFault) (w k : Option (List ℕ))
+    → s.unsent ≡ [] → 0 < n → n ≡ window_lack s.connection.config.window (slot_at s.connection channel) → CallDone s t channel (Widen n) (accepted_by r)
+    → Works p (ToppingUp (WindowOf channel ∷ rest)) (ToppingUp rest) s t w w k k
+window_topped p rest s t channel n r w k none some is done =
+    let lacks : 0 < lack p s.connection (WindowOf channel) = subst (λ (m : ℕ). 0 < m) is some in
+    let does = subst (λ (m : ℕ). CallDone s t channel (Widen m) (accepted_by r)) is done in
+    works_one p _ _ s t w k k _ (TopsUp t (WindowOf channel) rest (accepted_by r) none lacks does Rests) refl (accepted_silent r) (Appends-nil k)
+    (call_keeps s t channel (Widen n) (accepted_by r) done)
+
+-- a link is granted what it lacks
+pub credit_topped : (p : Policy) (rest : List Place) (s t : EndpointState) (channel handle n : ℕ) (r : Result (Unit {0}) CallFault) (w k : Option (List ℕ))
+    → s.unsent ≡ [] → 0 < n → n ≡ credit_lack p.credit s.connection.config.bounds.allowed (link_in handle (slot_at s.connection channel)) → CallDone s t channel (Grant handle n) (accepted_by r)
+    → Works p (ToppingUp (CreditOf channel handle ∷ rest)) (ToppingUp rest) s t w w k k
+credit_topped p rest s t channel handle n r w k none some is done =
+    let lacks : 0 < lack p s.connection (CreditOf channel handle) = subst (λ (m : ℕ). 0 < m) is some in
+    let does = subst (λ (m : ℕ). CallDone s t channel (Grant handle m) (accepted_by r)) is done in
+    works_one p _ _ s t w k k _ (TopsUp t (CreditOf channel handle) rest (accepted_by r) none lacks does Rests) refl (accepted_silent r) (Appends-nil k)
+    (call_keeps s t channel (Grant handle n) (accepted_by r) done)
+
+-- steps that make no call
+pub works_silent : (p : Policy) (a b : Stand) (s : EndpointState) (w k : Option (List ℕ)) → Serves p a s [] b s → Works p a b s s w w k k
+works_silent p a b s w k serves = record {
+  served = record { steps = []; serves = serves; fed = refl; written = Appends-nil w; recorded = Appends-nil k };
+  input = record { limit = refl; stage = refl; filled = refl };
+}
+
+-- a place that lacks nothing
+pub place_passed : (p : Policy) (place : Place) (rest : List Place) (s : EndpointState) (w k : Option (List ℕ)) → lack p s.connection place ≡ 0
+    → Works p (ToppingUp (place ∷ rest)) (ToppingUp rest) s s w w k k
+place_passed p place rest s w k none = works_silent p _ _ s w k (Passes place rest none Rests)
+
+-- no session is live here
+abbrev pub IsNotLive : Slot SessionState → Type 0
+IsNotLive Free = Unit {0}
+IsNotLive (Live s) = ⊥
+IsNotLive Awaits = Unit {0}
+
+no_window : (window : ℕ) (x : Slot SessionState) → IsNotLive x → window_lack window x ≡ 0
+no_window window Free h = refl
+no_window window (Live s) h = absurd h
+no_window window Awaits h = refl
+
+no_credit : (credit allowed handle : ℕ) (x : Slot SessionState) → IsNotLive x → credit_lack credit allowed (link_in handle x) ≡ 0
+no_credit credit allowed handle Free h = refl
+no_credit credit allowed handle (Live s) h = absurd h
+no_credit credit allowed handle Awaits h = refl
+
+no_credits : (p : Policy) (rest : List Place) (s : EndpointState) (channel i n : ℕ) → IsNotLive (slot_at s.connection channel)
+    → Serves p (ToppingUp (tabulate i n (λ handle. CreditOf channel handle) ++ rest)) s [] (ToppingUp rest) s
+no_credits p rest s channel i zero h = Rests
+no_credits p rest s channel i (suc n) h =
+    Passes (CreditOf channel i) (tabulate (suc i) n (λ handle. CreditOf channel handle) ++ rest) (no_credit p.credit s.connection.config.bounds.allowed i (slot_at s.connection channel) h)
+    (no_credits p rest s channel (suc i) n h)
+
+-- so nothing is lacking there
+pub session_passed : (p : Policy) (rest : List Place) (s : EndpointState) (handles channel : ℕ) (w k : Option (List ℕ)) → IsNotLive (slot_at s.connection channel)
+    → Works p (ToppingUp (session_places handles channel ++ rest)) (ToppingUp rest) s s w w k k
+session_passed p rest s handles channel w k h =
+    works_silent p _ _ s w k (Passes (WindowOf channel) (tabulate 0 handles (λ handle. CreditOf channel handle) ++ rest)
+    (no_window s.connection.config.window (slot_at s.connection channel) h) (no_credits p rest s channel 0 handles h))
+
+-- the first of those that are left
+pub tabulate_step : {A : Type 0} (f : ℕ → A) (i n : ℕ) → i < n → tabulate i (n - i) f ≡ f i ∷ tabulate (i + 1) (n - (i + 1)) f
+tabulate_step f i n l =
+    let left : n - i ≡ suc (n - (i + 1)) = omega arith in
+    ap (λ (m : ℕ). tabulate i m f) left ∙ ap (λ (j : ℕ). f i ∷ tabulate j (n - (i + 1)) f) (sym (add-one i))
+
+-- where none is left
+pub tabulate_none : {A : Type 0} (f : ℕ → A) (i n : ℕ) → n ≤ i → tabulate i (n - i) f ≡ []
+tabulate_none f i n l = let none : n - i ≡ 0 = omega arith in ap (λ (m : ℕ). tabulate i m f) none
+
+-- the places of the first channel that is left, and of the others
+pub places_step : (handles i n : ℕ) → i < n → all_places_from handles i (n - i) ≡ session_places handles i ++ all_places_from handles (i + 1) (n - (i + 1))
+unfolding all_places_from
+places_step handles i n l = ap (λ (ks : List ℕ). flat_map (λ k. session_places handles k) ks) (tabulate_step (λ (k : ℕ). k) i n l)
+
+-- where no channel is left
+pub places_none : (handles i n : ℕ) → n ≤ i → all_places_from handles i (n - i) ≡ []
+unfolding all_places_from
+places_none handles i n l = ap (λ (ks : List ℕ). flat_map (λ k. session_places handles k) ks) (tabulate_none (λ (k : ℕ). k) i n l)
+
+-- all of them are left at first
+pub tabulate_all : {A : Type 0} (f : ℕ → A) (n : ℕ) → tabulate 0 n f ≡ tabulate 0 (n - 0) f
+tabulate_all f n = let all : n ≡ n - 0 = omega arith in ap (λ (m : ℕ). tabulate 0 m f) all
+
+-- all places, where the highest handle and channel are these
+pub all_from : (config : Configured) (h n : ℕ) → h ≡ config.handle_max → n ≡ config.channel_max → all_places config ≡ all_places_from (h + 1) 0 (n + 1 - 0)
+unfolding all_places
+all_from config h n handles channels =
+    let hs : suc config.handle_max ≡ h + 1 = omega arith in
+    let cs : suc config.channel_max ≡ n + 1 - 0 = omega arith in
+    ap (λ (i : ℕ). all_places_from i 0 (suc config.channel_max)) hs ∙ ap (λ (i : ℕ). all_places_from (h + 1) 0 i) cs
+
+-- where no window is shown no session is live
+pub none_live : (f : SessionState → ℕ) (x : Slot SessionState) (shown : Option ℕ) → shown ≡ option_map f (live_in x) → is_some shown ≡ false → IsNotLive x
+none_live f Free shown is none = tt
+none_live f (Live s) shown is none = absurd (true≢false (sym (ap (λ (o : Option ℕ). is_some o) is) ∙ none))
+none_live f Awaits shown is none = tt

@@ -1,0 +1,330 @@
+-- Serving that goes on, or breaks off.
+use Rattle.std.proofs.Common.{◌≡◌, ℕ, ◌≤◌, arith, List, [], ◌∷◌, ◌++◌, Option, length, ◌-◌, take, drop, refl, sym, ap, subst, ◌∙◌, append_assoc, append-nil, length-drop, length-append, ◌+◌, map}
+use Rattle.std.proofs.Common.{Result, Ok, Err, OnOk, OnErr, IfErr}
+use Rattle.std.proofs.KnownBytes.{Appends-nil, Appends-trans, Appends-kept}
+use Rattle.std.proofs.lemmas.Grind.{flat_map-append}
+use Rattle.std.proofs.lemmas.List.{length-take-le, take-append-le, take_all, take-append-drop}
+use Rattle.std.proofs.Math.Seq.{take-length, take-add, take-append_seam}
+use Rattle.std.specs.Io.KnownBytes.{Keeps, Appends}
+use Rattle.amqp_frame.specs.Splits.{SplitterState, IsUnchanged}
+use Rattle.amqp_serve.specs.declared.serving.Policy.{Policy}
+use Rattle.amqp_serve.specs.declared.serving.ServeFault.{ServeFault}
+use Rattle.amqp_serve.specs.declared.serving.ServeFault.TheVariants as fault
+use Rattle.amqp_endpoint.specs.Runs.{Output, MovedOut, Does, Run}
+use Rattle.amqp_serve.specs.Serving.{Stand, Starved, Step, Serves, Rests, MovesOut, Feeds, Takes, Settles, TopsUp, Passes, Finishes, Place, WindowOf, CreditOf, lack, top_up_by, recorded_by, fed}
+use Rattle.amqp_serve.specs.Serving.{moved, recorded, Served, IsLeft, BrokeOff, Works, IsPart}
+use Rattle.amqp_endpoint.specs.Steps.{EndpointState}
+use Rattle.amqp_endpoint.specs.Traces.{IsInRange, AreInRange, moved_by, taken_by}
+
+-- one list of steps behind another
+pub serves_on : {p : Policy} {a b c : Stand} {s t u : EndpointState} {xs ys : List Step} → Serves p a s xs b t → Serves p b t ys c u → Serves p a s (xs ++ ys) c u
+serves_on Rests y = y
+serves_on (MovesOut next room bytes does x) y = MovesOut next room bytes does (serves_on x y)
+serves_on (Feeds next piece used told none bytes does x) y = Feeds next piece used told none bytes does (serves_on x y)
+serves_on (Takes next channel handle answer does x) y = Takes next channel handle answer does (serves_on x y)
+serves_on (Settles next channel id answer none small does x) y = Settles next channel id answer none small does (serves_on x y)
+serves_on (TopsUp next place places answer none lacks does x) y = TopsUp next place places answer none lacks does (serves_on x y)
+serves_on (Passes place places lacks x) y = Passes place places lacks (serves_on x y)
+serves_on (Finishes next end none does x) y = Finishes next end none does (serves_on x y)
+
+-- what is served is a run
+pub run_of : {p : Policy} {a b : Stand} {s t : EndpointState} {xs : List Step} → Serves p a s xs b t → Run s (map (λ x. x.call) xs) (map (λ x. x.answer) xs) t
+run_of Rests = refl
+run_of (MovesOut next room bytes does x) = (next, does, run_of x)
+run_of (Feeds next piece used told none bytes does x) = (next, does, run_of x)
+run_of (Takes next channel handle answer does x) = (next, does, run_of x)
+run_of (Settles next channel id answer none small does x) = (next, does, run_of x)
+run_of (TopsUp next place places answer none lacks does x) = (next, does, run_of x)
+run_of (Passes place places lacks x) = run_of x
+run_of (Finishes next end none does x) = (next, does, run_of x)
+
+top_up_ranges : (place : Place) (n : ℕ) → IsInRange (top_up_by place n)
+top_up_ranges (WindowOf channel) n = tt
+top_up_ranges (CreditOf channel handle) n = tt
+
+-- and its calls are in range
+pub ranges_of : {p : Policy} {a b : Stand} {s t : EndpointState} {xs : List Step} → Serves p a s xs b t → AreInRange (map (λ x. x.call) xs)
+ranges_of Rests = tt
+ranges_of (MovesOut next room bytes does x) = (tt, ranges_of x)
+ranges_of (Feeds next piece used told none bytes does x) = (bytes, ranges_of x)
+ranges_of (Takes next channel handle answer does x) = (tt, ranges_of x)
+ranges_of (Settles next channel id answer none small does x) = (small, ranges_of x)
+ranges_of {p} (TopsUp {s} next place places answer none lacks does x) = (top_up_ranges place (lack p s.connection place), ranges_of x)
+ranges_of (Passes place places lacks x) = ranges_of x
+ranges_of (Finishes next end none does x) = (tt, ranges_of x)
+
+fed_on : (xs ys : List Step) → fed (xs ++ ys) ≡ fed xs ++ fed ys
+fed_on xs ys = flat_map-append (λ x. taken_by x.call x.answer) xs ys
+
+moved_on : (xs ys : List Step) → moved (xs ++ ys) ≡ moved xs ++ moved ys
+moved_on xs ys = flat_map-append (λ x. moved_by x.answer) xs ys
+
+recorded_on : (xs ys : List Step) → recorded (xs ++ ys) ≡ recorded xs ++ recorded ys
+recorded_on xs ys = flat_map-append (λ x. recorded_by x.call x.answer) xs ys
+
+-- what is left behind more steps, whose output was written
+left_on : (e : ServeFault) (stand : Stand) (xs ys : List Step) (unfed written unwritten unnoted : List ℕ) → IsLeft e stand ys unfed written unwritten unnoted
+    → IsLeft e stand (xs ++ ys) unfed (moved xs ++ written) unwritten unnoted
+left_on fault.Read stand xs ys unfed written unwritten unnoted x = x
+left_on fault.Write stand xs ys unfed written unwritten unnoted x = (
+  record {
+    before = xs ++ x.0.before;
+    outputs = x.0.outputs;
+    split = ap (λ (l : List Step). xs ++ l) x.0.split ∙ sym (append_assoc xs x.0.before x.0.outputs);
+    each = x.0.each;
+    more = x.0.more;
+    all = ap (λ (l : List ℕ). moved xs ++ l) x.0.all ∙ sym (append_assoc (moved xs) (moved x.0.before) x.0.more) ∙ ap (λ (l : List ℕ). l ++ x.0.more) (sym (moved_on xs x.0.before));
+  },
+  x.1,
+)
+left_on fault.Sink stand xs ys unfed written unwritten unnoted x = x
+left_on fault.NoMemory stand xs ys unfed written unwritten unnoted x = x
+
+module _ {p : Policy} {a b : Stand} {bytes : List ℕ} {s t u : EndpointState} {w w1 w2 k k1 k2 : Option (List ℕ)} where
+  -- serving goes on
+  pub served_on : {c : Stand} {more : List ℕ} → Served p a b bytes s t w w1 k k1 → Served p b c more t u w1 w2 k1 k2 → Served p a c (bytes ++ more) s u w w2 k k2
+  served_on x y = record {
+    steps = x.steps ++ y.steps;
+    serves = serves_on x.serves y.serves;
+    fed = fed_on x.steps y.steps ∙ ap (λ (l : List ℕ). l ++ fed y.steps) x.fed ∙ ap (λ (l : List ℕ). bytes ++ l) y.fed;
+    written = subst (λ (l : List ℕ). Appends w w2 l) (sym (moved_on x.steps y.steps)) (Appends-trans w w1 w2 (moved x.steps) (moved y.steps) x.written y.written);
+    recorded = subst (λ (l : List ℕ). Appends k k2 l) (sym (recorded_on x.steps y.steps)) (Appends-trans k k1 k2 (recorded x.steps) (recorded y.steps) x.recorded y.recorded);
+  }
+
+  -- and breaks off
+  pub broke_on : {e : ServeFault} {more : List ℕ} → Served p a b bytes s t w w1 k k1 → BrokeOff p e b more t u w1 w2 k1 k2 → BrokeOff p e a (bytes ++ more) s u w w2 k k2
+  broke_on {e} x y = record {
+    stand = y.stand;
+    steps = x.steps ++ y.steps;
+    serves = serves_on x.serves y.serves;
+    unfed = y.unfed;
+    written = moved x.steps ++ y.written;
+    unwritten = y.unwritten;
+    noted = recorded x.steps ++ y.noted;
+    unnoted = y.unnoted;
+    feeds = ap (λ (l : List ℕ). bytes ++ l) y.feeds ∙ sym (append_assoc bytes (fed y.steps) y.unfed)
+        ∙ ap (λ (l : List ℕ). (l ++ fed y.steps) ++ y.unfed) (sym x.fed) ∙ ap (λ (l : List ℕ). l ++ y.unfed) (sym (fed_on x.steps y.steps));
+    moves = moved_on x.steps y.steps ∙ ap (λ (l : List ℕ). moved x.steps ++ l) y.moves ∙ sym (append_assoc (moved x.steps) y.written y.unwritten);
+    records = recorded_on x.steps y.steps ∙ ap (λ (l : List ℕ). recorded x.steps ++ l) y.records ∙ sym (append_assoc (recorded x.steps) y.noted y.unnoted);
+    writer = Appends-trans w w1 w2 (moved x.steps) y.written x.written y.writer;
+    sink = Appends-trans k k1 k2 (recorded x.steps) y.noted x.recorded y.sink;
+    left = left_on e y.stand x.steps y.steps y.unfed y.written y.unwritten y.unnoted y.left;
+  }
+
+-- what is left where the reader did not fail does not depend on how much is unfed
+left_before : (e : ServeFault) (stand : Stand) (steps : List Step) (unfed more written unwritten unnoted : List ℕ) → (e ≡ fault.Read → ⊥) → IsLeft e stand steps unfed written unwritten unnoted
+    → IsLeft e stand steps more written unwritten unnoted
+left_before fault.Read stand steps unfed more written unwritten unnoted other x = absurd (other refl)
+left_before fault.Write stand steps unfed more written unwritten unnoted other x = x
+left_before fault.Sink stand steps unfed more written unwritten unnoted other x = x
+left_before fault.NoMemory stand steps unfed more written unwritten unnoted other x = x
+
+-- of a longer piece the same beginning was fed
+pub broke_before : {p : Policy} {e : ServeFault} {a : Stand} {s t : EndpointState} {w w1 k k1 : Option (List ℕ)} (bytes more whole : List ℕ) → whole ≡ bytes ++ more
+    → (e ≡ fault.Read → ⊥) → BrokeOff p e a bytes s t w w1 k k1 → BrokeOff p e a whole s t w w1 k k1
+broke_before {e} bytes more whole is other x = record {
+  stand = x.stand;
+  steps = x.steps;
+  serves = x.serves;
+  unfed = x.unfed ++ more;
+  written = x.written;
+  unwritten = x.unwritten;
+  noted = x.noted;
+  unnoted = x.unnoted;
+  feeds = is ∙ ap (λ (l : List ℕ). l ++ more) x.feeds ∙ append_assoc (fed x.steps) x.unfed more;
+  moves = x.moves;
+  records = x.records;
+  writer = x.writer;
+  sink = x.sink;
+  left = left_before e x.stand x.steps x.unfed (x.unfed ++ more) x.written x.unwritten x.unnoted other x.left;
+}
+
+-- A splitter that is unchanged twice is unchanged.
+pub unchanged_on : {a b c : SplitterState} → IsUnchanged a b → IsUnchanged b c → IsUnchanged a c
+unchanged_on x y = record { limit = y.limit ∙ x.limit; stage = y.stage ∙ x.stage; filled = y.filled ∙ x.filled }
+
+module _ {p : Policy} {a b : Stand} {s t u : EndpointState} {w w1 w2 k k1 k2 : Option (List ℕ)} where
+  -- the same with no piece fed
+  pub works_on : {c : Stand} → Works p a b s t w w1 k k1 → Works p b c t u w1 w2 k1 k2 → Works p a c s u w w2 k k2
+  works_on x y = record { served = served_on x.served y.served; input = unchanged_on x.input y.input }
+
+  -- and it breaks off
+  pub works_broke : {e : ServeFault} → Works p a b s t w w1 k k1 → BrokeOff p e b [] t u w1 w2 k1 k2 → BrokeOff p e a [] s u w w2 k k2
+  works_broke x y = broke_on x.served y
+
+-- nothing is done
+pub works_none : (p : Policy) (a : Stand) (s : EndpointState) (w k : Option (List ℕ)) → Works p a a s s w w k k
+works_none p a s w k = record {
+  served = record { steps = []; serves = Rests; fed = refl; written = Appends-nil w; recorded = Appends-nil k };
+  input = record { limit = refl; stage = refl; filled = refl };
+}
+
+-- a flush of the writer does nothing
+pub works_flushed : (p : Policy) (a b : Stand) (s t : EndpointState) (w w1 w2 k k1 : Option (List ℕ)) → Works p a b s t w w1 k k1 → Keeps w1 w2 → Works p a b s t w w2 k k1
+works_flushed p a b s t w w1 w2 k k1 x kept = record {
+  served = record { steps = x.served.steps; serves = x.served.serves; fed = x.served.fed; written = Appends-kept w w1 w2 (moved x.served.steps) x.served.written kept; recorded = x.served.recorded };
+  input = x.input;
+}
+
+-- and where it fails serving breaks off with all written
+pub flush_broke : (p : Policy) (a b : Stand) (s t : EndpointState) (w w1 w2 k k1 : Option (List ℕ)) → Works p a b s t w w1 k k1 → Keeps w1 w2 → BrokeOff p fault.Write a [] s t w w2 k k1
+flush_broke p a b s t w w1 w2 k k1 x kept = record {
+  stand = b;
+  steps = x.served.steps;
+  serves = x.served.serves;
+  unfed = [];
+  written = moved x.served.steps;
+  unwritten = [];
+  noted = recorded x.served.steps;
+  unnoted = [];
+  feeds = sym (append-nil (fed x.served.steps) ∙ x.served.fed);
+  moves = sym (append-nil (moved x.served.steps));
+  records = sym (append-nil (recorded x.served.steps));
+  writer = Appends-kept w w1 w2 (moved x.served.steps) x.served.written kept;
+  sink = x.served.recorded;
+  left = (
+    record {
+      before = x.served.steps;
+      outputs = [];
+      split = sym (append-nil x.served.steps);
+      each = refl;
+      more = [];
+      all = sym (append-nil (moved x.served.steps));
+    },
+    refl,
+  );
+}
+
+-- one call that feeds nothing and moves nothing out
+pub works_one : (p : Policy) (a b : Stand) (s t : EndpointState) (w k k1 : Option (List ℕ)) (x : Step) → Serves p a s (x ∷ []) b t → taken_by x.call x.answer ≡ [] → moved_by
+    x.answer ≡ [] → Appends k k1 (recorded_by x.call x.answer) → IsUnchanged s.input t.input
+    → Works p a b s t w w k k1
+works_one p a b s t w k k1 x serves none silent noted input = record {
+  served = record {
+    steps = x ∷ [];
+    serves = serves;
+    fed = append-nil (taken_by x.call x.answer) ∙ none;
+    written = subst (λ (l : List ℕ). Appends w w l) (sym (append-nil (moved_by x.answer) ∙ silent)) (Appends-nil w);
+    recorded = subst (λ (l : List ℕ). Appends k k1 l) (sym (append-nil (recorded_by x.call x.answer))) noted;
+  };
+  input = input;
+}
+
+-- So many bytes were moved out.
+moved_out : (s t : EndpointState) (n : ℕ) → t ≡ record s { unsent = drop n s.unsent } → Does s t (Output n) (MovedOut (take n s.unsent))
+moved_out s t n is = record {
+  input = record { limit = ap (λ (x : EndpointState). x.input.limit) is; stage = ap (λ (x : EndpointState). x.input.stage) is; filled = ap (λ (x : EndpointState). x.input.filled) is };
+  moved = refl;
+  unsent = ap (λ (x : EndpointState). x.unsent) is;
+  connection = ap (λ (x : EndpointState). x.connection) is;
+}
+
+-- and written
+pub works_moved : (p : Policy) (a : Stand) (s t : EndpointState) (n : ℕ) (w w1 k : Option (List ℕ)) → t ≡ record s { unsent = drop n s.unsent } → Appends w w1 (take n s.unsent) → Works
+    p a a s t w w1 k k
+works_moved p a s t n w w1 k is written = record {
+  served = record {
+    steps = record { call = Output n; answer = MovedOut (take n s.unsent) } ∷ [];
+    serves = MovesOut t n (take n s.unsent) (moved_out s t n is) Rests;
+    fed = refl;
+    written = subst (λ (l : List ℕ). Appends w w1 l) (sym (append-nil (take n s.unsent))) written;
+    recorded = Appends-nil k;
+  };
+  input = (moved_out s t n is).input;
+}
+
+-- or a beginning of them
+pub moved_broke : (p : Policy) (a : Stand) (s t : EndpointState) (n : ℕ) (w w1 k : Option (List ℕ)) → t ≡ record s { unsent = drop n s.unsent } → IsPart w w1 (take n s.unsent)
+    → BrokeOff p fault.Write a [] s t w w1 k k
+moved_broke p a s t n w w1 k is part = record {
+  stand = a;
+  steps = record { call = Output n; answer = MovedOut (take n s.unsent) } ∷ [];
+  serves = MovesOut t n (take n s.unsent) (moved_out s t n is) Rests;
+  unfed = [];
+  written = part.front;
+  unwritten = part.behind;
+  noted = [];
+  unnoted = [];
+  feeds = refl;
+  moves = append-nil (take n s.unsent) ∙ part.is;
+  records = refl;
+  writer = part.written;
+  sink = Appends-nil k;
+  left = (record { before = []; outputs = record { call = Output n; answer = MovedOut (take n s.unsent) } ∷ []; split = refl; each = refl; more = part.front; all = refl }, refl);
+}
+
+-- what holds where there is a fault holds at a fault
+pub on_err : {X E : Type 0} (r : Result X E) (F : Type 0) → F → OnErr r F
+on_err (Ok x) F f = tt
+on_err (Err e) F f = f
+
+-- nothing was moved out
+pub moved_none : (s t : EndpointState) (n : ℕ) → t ≡ record s { unsent = drop n s.unsent } → n ≡ 0 → t ≡ s
+moved_none s t n is none = is ∙ ap (λ (i : ℕ). let r : EndpointState = record s { unsent = drop i s.unsent } in r) none
+
+-- what was read out of the front of a list, and put at the front of another
+pub front_is : (n : ℕ) (from old new : List ℕ) → new ≡ take n from ++ drop n old → n ≤ length from → take n new ≡ take n from
+front_is n from old new is within =
+    let long : length (take n from) ≡ n = length-take-le n from within in
+    ap (λ (l : List ℕ). take n l) is ∙ take-append-le n (take n from) (drop n old) (omega (arith, long)) ∙ take_all n (take n from) (omega (arith, long))
+
+-- A part of some bytes is one of longer ones.
+pub part_more : (k k1 : Option (List ℕ)) (bytes more : List ℕ) → IsPart k k1 bytes → IsPart k k1 (bytes ++ more)
+part_more k k1 bytes more x = record { front = x.front; behind = x.behind ++ more; written = x.written; is = ap (λ (l : List ℕ). l ++ more) x.is ∙ append_assoc x.front x.behind more }
+
+-- the bytes up to a place, and a piece from there on
+pub longer_take : (message : List ℕ) (at : ℕ) (piece : List ℕ) → (behind : List ℕ) × (drop at message ≡ piece ++ behind) → take at message ++ piece ≡ take (at + length piece) message
+longer_take message at piece h =
+    ap (λ (l : List ℕ). take at message ++ l) (sym (take-append_seam piece h.0) ∙ ap (λ (l : List ℕ). take (length piece) l) (sym h.1)) ∙ sym (take-add at (length piece) message)
+
+-- the front of the first piece is the front of the bytes
+pub front_of_first : (message piece : List ℕ) (n : ℕ) → n ≤ length piece → (behind : List ℕ) × (drop 0 message ≡ piece ++ behind) → take n piece ≡ take n message
+front_of_first message piece n few h = sym (ap (take n) h.1 ∙ take-append-le n piece h.0 few)
+
+-- a piece from a place on ends within the bytes
+pub longer_by : (message : List ℕ) (at : ℕ) (piece : List ℕ) → at ≤ length message → (behind : List ℕ) × (drop at message ≡ piece ++ behind) → at + length piece ≤ length message
+longer_by message at piece within h = omega (arith, length-drop at message, ap (λ (l : List ℕ). length l) h.1, length-append piece h.0)
+
+-- a part of the piece behind what was written before is a part of the whole
+pub part_on : (k k1 k2 : Option (List ℕ)) (head message : List ℕ) (at : ℕ) (piece : List ℕ) → Appends k k1 (head ++ take at message) → (behind : List ℕ) × (drop at message ≡ piece ++ behind)
+    → IsPart k1 k2 piece → IsPart k k2 (head ++ message)
+part_on k k1 k2 head message at piece before h x = record {
+  front = (head ++ take at message) ++ x.front;
+  behind = x.behind ++ h.0;
+  written = Appends-trans k k1 k2 (head ++ take at message) x.front before x.written;
+  is = ap (λ (l : List ℕ). head ++ l) (sym (take-append-drop at message) ∙ ap (λ (l : List ℕ). take at message ++ l) (h.1 ∙ ap (λ (l : List ℕ). l ++ h.0) x.is ∙ append_assoc x.front x.behind h.0))
+      ∙ sym (append_assoc head (take at message) (x.front ++ (x.behind ++ h.0))) ∙ sym (append_assoc (head ++ take at message) x.front (x.behind ++ h.0));
+}
+
+-- what holds of an error holds where there is that error
+pub if_err : {X E : Type 0} (r : Result X E) (F : E → Type 0) (e : E) → r ≡ Err e → F e → IfErr r F
+if_err r F e is f = subst (λ (x : Result _ _). IfErr x F) (sym is) f
+
+-- what follows from what holds where there is no fault
+pub on_ok : {X E : Type 0} (r : Result X E) (F G : Type 0) → (F → G) → OnOk r F → OnOk r G
+on_ok (Ok x) F G f h = f h
+on_ok (Err e) F G f h = tt
+
+-- what holds of the one fault that there can be
+pub only_err : {X E : Type 0} (r : Result X E) (F : E → Type 0) (e : E) (G : Type 0) → OnErr r (r ≡ Err e) → (G → F e) → OnErr r G → IfErr r F
+only_err (Ok x) F e G is f h = tt
+only_err (Err d) F e G is f h = let same : e ≡ d = cc in subst F same (f h)
+
+-- memory was refused, and the writer flushed
+pub starved_at : (p : Policy) (s : EndpointState) (w w1 k : Option (List ℕ)) → Keeps w w1 → BrokeOff p fault.NoMemory Starved [] s s w w1 k k
+starved_at p s w w1 k kept = record {
+  stand = Starved;
+  steps = [];
+  serves = Rests;
+  unfed = [];
+  written = [];
+  unwritten = [];
+  noted = [];
+  unnoted = [];
+  feeds = refl;
+  moves = refl;
+  records = refl;
+  writer = Appends-kept w w w1 [] (Appends-nil w) kept;
+  sink = Appends-nil k;
+  left = (refl, refl, refl);
+}

@@ -1,0 +1,251 @@
+-- How an endpoint is served over a reader, a writer and a sink: which call follows which, and what is written and recorded (AMQP 1.0, part 2, sections 2.5.6, 2.6.7, 2.6.12 and 2.6.14).
+use Rattle.std.specs.Prelude.{◌≡◌, ℕ, suc, ◌-◌, ◌*◌, ◌^◌, ◌<◌, ◌⊎◌, Bool, true, false, not, min, nat_le, if◌then◌else◌, List, [], ◌∷◌, ◌++◌, length, map, Option, IsTrue}
+use Rattle.std.specs.Int.{w16, w32, to_be_bytes}
+use Rattle.std.specs.Io.KnownBytes.{Appends}
+use Rattle.std.specs.List.{flat_map, list_any}
+use Rattle.amqp_frame.specs.Splits.{Waits, IsUnchanged}
+use Rattle.amqp_frame.specs.Units.{StreamUnit}
+use Rattle.amqp_link.specs.Links.{open_count}
+use Rattle.amqp_session.specs.declared.slot.Slot.{Slot}
+use Rattle.amqp_session.specs.declared.slot.Slot.TheVariants.{Free, Live, Waits as Awaits}
+use Rattle.amqp_session.specs.Calls.{Widen, Grant, Take, Settle}
+use Rattle.amqp_session.specs.Places.{tabulate}
+use Rattle.amqp_session.specs.Sessions.{LiveLink, SessionState}
+use Rattle.amqp_endpoint.specs.declared.event.End.{End}
+use Rattle.amqp_endpoint.specs.declared.event.Event.TheVariants as event
+use Rattle.amqp_endpoint.specs.declared.event.Outcome.{Outcome}
+use Rattle.amqp_endpoint.specs.declared.event.Outcome.TheVariants as outcome
+use Rattle.amqp_serve.specs.declared.serving.Policy.{Policy}
+use Rattle.amqp_serve.specs.declared.serving.ServeFault.{ServeFault}
+use Rattle.amqp_serve.specs.declared.serving.ServeFault.TheVariants as fault
+use Rattle.amqp_endpoint.specs.Configs.{Configured}
+use Rattle.amqp_endpoint.specs.Connections.{ConnectionState, channels, slot_at, is_dead}
+use Rattle.amqp_endpoint.specs.Lines.{line_of, may_grow_on}
+use Rattle.amqp_endpoint.specs.Runs.{Call, Feed, InSession, Output, Finish, Answer, Fed, Handed, HandedUp, MovedOut, Ended, Does, Run}
+use Rattle.amqp_endpoint.specs.Steps.{EndpointState}
+use Rattle.amqp_endpoint.specs.Takings.{link_in}
+use Rattle.amqp_endpoint.specs.Traces.{IsInRange, AreInRange, taken_by, moved_by}
+
+-- What is lacking. ----------------------------------------------------------------------------------------------------
+
+-- what is topped up
+pub data Place : Type 0 where
+  WindowOf : ℕ → Place  -- the incoming window of the session on this channel [2.5.6]
+  CreditOf : ℕ → ℕ → Place  -- the credit of the link on this channel with this handle [2.6.7]
+
+-- Where at most half of the places that a session began with are left, it lacks the others.
+abbrev pub window_lack : ℕ → Slot SessionState → ℕ
+window_lack window Free = 0
+window_lack window (Live s) = if nat_le (2 * s.window) window then window - s.window else 0
+window_lack window Awaits = 0
+
+-- A link lacks what its credit is short of the policy's, within what it is allowed beside its credit and its open deliveries.
+abbrev pub credit_lack : ℕ → ℕ → Slot LiveLink → ℕ
+credit_lack credit allowed Free = 0
+credit_lack credit allowed (Live l) = min (credit - l.link.credit) (allowed - l.link.credit - open_count l.link)
+credit_lack credit allowed Awaits = 0
+
+abbrev pub lack : Policy → ConnectionState → Place → ℕ
+lack p s (WindowOf channel) = window_lack s.config.window (slot_at s channel)
+lack p s (CreditOf channel handle) = credit_lack p.credit s.config.bounds.allowed (link_in handle (slot_at s channel))
+
+-- the call that gives a place so much
+abbrev pub top_up_by : Place → ℕ → Call
+top_up_by (WindowOf channel) n = InSession channel (Widen n)
+top_up_by (CreditOf channel handle) n = InSession channel (Grant handle n)
+
+-- the places of a session: its window, and the credit of its links by rising handle
+abbrev pub session_places : ℕ → ℕ → List Place
+session_places handles channel = WindowOf channel ∷ tabulate 0 handles (λ handle. CreditOf channel handle)
+
+-- of so many channels from this one on, by rising channel
+unfoldable pub all_places_from : ℕ → ℕ → ℕ → List Place
+all_places_from handles channel count = flat_map (λ k. session_places handles k) (tabulate channel count (λ k. k))
+
+unfoldable pub all_places : Configured → List Place
+all_places config = all_places_from (suc config.handle_max) 0 (channels config)
+
+-- Where the server stands. --------------------------------------------------------------------------------------------
+
+pub data Stand : Type 0 where
+  ToppingUp : List Place → Stand  -- these places are yet to be topped up; where none is, the next piece is fed
+  Receiving : ℕ → ℕ → Stand  -- a message is ready on this channel, on the link with this handle
+  Settling : ℕ → ℕ → Stand  -- the delivery on this channel with this id was handed up, and its sender has not settled it
+  Starved : Stand  -- memory was refused
+  Over : Stand  -- the input has ended
+
+abbrev pub reading : Stand
+reading = ToppingUp []
+
+-- where it stands once a feed told this
+abbrev pub stand_told : Configured → Outcome → Stand
+stand_told config (outcome.Event (event.Ready channel handle)) = Receiving channel handle
+stand_told config outcome.NoMemory = Starved
+stand_told config _ = ToppingUp (all_places config)
+
+abbrev pub stand_handed : Configured → ℕ → Handed → Stand
+stand_handed config channel d = if d.settled then ToppingUp (all_places config) else Settling channel d.delivery_id
+
+-- once a take had this answer
+abbrev pub stand_taken : Configured → ℕ → Answer → Stand
+stand_taken config channel (HandedUp d) = stand_handed config channel d
+stand_taken config channel _ = ToppingUp (all_places config)  -- refused
+
+-- Which call follows which. -------------------------------------------------------------------------------------------
+
+-- one call with its answer
+pub record Step : Type 0 where
+  pub call : Call
+  pub answer : Answer
+
+-- These calls with their answers lead the server from where it stands, with the endpoint in this state, to where it stands then, and the endpoint to that state.
+pub data Serves : Policy → Stand → EndpointState → List Step → Stand → EndpointState → Type 0 where
+  Rests : {p : Policy} {a : Stand} {s : EndpointState} → Serves p a s [] a s
+  -- at any time some of what waits to be sent is moved out
+  MovesOut : {p : Policy} {a b : Stand} {s last : EndpointState} {steps : List Step} (next : EndpointState) (room : ℕ) (bytes : List ℕ)
+      → Does s next (Output room) (MovedOut bytes) → Serves p a next steps b last
+      → Serves p a s (record { call = Output room; answer = MovedOut bytes } ∷ steps) b last
+  -- nothing waits, and a piece of bytes is fed
+  Feeds : {p : Policy} {b : Stand} {s last : EndpointState} {steps : List Step} (next : EndpointState) (piece : List ℕ) (used : ℕ) (told : Outcome)
+      → s.unsent ≡ [] → IsInRange (Feed piece) → Does s next (Feed piece) (Fed used told) → Serves p (stand_told next.connection.config told) next steps b last
+      → Serves p reading s (record { call = Feed piece; answer = Fed used told } ∷ steps) b last
+  -- the message that is ready is taken
+  Takes : {p : Policy} {b : Stand} {s last : EndpointState} {steps : List Step} (next : EndpointState) (channel handle : ℕ) (answer : Answer)
+      → Does s next (InSession channel (Take handle)) answer → Serves p (stand_taken next.connection.config channel answer) next steps b last
+      → Serves p (Receiving channel handle) s (record { call = InSession channel (Take handle); answer = answer } ∷ steps) b last
+  -- nothing waits, and it is settled
+  Settles : {p : Policy} {b : Stand} {s last : EndpointState} {steps : List Step} (next : EndpointState) (channel id : ℕ) (answer : Answer)
+      → s.unsent ≡ [] → id < 2 ^ 32 → Does s next (InSession channel (Settle id p.outcome)) answer → Serves p (ToppingUp (all_places next.connection.config)) next steps b last
+      → Serves p (Settling channel id) s (record { call = InSession channel (Settle id p.outcome); answer = answer } ∷ steps) b last
+  -- the first place lacks something, nothing waits, and the place is given what it lacks
+  TopsUp : {p : Policy} {b : Stand} {s last : EndpointState} {steps : List Step} (next : EndpointState) (place : Place) (places : List Place) (answer : Answer)
+      → s.unsent ≡ [] → 0 < lack p s.connection place → Does s next (top_up_by place (lack p s.connection place)) answer → Serves p (ToppingUp places) next steps b last
+      → Serves p (ToppingUp (place ∷ places)) s (record { call = top_up_by place (lack p s.connection place); answer = answer } ∷ steps) b last
+  -- it lacks nothing
+  Passes : {p : Policy} {b : Stand} {s last : EndpointState} {steps : List Step} (place : Place) (places : List Place)
+      → lack p s.connection place ≡ 0 → Serves p (ToppingUp places) s steps b last
+      → Serves p (ToppingUp (place ∷ places)) s steps b last
+  -- nothing waits, and the input ends
+  Finishes : {p : Policy} {b : Stand} {s last : EndpointState} {steps : List Step} (next : EndpointState) (end : End)
+      → s.unsent ≡ [] → Does s next Finish (Ended end) → Serves p Over next steps b last
+      → Serves p reading s (record { call = Finish; answer = Ended end } ∷ steps) b last
+
+-- What is read, written and recorded. ---------------------------------------------------------------------------------
+
+-- The record of a message: its channel in 2 bytes, its handle, delivery-id, message-format and length in 4 bytes each, the highest byte first, and the message.
+-- Of a length that 4 bytes do not hold it says the largest that they do.
+unfoldable pub record_head : ℕ → ℕ → Handed → List ℕ
+record_head channel handle d =
+    to_be_bytes w16 channel ++ to_be_bytes w32 handle ++ to_be_bytes w32 d.delivery_id ++ to_be_bytes w32 d.message_format ++ to_be_bytes w32 (min (length d.message) (2 ^ 32 - 1))
+
+abbrev pub record_of : ℕ → ℕ → Handed → List ℕ
+record_of channel handle d = record_head channel handle d ++ d.message
+
+abbrev pub recorded_by : Call → Answer → List ℕ
+recorded_by (InSession channel (Take handle)) (HandedUp d) = record_of channel handle d
+recorded_by _ _ = []
+
+abbrev pub fed : List Step → List ℕ
+fed steps = flat_map (λ x. taken_by x.call x.answer) steps
+
+abbrev pub moved : List Step → List ℕ
+moved steps = flat_map (λ x. moved_by x.answer) steps
+
+abbrev pub recorded : List Step → List ℕ
+recorded steps = flat_map (λ x. recorded_by x.call x.answer) steps
+
+-- a beginning of the bytes was put behind what was held
+pub record IsPart (held now : Option (List ℕ)) (bytes : List ℕ) : Type 0 where
+  pub front : List ℕ
+  pub behind : List ℕ
+  pub written : Appends held now front
+  pub is : bytes ≡ front ++ behind
+
+-- From one stand to another these bytes were fed; what was moved out stands behind what the writer held, and the records behind what the sink held.
+pub record Served (p : Policy) (a b : Stand) (bytes : List ℕ) (old new : EndpointState) (held now kept keeps : Option (List ℕ)) : Type 0 where
+  pub steps : List Step
+  pub serves : Serves p a old steps b new
+  pub fed : fed steps ≡ bytes
+  pub written : Appends held now (moved steps)
+  pub recorded : Appends kept keeps (recorded steps)
+
+-- the call moves bytes out
+abbrev pub is_output : Call → Bool
+is_output (Output room) = true
+is_output _ = false
+
+-- All that was moved out before the last call that moves nothing out was written.
+pub record IsWrittenUp (steps : List Step) (written : List ℕ) : Type 0 where
+  pub before : List Step
+  pub outputs : List Step
+  pub split : steps ≡ before ++ outputs
+  pub each : list_any (λ x. not (is_output x.call)) outputs ≡ false
+  pub more : List ℕ
+  pub all : written ≡ moved before ++ more
+
+-- What is not done where serving breaks off. At Read and NoMemory all that was moved out was written, and all that was taken recorded; at Read all that was read was fed.
+-- At Write no call was made, but to move more out, since something moved out was not written.
+abbrev pub IsLeft : ServeFault → Stand → List Step → List ℕ → List ℕ → List ℕ → List ℕ → Type 0
+IsLeft fault.Read stand steps unfed written unwritten unnoted = (stand ≡ reading) × (unfed ≡ []) × (unwritten ≡ []) × (unnoted ≡ [])
+IsLeft fault.Write stand steps unfed written unwritten unnoted = IsWrittenUp steps written × (unnoted ≡ [])
+IsLeft fault.Sink stand steps unfed written unwritten unnoted = unwritten ≡ []
+IsLeft fault.NoMemory stand steps unfed written unwritten unnoted = (stand ≡ Starved) × (unwritten ≡ []) × (unnoted ≡ [])
+
+-- Serving broke off with this fault: a beginning of the bytes was fed, a beginning of what was moved out written, and a beginning of the records.
+pub record BrokeOff (p : Policy) (e : ServeFault) (a : Stand) (bytes : List ℕ) (old new : EndpointState) (held now kept keeps : Option (List ℕ)) : Type 0 where
+  pub stand : Stand
+  pub steps : List Step
+  pub serves : Serves p a old steps stand new
+  pub unfed : List ℕ
+  pub written : List ℕ
+  pub unwritten : List ℕ
+  pub noted : List ℕ
+  pub unnoted : List ℕ
+  pub feeds : bytes ≡ fed steps ++ unfed
+  pub moves : moved steps ≡ written ++ unwritten
+  pub records : recorded steps ≡ noted ++ unnoted
+  pub writer : Appends held now written
+  pub sink : Appends kept keeps noted
+  pub left : IsLeft e stand steps unfed written unwritten unnoted
+
+-- no unit waits
+abbrev pub IsIdle : EndpointState → Type 0
+IsIdle s = (u : StreamUnit) → Waits s.input u → ⊥
+
+-- Memory was refused for the unit that waits. Nothing waits to be sent, and the connection is not over, so that a feed of no bytes tries it again.
+pub record IsStarved (s : EndpointState) : Type 0 where
+  pub unit : StreamUnit
+  pub waits : Waits s.input unit
+  pub wants : may_grow_on (line_of s.connection unit) ≡ true
+  pub sent : s.unsent ≡ []
+  pub alive : is_dead s.connection.phase ≡ false
+
+-- these were served with no piece fed
+pub record Works (p : Policy) (a b : Stand) (old new : EndpointState) (held now kept keeps : Option (List ℕ)) : Type 0 where
+  pub served : Served p a b [] old new held now kept keeps
+  pub input : IsUnchanged old.input new.input
+
+abbrev pub finish_of : End → Step
+finish_of end = record { call = Finish; answer = Ended end }
+
+abbrev pub calls_of : List Step → List Call
+calls_of steps = map (λ x. x.call) steps
+
+abbrev pub answers_of : List Step → List Answer
+answers_of steps = map (λ x. x.answer) steps
+
+-- The whole run over the bytes that were read. Its last call is the finish, which came once the connection was over, or the reader had ended and all bytes were fed.
+pub record IsServed (p : Policy) (end : End) (bytes : List ℕ) (ended : Bool) (old new : EndpointState) (held now kept keeps : Option (List ℕ)) : Type 0 where
+  pub steps : List Step
+  pub before : EndpointState
+  pub serves : Serves p reading old steps reading before
+  pub ends : Serves p reading before (finish_of end ∷ []) Over new
+  pub run : Run old (calls_of (steps ++ finish_of end ∷ [])) (answers_of (steps ++ finish_of end ∷ [])) new
+  pub range : AreInRange (calls_of (steps ++ finish_of end ∷ []))
+  pub unfed : List ℕ
+  pub fed : bytes ≡ fed steps ++ unfed
+  pub over : (is_dead before.connection.phase ≡ true) ⊎ (IsTrue ended × (unfed ≡ []))
+  -- no unit waited then, unless the connection was over at first
+  pub idle : is_dead old.connection.phase ≡ false → IsIdle before
+  pub written : Appends held now (moved steps)
+  pub recorded : Appends kept keeps (recorded steps)

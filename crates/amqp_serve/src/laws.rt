@@ -1,0 +1,59 @@
+//! What holds of every connection that is served. The calls do nothing: their contracts are the laws.
+ghost use Rattle.std.specs.Prelude.{◌≡◌, ℕ, ◌++◌, Bool, List, Option};
+ghost use Rattle.std.specs.List.{flat_map};
+ghost use Rattle.amqp_endpoint.specs.Configs.{Configured, IsConfigured};
+ghost use Rattle.amqp_endpoint.specs.Runs.{Run, IsStart};
+ghost use Rattle.amqp_endpoint.specs.Steps.{EndpointState};
+ghost use Rattle.amqp_endpoint.specs.Traces.{AreInRange, IsWholeRun, heard, message_in};
+ghost use Rattle.amqp_endpoint.specs.declared.event.End.{End};
+ghost use Rattle.amqp_serve.specs.Serving.{Stand, Over, reading, Step, Serves, IsServed, fed, moved, recorded, record_of, calls_of, answers_of};
+ghost use Rattle.amqp_serve.specs.Cuts.{Made, IsMade, AreAlike, IsFront};
+ghost use Rattle.amqp_serve.specs.declared.serving.Policy.{Policy};
+
+use amqp_endpoint::laws::runs_have_a_history;
+
+/// What is served is a run: each call stands in it with its answer.
+#[tactic(auto, using(crate::proofs::Servings::run_of, crate::proofs::Servings::ranges_of))]
+pub fn serving_is_a_run()
+    ensures range { (p : Policy) (a b : Stand) (s t : EndpointState) (steps : List Step) → Serves p a s steps b t → AreInRange (calls_of steps) }
+    ensures run { (p : Policy) (a b : Stand) (s t : EndpointState) (steps : List Step) → Serves p a s steps b t → Run s (calls_of steps) (answers_of steps) t }
+{}
+
+/// What is served by a new endpoint has a history, as every run has: what it holds is bounded, what it told are the
+/// events of its units, and what it recorded are the first of each link's whole deliveries [2.2 to 2.7].
+pub fn what_is_served_has_a_history()
+    ensures { (p : Policy) (a b : Stand) (config : Configured) (s t : EndpointState) (steps : List Step) → IsConfigured config.container_id config.max_frame config.window → IsStart config s → Serves p a s steps b t → IsWholeRun config (calls_of steps) (answers_of steps) t }
+{
+    runs_have_a_history();
+    serving_is_a_run();
+}
+
+/// What serving records is the record of each message that was handed up, in order, and of no other.
+#[tactic(auto, using(crate::proofs::ServingRecords::records_handed_up))]
+pub fn records_are_what_was_handed_up()
+    ensures { (steps : List Step) → recorded steps ≡ flat_map (λ m. record_of m.0 m.1 m.2) (flat_map message_in (heard (calls_of steps) (answers_of steps))) }
+{}
+
+/// A new endpoint that was served to its end wrote and recorded what the units of the bytes make, served one by one,
+/// and ended so. Where its reader cut the bytes does not count.
+pub fn serving_follows_the_units()
+    ensures { (p : Policy) (config : Configured) (end : End) (bytes : List ℕ) (ended : Bool) (old new : EndpointState) (held now kept keeps : Option (List ℕ)) → IsStart config old → (x : IsServed p end bytes ended old new held now kept keeps) → IsMade p config bytes (record { connection = x.before.connection; written = moved x.steps; recorded = recorded x.steps }) end }
+{}
+
+/// So they are a function of the bytes: over the same bytes, by the same policy, two new endpoints that were served to
+/// their end wrote the same bytes, recorded the same, and ended alike, however their readers cut the bytes.
+pub fn serving_ignores_cuts()
+    ensures { (p : Policy) (config : Configured) (bytes : List ℕ) (end end2 : End) (ended ended2 : Bool) (old old2 new new2 : EndpointState) (held held2 now now2 kept kept2 keeps keeps2 : Option (List ℕ)) → IsConfigured config.container_id config.max_frame config.window → IsStart config old → IsStart config old2 → (x : IsServed p end bytes ended old new held now kept keeps) → (y : IsServed p end2 bytes ended2 old2 new2 held2 now2 kept2 keeps2) → (end ≡ end2) × (moved x.steps ≡ moved y.steps) × (recorded x.steps ≡ recorded y.steps) × AreAlike held now held2 now2 × AreAlike kept keeps kept2 keeps2 }
+{
+    serving_follows_the_units();
+}
+
+/// At any moment before its end, as where it breaks off, serving has moved out a beginning of what is written once the
+/// bytes go on and are served to their end, and recorded a beginning of what is recorded then: of what the units of
+/// these bytes make, whether another server comes to their end or not.
+pub fn serving_begins_the_same()
+    ensures made { (p : Policy) (config : Configured) (end : End) (bytes unfed : List ℕ) (old now : EndpointState) (stand : Stand) (steps : List Step) (made : Made) → IsConfigured config.container_id config.max_frame config.window → IsStart config old → Serves p reading old steps stand now → (stand ≡ Over → ⊥) → bytes ≡ fed steps ++ unfed → IsMade p config bytes made end → IsFront (moved steps) made.written × IsFront (recorded steps) made.recorded }
+    ensures same { (p : Policy) (config : Configured) (end : End) (bytes unfed : List ℕ) (ended : Bool) (old old2 now new : EndpointState) (stand : Stand) (steps : List Step) (held has kept keeps : Option (List ℕ)) → IsConfigured config.container_id config.max_frame config.window → IsStart config old → IsStart config old2 → Serves p reading old steps stand now → (stand ≡ Over → ⊥) → bytes ≡ fed steps ++ unfed → (y : IsServed p end bytes ended old2 new held has kept keeps) → IsFront (moved steps) (moved y.steps) × IsFront (recorded steps) (recorded y.steps) }
+{
+    serving_follows_the_units();
+}

@@ -1,0 +1,23 @@
+-- The live link at a handle of a session, and the session with another state of it.
+use Rattle.std.specs.Prelude.{ℕ, Option, option_map, slice_set}
+use Rattle.amqp_link.specs.Links.{LinkState}
+use Rattle.amqp_session.specs.declared.slot.Slot.{Slot}
+use Rattle.amqp_session.specs.Places.{slot_map, live_in}
+use Rattle.amqp_session.specs.Sessions.{LiveLink, SessionState, slot_at}
+
+-- with this state of it
+abbrev pub relinked : LiveLink → LinkState → LiveLink
+relinked l w = record l { link = w }
+
+abbrev pub slot_relinked : Slot LiveLink → LinkState → Slot LiveLink
+slot_relinked s w = slot_map (λ l. relinked l w) s
+
+-- the link at a handle, where one is live
+abbrev pub link_in : Slot LiveLink → Option LinkState
+link_in s = option_map (λ l. l.link) (live_in s)
+
+abbrev pub link_at : SessionState → ℕ → Option LinkState
+link_at s handle = link_in (slot_at s handle)
+
+abbrev pub with_link : SessionState → ℕ → LinkState → SessionState
+with_link s handle w = record s { links = slice_set s.links handle (slot_relinked (slot_at s handle) w) }
