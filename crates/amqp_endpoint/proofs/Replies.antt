@@ -22,8 +22,8 @@ use Rattle.amqp_perform.specs.BodyReading.{body_at, fault_of}
 use Rattle.amqp_perform.specs.Said.{Said, said_frame}
 use Rattle.amqp_session.specs.declared.fault.SessionFault.{SessionFault}
 use Rattle.amqp_session.specs.declared.fault.SessionFault.TheVariants as fault
-use Rattle.amqp_session.specs.declared.news.News.{News}
-use Rattle.amqp_session.specs.declared.news.News.TheVariants as news
+use Rattle.amqp_session.specs.declared.report.Report.{Report}
+use Rattle.amqp_session.specs.declared.report.Report.TheVariants as report
 use Rattle.amqp_session.specs.declared.slot.Slot.{Slot}
 use Rattle.amqp_session.specs.declared.slot.Slot.TheVariants.{Free, Live, Waits}
 use Rattle.amqp_session.specs.declared.terms.SessionTerms.{SessionTerms}
@@ -158,8 +158,8 @@ slot_flow_long t handle (Live l) =
     (link_flow_most t.next_incoming_id t.window handle l.link.delivery_count l.link.credit l.link.draining)
 slot_flow_long t handle Waits = omega arith
 
-failure_long : (n : News) → all_most (failure_answer n) ≤ 2560
-failure_long (news.Failed handle c dropped) = one_most (failure_said handle c) 400 (omega arith) (failure_most handle c)
+failure_long : (n : Report) → all_most (failure_answer n) ≤ 2560
+failure_long (report.Failed handle c dropped) = one_most (failure_said handle c) 400 (omega arith) (failure_most handle c)
 failure_long _ = omega arith
 
 echo_long : (after : SessionState) (handle : Option ℕ) (b : Bool) → all_most (if b then echo_answer after handle else []) ≤ 2560
@@ -167,8 +167,8 @@ echo_long after None true = one_most (flow_said after.next_incoming_id after.win
 echo_long after (Some handle) true = slot_flow_long after handle (of_session.slot_at after handle)
 echo_long after handle false = omega arith
 
-flow_long : (after : SessionState) (f : Flowing) (n : News) → all_most (flow_answer after f n) ≤ 2560
-flow_long after f (news.Failed handle c dropped) = failure_long (news.Failed handle c dropped)
+flow_long : (after : SessionState) (f : Flowing) (n : Report) → all_most (flow_answer after f n) ≤ 2560
+flow_long after f (report.Failed handle c dropped) = failure_long (report.Failed handle c dropped)
 flow_long after f _ = echo_long after f.handle f.echo
 
 attach_long : (t : SessionState) (a : Attaching) → attach_fault t a ≡ None → (o : Option Condition) → refusal t.terms a ≡ o → all_most (attach_answer t.terms a o) ≤ 2560
@@ -189,8 +189,8 @@ detach_long handle closed Waits = omega arith
 -- the answer to a frame fits the room that it is given
 pub answer_long : (t : SessionState) (f : Frame) → session.session_fault t f ≡ None → all_most (session.answer_of t f) ≤ 2560
 answer_long t (Attaches a) none = attach_long t a none (refusal t.terms a) refl
-answer_long t (Flows f) none = flow_long (session_after t (session.event_of t (Flows f))) f (session.news_of t (Flows f))
-answer_long t (Transfers handle x) none = failure_long (session.news_of t (Transfers handle x))
+answer_long t (Flows f) none = flow_long (session_after t (session.event_of t (Flows f))) f (session.report_of t (Flows f))
+answer_long t (Transfers handle x) none = failure_long (session.report_of t (Transfers handle x))
 answer_long t (Disposes d) none = omega arith
 answer_long t (Detaches handle closed) none = detach_long handle closed (of_session.slot_at t handle)
 

@@ -9,7 +9,7 @@ use Rattle.std.proofs.lemmas.List.{length-append}
 use Rattle.amqp_perform.specs.Said.{Said, said_frame}
 use Rattle.amqp_perform.specs.declared.condition.Condition.{Condition}
 use Rattle.amqp_link.specs.Links.{Sent, sent_of}
-use Rattle.amqp_session.specs.declared.news.News.{News}
+use Rattle.amqp_session.specs.declared.report.Report.{Report}
 use Rattle.amqp_session.specs.declared.done.Answer.{Answer}
 use Rattle.amqp_session.specs.declared.done.Answer.TheVariants as answer
 use Rattle.amqp_session.specs.declared.done.Done.{Done}
@@ -28,7 +28,7 @@ use Rattle.amqp_endpoint.specs.Acting.{IsTold, IsDone, IsWithout, IsLive, IsForS
 use Rattle.amqp_endpoint.specs.Connections as event
 use Rattle.amqp_endpoint.specs.Connections.{ConnectionState, connection_after, slot_at, channel_ready}
 use Rattle.amqp_endpoint.specs.Lines as line
-use Rattle.amqp_endpoint.specs.Lines.{Line, attach_too_high, by_fault, session_line, news_told}
+use Rattle.amqp_endpoint.specs.Lines.{Line, attach_too_high, by_fault, session_line, report_told}
 use Rattle.amqp_endpoint.specs.Replies.{joined, on_channel, end_said}
 use Rattle.amqp_endpoint.proofs.Replies.{SaidLong, channel_long, answer_long}
 use Rattle.amqp_endpoint.proofs.Tables.{Table, goes_on_at}
@@ -167,13 +167,13 @@ module _ (s new : ConnectionState) (channel : ℕ) (p : Performative) (payload :
       subst (λ (xs : List Said). length (joined (on_channel channel xs)) ≤ 2560) (sym (answer_is d framed)) short
 
   -- it is taken
-  pub taken : false ≡ is_beyond (slot_at s channel) p → (d : Done) → IsFramed s new channel t f d → (before after : List ℕ) (news : Option Event) →
-      after ≡ before ++ joined (on_channel channel (replied (slot_at new channel) p d.answer)) → news ≡ news_told channel d.news → IsDone s new before after (session_line channel t f) news
-  taken low d framed before after news written tells =
-      subst (λ (l : Line). IsDone s new before after l news) (sym (line_is None low framed.accepted)) (record {
+  pub taken : false ≡ is_beyond (slot_at s channel) p → (d : Done) → IsFramed s new channel t f d → (before after : List ℕ) (report : Option Event) →
+      after ≡ before ++ joined (on_channel channel (replied (slot_at new channel) p d.answer)) → report ≡ report_told channel d.report → IsDone s new before after (session_line channel t f) report
+  taken low d framed before after report written tells =
+      subst (λ (l : Line). IsDone s new before after l report) (sym (line_is None low framed.accepted)) (record {
         connection = framed.after;
         unsent = written ∙ ap (λ (xs : List Said). before ++ joined (on_channel channel xs)) (answer_is d framed);
-        told = tells ∙ ap (λ (n : News). news_told channel n) framed.news;
+        told = tells ∙ ap (λ (n : Report). report_told channel n) framed.report;
       })
 
   -- memory is refused
@@ -204,18 +204,18 @@ module _ (s new : ConnectionState) (channel handle : ℕ) (x : Sent) (t : Sessio
   transfer_line : (o : Option SessionFault) → session_fault t (Transfers handle x) ≡ o → session_line channel t (Transfers handle x) ≡ by_fault channel t (Transfers handle x) o
   transfer_line o e = ap (λ (o : Option SessionFault). by_fault channel t (Transfers handle x) o) e
 
-  pub failure_fits : SaidLong → (n : News) → IsTold s new channel t (Transfers handle x) n → length (joined (on_channel channel (failure_answer n))) ≤ 2560
+  pub failure_fits : SaidLong → (n : Report) → IsTold s new channel t (Transfers handle x) n → length (joined (on_channel channel (failure_answer n))) ≤ 2560
   failure_fits law n done =
       let m = channel_long law channel (answer_of t (Transfers handle x)) in
       let short : length (joined (on_channel channel (answer_of t (Transfers handle x)))) ≤ 2560 = omega (arith, m, answer_long t (Transfers handle x) done.accepted) in
-      subst (λ (m : News). length (joined (on_channel channel (failure_answer m))) ≤ 2560) (sym done.news) short
+      subst (λ (m : Report). length (joined (on_channel channel (failure_answer m))) ≤ 2560) (sym done.report) short
 
   -- it is taken
-  pub transfer_taken : (n : News) → IsTold s new channel t (Transfers handle x) n → (before after : List ℕ) (event : Option Event) →
-      after ≡ before ++ joined (on_channel channel (failure_answer n)) → event ≡ news_told channel n → IsDone s new before after (session_line channel t (Transfers handle x)) event
+  pub transfer_taken : (n : Report) → IsTold s new channel t (Transfers handle x) n → (before after : List ℕ) (event : Option Event) →
+      after ≡ before ++ joined (on_channel channel (failure_answer n)) → event ≡ report_told channel n → IsDone s new before after (session_line channel t (Transfers handle x)) event
   transfer_taken n done before after event written tells =
       subst (λ (l : Line). IsDone s new before after l event) (sym (transfer_line None done.accepted)) (record {
         connection = done.after;
-        unsent = written ∙ ap (λ (m : News). before ++ joined (on_channel channel (failure_answer m))) done.news;
-        told = tells ∙ ap (λ (m : News). news_told channel m) done.news;
+        unsent = written ∙ ap (λ (m : Report). before ++ joined (on_channel channel (failure_answer m))) done.report;
+        told = tells ∙ ap (λ (m : Report). report_told channel m) done.report;
       })

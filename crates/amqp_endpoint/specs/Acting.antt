@@ -9,11 +9,11 @@ use Rattle.amqp_session.specs.declared.done.Answer.TheVariants as answer
 use Rattle.amqp_session.specs.declared.done.Done.{Done}
 use Rattle.amqp_session.specs.declared.fault.SessionFault.{SessionFault}
 use Rattle.amqp_session.specs.declared.fault.SessionFault.TheVariants as fault
-use Rattle.amqp_session.specs.declared.news.News.{News}
+use Rattle.amqp_session.specs.declared.report.Report.{Report}
 use Rattle.amqp_session.specs.declared.slot.Slot.{Slot}
 use Rattle.amqp_session.specs.declared.slot.Slot.TheVariants.{Free, Live, Waits}
 use Rattle.amqp_session.specs.Answers.{said_by, answer_said, IsWithin}
-use Rattle.amqp_session.specs.Faults.{session_fault, session_condition, event_of, news_of, answer_of, IsRefusal}
+use Rattle.amqp_session.specs.Faults.{session_fault, session_condition, event_of, report_of, answer_of, IsRefusal}
 use Rattle.amqp_session.specs.Frames.{Attaching, Frame, attaching, attach_said, refusal_said}
 use Rattle.amqp_session.specs.Sessions.{SessionState}
 use Rattle.amqp_endpoint.specs.Connections.{InSession}
@@ -86,7 +86,7 @@ ending e = Some (session_condition e)
 pub record IsFramed (old new : ConnectionState) (channel : ℕ) (s : SessionState) (f : Frame) (done : Done) : Type 0 where
   pub accepted : session_fault s f ≡ None
   pub after : new ≡ connection_after old (InSession channel (event_of s f))
-  pub news : done.news ≡ news_of s f
+  pub report : done.report ≡ report_of s f
   pub answer : answer_of s f ≡ answer_said s.terms f done.answer
 
 -- or refused it, and nothing has changed
@@ -99,11 +99,11 @@ FrameDone old new channel s f (Ok done) = IsFramed old new channel s f done
 FrameDone old new channel s f (Err e) = IsUnframed old new s f e
 
 -- the session on a channel took a transfer, of which this is told
-pub record IsTold (old new : ConnectionState) (channel : ℕ) (s : SessionState) (f : Frame) (told : News) : Type 0 where
+pub record IsTold (old new : ConnectionState) (channel : ℕ) (s : SessionState) (f : Frame) (told : Report) : Type 0 where
   pub accepted : session_fault s f ≡ None
   pub after : new ≡ connection_after old (InSession channel (event_of s f))
-  pub news : told ≡ news_of s f
+  pub report : told ≡ report_of s f
 
-abbrev pub TransferDone : ConnectionState → ConnectionState → ℕ → SessionState → Frame → Result News SessionFault → Type 0
+abbrev pub TransferDone : ConnectionState → ConnectionState → ℕ → SessionState → Frame → Result Report SessionFault → Type 0
 TransferDone old new channel s f (Ok told) = IsTold old new channel s f told
 TransferDone old new channel s f (Err e) = IsUnframed old new s f e

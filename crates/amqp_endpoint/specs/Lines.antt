@@ -10,8 +10,8 @@ use Rattle.amqp_perform.specs.declared.fault.BodyFault.TheVariants as body
 use Rattle.amqp_perform.specs.Cells.{Cell}
 use Rattle.amqp_perform.specs.BodyReading.{body_at, fault_of}
 use Rattle.amqp_session.specs.declared.fault.SessionFault.{SessionFault}
-use Rattle.amqp_session.specs.declared.news.News.{News}
-use Rattle.amqp_session.specs.declared.news.News.TheVariants as news
+use Rattle.amqp_session.specs.declared.report.Report.{Report}
+use Rattle.amqp_session.specs.declared.report.Report.TheVariants as report
 use Rattle.amqp_session.specs.declared.slot.Slot.{Slot}
 use Rattle.amqp_session.specs.declared.slot.Slot.TheVariants.{Free, Live, Waits}
 use Rattle.amqp_session.specs.declared.terms.SessionTerms.{SessionTerms}
@@ -143,8 +143,8 @@ line_of s (FrameUnit bytes) = frame_at s (channel_of bytes) (body_of bytes)
 abbrev pub connection_fault : Condition → Option (Scope × Condition)
 connection_fault c = Some (scope.Connection, c)
 
-abbrev pub link_fault_of : ℕ → News → Option (Scope × Condition)
-link_fault_of channel (news.Failed handle c dropped) = Some (scope.Link channel handle, c)
+abbrev pub link_fault_of : ℕ → Report → Option (Scope × Condition)
+link_fault_of channel (report.Failed handle c dropped) = Some (scope.Link channel handle, c)
 link_fault_of channel _ = None
 
 abbrev pub fault_on : Line → Option (Scope × Condition)
@@ -158,7 +158,7 @@ fault_on BeginMisplaced = connection_fault condition.IllegalState
 fault_on BeginMissing = connection_fault condition.IllegalState
 fault_on HandleTooHigh = connection_fault condition.FramingError
 fault_on (SessionBroken channel fault) = Some (scope.Session channel, session.session_condition fault)
-fault_on (SessionFrame channel s f) = link_fault_of channel (session.news_of s f)
+fault_on (SessionFrame channel s f) = link_fault_of channel (session.report_of s f)
 fault_on _ = None
 
 -- The event that a unit is. -------------------------------------------------------------------------------------------
@@ -204,16 +204,16 @@ event_on s (SessionFrame channel live f) = event.InSession channel (session.even
 
 -- What is told. -------------------------------------------------------------------------------------------------------
 
-abbrev pub news_told : ℕ → News → Option Event
-news_told channel news.Nothing = None
-news_told channel (news.Attached handle) = Some (told.Attached channel handle)
-news_told channel (news.Unfinished handle) = Some (told.Unfinished channel handle)
-news_told channel (news.Ready handle) = Some (told.Ready channel handle)
-news_told channel (news.Aborted handle) = Some (told.Aborted channel handle)
-news_told channel (news.Drained handle) = Some (told.Drained channel handle)
-news_told channel (news.Settled count) = Some (told.Settled channel count)
-news_told channel (news.Detached handle dropped) = Some (told.Detached channel handle dropped)
-news_told channel (news.Failed handle c dropped) = Some (told.Failed (scope.Link channel handle) c dropped)
+abbrev pub report_told : ℕ → Report → Option Event
+report_told channel report.Nothing = None
+report_told channel (report.Attached handle) = Some (told.Attached channel handle)
+report_told channel (report.Unfinished handle) = Some (told.Unfinished channel handle)
+report_told channel (report.Ready handle) = Some (told.Ready channel handle)
+report_told channel (report.Aborted handle) = Some (told.Aborted channel handle)
+report_told channel (report.Drained handle) = Some (told.Drained channel handle)
+report_told channel (report.Settled count) = Some (told.Settled channel count)
+report_told channel (report.Detached handle dropped) = Some (told.Detached channel handle dropped)
+report_told channel (report.Failed handle c dropped) = Some (told.Failed (scope.Link channel handle) c dropped)
 
 abbrev pub connection_told : ConnectionState → Option (Scope × Condition) → Option Event
 connection_told s None = None
@@ -227,7 +227,7 @@ told_on s (PeerEnds channel) = Some (told.Ended channel (channel_ready (slot_at 
 told_on s CloseAwaited = Some (told.Closed 0)
 told_on s PeerCloses = Some (told.Closed (connection_ready s))
 told_on s (SessionBroken channel fault) = Some (told.Failed (scope.Session channel) (session.session_condition fault) (channel_ready (slot_at s channel)))
-told_on s (SessionFrame channel live f) = news_told channel (session.news_of live f)
+told_on s (SessionFrame channel live f) = report_told channel (session.report_of live f)
 told_on s line = connection_told s (fault_on line)
 
 -- Memory. -------------------------------------------------------------------------------------------------------------

@@ -20,7 +20,7 @@ use crate::phase::Phase;
 use crate::request::{Asked, Request, fault_of};
 use amqp_perform::{Disposition, Outcome, Performative, Transfer};
 use amqp_session::{
-    CallFault as SessionCallFault, Done, News, Session, SessionFault, SessionTerms, Slot,
+    CallFault as SessionCallFault, Done, Report, Session, SessionFault, SessionTerms, Slot,
 };
 use std::alloc::{AllocError, Allocator, Global};
 use std::marker::Model;
@@ -278,7 +278,7 @@ impl<A: Allocator + Copy> Connection<A> {
         channel: u8,
         transfer: &Transfer<'_>,
         payload: &[u8],
-    ) -> Result<News, SessionFault>
+    ) -> Result<Report, SessionFault>
         requires channel { channel ≤ self.old.config.channel_max }
         requires live { IsLive (slot_at self.old channel) }
         ensures { (s : SessionState) → slot_at self.old channel ≡ Live s → TransferDone self.old self.new channel s (Transfers transfer.now.handle (sent_of transfer.now payload.now)) result }

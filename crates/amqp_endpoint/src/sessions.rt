@@ -21,7 +21,7 @@ use crate::output::Output;
 use crate::phase::Phase;
 use crate::{closing, frames, telling};
 use amqp_perform::{Attach, Begin, Condition, Performative, Transfer};
-use amqp_session::{Answer, News, SessionTerms, Slot, failure, refusal_reply};
+use amqp_session::{Answer, Report, SessionTerms, Slot, failure, refusal_reply};
 use std::alloc::{AllocError, Allocator};
 
 /// What a session begins with [2.5.1, 2.7.2].
@@ -134,7 +134,7 @@ pub fn frame<A: Allocator + Copy>(
     match &connection.frame(channel, performative, payload) {
         Ok(done) => {
             answer(connection, out, channel, performative, &done.answer);
-            Ok(telling::told(channel as u16, done.news))
+            Ok(telling::told(channel as u16, done.report))
         }
         Err(fault) => match telling::condition_of(*fault) {
             Some(condition) => Ok(Some(fail(connection, out, channel, condition))),
@@ -159,9 +159,9 @@ pub fn transfer<A: Allocator + Copy>(
 {
     frames_are_as_long();
     match connection.transfer(channel, transfer, payload) {
-        Ok(news) => {
-            answer_failure(out, channel, news);
-            Ok(telling::told(channel as u16, news))
+        Ok(report) => {
+            answer_failure(out, channel, report);
+            Ok(telling::told(channel as u16, report))
         }
         Err(fault) => match telling::condition_of(fault) {
             Some(why) => Ok(Some(fail(connection, out, channel, why))),
@@ -171,16 +171,16 @@ pub fn transfer<A: Allocator + Copy>(
 }
 
 /// Writes the detach of a link that a transfer has ended [2.6.5].
-fn answer_failure<A: Allocator + Copy>(out: &mut Output<A>, channel: u8, news: News)
+fn answer_failure<A: Allocator + Copy>(out: &mut Output<A>, channel: u8, report: Report)
     requires room { length out.old + reply_room ≤ output_size }
-    requires short { length (joined (on_channel channel (failure_answer news))) ≤ reply_room }
-    ensures { out.new ≡ out.old ++ joined (on_channel channel (failure_answer news)) }
+    requires short { length (joined (on_channel channel (failure_answer report))) ≤ reply_room }
+    ensures { out.new ≡ out.old ++ joined (on_channel channel (failure_answer report)) }
 {
-    if let News::Failed {
+    if let Report::Failed {
         handle,
         condition,
         ..
-    } = news
+    } = report
     {
         out.put_detach(channel as u16, &failure(handle, condition));
     }

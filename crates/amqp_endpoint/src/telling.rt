@@ -1,30 +1,30 @@
 //! What the endpoint tells of what its sessions tell.
 ghost use Rattle.std.specs.Prelude.{◌≡◌};
 ghost use Rattle.amqp_endpoint.specs.Acting.{ending};
-ghost use Rattle.amqp_endpoint.specs.Lines.{news_told};
+ghost use Rattle.amqp_endpoint.specs.Lines.{report_told};
 
 use crate::event::{Event, Scope};
 use amqp_perform::Condition;
-use amqp_session::{News, SessionFault};
+use amqp_session::{Report, SessionFault};
 
 /// What is told of a frame of the session on a channel; nothing of most flows and dispositions.
-pub fn told(channel: u16, news: News) -> Option<Event>
-    ensures { result ≡ news_told channel news }
+pub fn told(channel: u16, report: Report) -> Option<Event>
+    ensures { result ≡ report_told channel report }
 {
-    match news {
-        News::Nothing => None,
-        News::Attached { handle } => Some(Event::Attached { channel, handle }),
-        News::Unfinished { handle } => Some(Event::Unfinished { channel, handle }),
-        News::Ready { handle } => Some(Event::Ready { channel, handle }),
-        News::Aborted { handle } => Some(Event::Aborted { channel, handle }),
-        News::Drained { handle } => Some(Event::Drained { channel, handle }),
-        News::Settled { count } => Some(Event::Settled { channel, count }),
-        News::Detached { handle, dropped } => Some(Event::Detached {
+    match report {
+        Report::Nothing => None,
+        Report::Attached { handle } => Some(Event::Attached { channel, handle }),
+        Report::Unfinished { handle } => Some(Event::Unfinished { channel, handle }),
+        Report::Ready { handle } => Some(Event::Ready { channel, handle }),
+        Report::Aborted { handle } => Some(Event::Aborted { channel, handle }),
+        Report::Drained { handle } => Some(Event::Drained { channel, handle }),
+        Report::Settled { count } => Some(Event::Settled { channel, count }),
+        Report::Detached { handle, dropped } => Some(Event::Detached {
             channel,
             handle,
             dropped,
         }),
-        News::Failed {
+        Report::Failed {
             handle,
             condition,
             dropped,

@@ -3,14 +3,14 @@ use Rattle.std.proofs.Common.{arith, ◌≡◌, ℕ, Bool, true, false, [], ◌�
 use Rattle.std.specs.Prelude.{nat_eq, if◌then◌else◌}
 use Rattle.amqp_perform.specs.declared.condition.Condition.{Condition}
 use Rattle.amqp_session.specs.declared.done.Answer.{Answer}
-use Rattle.amqp_session.specs.declared.news.News.{News}
-use Rattle.amqp_session.specs.declared.news.News.TheVariants as news
+use Rattle.amqp_session.specs.declared.report.Report.{Report}
+use Rattle.amqp_session.specs.declared.report.Report.TheVariants as report
 use Rattle.amqp_session.specs.declared.slot.Slot.{Slot}
 use Rattle.amqp_session.specs.declared.slot.Slot.TheVariants.{Free, Live, Waits}
 use Rattle.amqp_session.specs.declared.terms.SessionTerms.{SessionTerms}
 use Rattle.amqp_session.specs.Answers.{answer_said, IsAttachAnswer}
 use Rattle.amqp_session.specs.Calls.{Call, call_fault, call_event}
-use Rattle.amqp_session.specs.Faults.{session_fault, event_of, attach_answer, attach_news, flow_answer, echo_answer, failure_answer, detach_answer, settled_news}
+use Rattle.amqp_session.specs.Faults.{session_fault, event_of, attach_answer, attach_report, flow_answer, echo_answer, failure_answer, detach_answer, settled_report}
 use Rattle.amqp_perform.specs.Said.{Said}
 use Rattle.amqp_session.specs.Frames.{Frame, Attaching, Flowing, Attaches, IsInRange, refusal_said, detach_said}
 use Rattle.amqp_session.specs.Sessions.{LiveLink, SessionState, SessionEvent, SessionMay, session_after, session_begins, handles, IsApart}
@@ -39,24 +39,24 @@ pub frame_may : (s now : SessionState) (f : Frame) → s ≡ now → length s.li
 frame_may s now f view long range none = subst (λ (t : SessionState). SessionMay t (event_of t f)) view (frame_ok s f long range none)
 
 -- the answer to an attach
-pub attach_answered : (terms : SessionTerms) (a : Attaching) (x : Answer) (o : Option Condition) → IsAttachAnswer (attach_news a.handle o) x →
+pub attach_answered : (terms : SessionTerms) (a : Attaching) (x : Answer) (o : Option Condition) → IsAttachAnswer (attach_report a.handle o) x →
     attach_answer terms a o ≡ answer_said terms (Attaches a) x
 attach_answered terms a x None is = ap (λ (y : Answer). answer_said terms (Attaches a) y) (sym is)
 attach_answered terms a x (Some condition) is =
     ap (λ (y : Said). refusal_said a ∷ y ∷ []) (sym is.2) ∙ ap (λ (y : Answer). answer_said terms (Attaches a) y) (sym is.1)
 
 -- the answer to a flow whose link did not fail
-pub flow_answered : (after : SessionState) (f : Flowing) (x : News) → ((handle : ℕ) (condition : Condition) (dropped : ℕ) → x ≡ news.Failed handle condition dropped → ⊥) →
+pub flow_answered : (after : SessionState) (f : Flowing) (x : Report) → ((handle : ℕ) (condition : Condition) (dropped : ℕ) → x ≡ report.Failed handle condition dropped → ⊥) →
     flow_answer after f x ≡ (if f.echo then echo_answer after f.handle else [])
-flow_answered after f news.Nothing other = refl
-flow_answered after f (news.Attached handle) other = refl
-flow_answered after f (news.Unfinished handle) other = refl
-flow_answered after f (news.Ready handle) other = refl
-flow_answered after f (news.Aborted handle) other = refl
-flow_answered after f (news.Drained handle) other = refl
-flow_answered after f (news.Settled count) other = refl
-flow_answered after f (news.Detached handle dropped) other = refl
-flow_answered after f (news.Failed handle condition dropped) other = absurd (other handle condition dropped refl)
+flow_answered after f report.Nothing other = refl
+flow_answered after f (report.Attached handle) other = refl
+flow_answered after f (report.Unfinished handle) other = refl
+flow_answered after f (report.Ready handle) other = refl
+flow_answered after f (report.Aborted handle) other = refl
+flow_answered after f (report.Drained handle) other = refl
+flow_answered after f (report.Settled count) other = refl
+flow_answered after f (report.Detached handle dropped) other = refl
+flow_answered after f (report.Failed handle condition dropped) other = absurd (other handle condition dropped refl)
 
 -- the answer to a detach
 pub detach_answered : (handle : ℕ) (closed : Bool) (x : Slot LiveLink) → is_live x ≡ true → detach_answer handle closed x ≡ detach_said handle closed [] ∷ []
@@ -71,10 +71,10 @@ detach_unanswered handle closed (Live l) e = absurd (grind (arith, e))
 detach_unanswered handle closed Waits e = refl
 
 -- a disposition is not answered
-pub settled_unanswered : (n : ℕ) → failure_answer (settled_news n) ≡ []
+pub settled_unanswered : (n : ℕ) → failure_answer (settled_report n) ≡ []
 settled_unanswered n = by_test (nat_eq n 0)
   where
-    by_test : (b : Bool) → failure_answer (if b then news.Nothing else news.Settled n) ≡ []
+    by_test : (b : Bool) → failure_answer (if b then report.Nothing else report.Settled n) ≡ []
     by_test true = refl
     by_test false = refl
 

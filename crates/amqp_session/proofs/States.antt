@@ -17,7 +17,7 @@ use Rattle.amqp_link.specs.HandedUps.{IsHandedUp}
 use Rattle.amqp_link.specs.Links.{Sent, LinkState, Transferred, FlowStated, SenderSettled, is_beyond, may_grow}
 use Rattle.amqp_session.specs.declared.fault.SessionFault.{SessionFault}
 use Rattle.amqp_session.specs.declared.fault.SessionFault.TheVariants as fault
-use Rattle.amqp_session.specs.declared.news.News.{News}
+use Rattle.amqp_session.specs.declared.report.Report.{Report}
 use Rattle.amqp_session.specs.declared.slot.Slot.{Slot}
 use Rattle.amqp_session.specs.declared.slot.Slot.TheVariants.{Free, Live, Waits}
 use Rattle.amqp_session.specs.declared.terms.SessionTerms.{SessionTerms}
@@ -28,10 +28,10 @@ use Rattle.amqp_link.specs.Histories.{one_if}
 use Rattle.amqp_session.specs.Sessions.{LiveLink, live_begins, live_after, SessionState, SessionEvent, handles, happens, is_transfer, widened_by, stated_by, session_after, slot_at}
 use Rattle.amqp_session.specs.Sessions.{slot_has, slot_count, table_count, is_open_id, IsApart, session_begins}
 use Rattle.amqp_session.specs.Sessions as event
-use Rattle.amqp_session.specs.Faults.{is_free, handle_fault, session_fault, transfer_fault, attached, attach_event, transfer_event, flow_event, named_event, event_of, came_news, transfer_news}
-use Rattle.amqp_session.specs.Faults.{news_of, named_news, flow_news, IsRefusal, slot_may_grow, refusal, attach_fault, or_else, where_so, slot_flow, link_flow, named_fault, attach_news}
+use Rattle.amqp_session.specs.Faults.{is_free, handle_fault, session_fault, transfer_fault, attached, attach_event, transfer_event, flow_event, named_event, event_of, came_report, transfer_report}
+use Rattle.amqp_session.specs.Faults.{report_of, named_report, flow_report, IsRefusal, slot_may_grow, refusal, attach_fault, or_else, where_so, slot_flow, link_flow, named_fault, attach_report}
 use Rattle.amqp_session.specs.Calls.{Take, call_event, take_event, slot_standing, standing_in, standing_fault}
-use Rattle.amqp_session.specs.Slots.{padded, session_of, IsReached, is_live, came_fault, slot_reused, at_place, slot_came, slot_came_news, slot_grows, IsSlotRefusal, slot_flowed, slot_called}
+use Rattle.amqp_session.specs.Slots.{padded, session_of, IsReached, is_live, came_fault, slot_reused, at_place, slot_came, slot_came_report, slot_grows, IsSlotRefusal, slot_flowed, slot_called}
 use Rattle.amqp_session.specs.Slots.{IsStated, IsFlowTold, IsFound, stated_of}
 use Rattle.amqp_session.specs.declared.slots.LinkStated.{LinkStated}
 use Rattle.amqp_session.specs.Links.{slot_relinked, with_link}
@@ -164,18 +164,18 @@ module _ (terms : SessionTerms) (w n : ℕ) (slots : List (Slot LiveLink)) (s : 
           after_is (event.TransferDropped h) (w - 1) ((n + 1) % 2 ^ 32) (slice_set slots h Waits) (omega arith) refl (none_after (padded (handles terms) slots)
           ∙ ap (padded (handles terms)) (sym (put_again slots h Waits (there slots h Waits at within))))
 
-  pub came_told : (t : Sent) (h : ℕ) (x : Slot LiveLink) (reused : Bool) (news : News) → x ≡ get_or slots h x → h < length slots → reused ≡ slot_reused slots t.delivery_id (at_place slots h) →
-      news ≡ slot_came_news reused h t x → news ≡ news_of s (Transfers h t)
-  came_told t h x reused news at within re is =
-      is ∙ ap (λ (b : Bool). slot_came_news b h t x) (re ∙ ap (λ (y : Slot LiveLink). slot_reused slots t.delivery_id y) placed) ∙ by_slot x
-      ∙ ap (λ (y : Slot LiveLink). transfer_news s h t y) (sym (slot_is h x at within))
+  pub came_told : (t : Sent) (h : ℕ) (x : Slot LiveLink) (reused : Bool) (report : Report) → x ≡ get_or slots h x → h < length slots → reused ≡ slot_reused slots t.delivery_id (at_place slots h) →
+      report ≡ slot_came_report reused h t x → report ≡ report_of s (Transfers h t)
+  came_told t h x reused report at within re is =
+      is ∙ ap (λ (b : Bool). slot_came_report b h t x) (re ∙ ap (λ (y : Slot LiveLink). slot_reused slots t.delivery_id y) placed) ∙ by_slot x
+      ∙ ap (λ (y : Slot LiveLink). transfer_report s h t y) (sym (slot_is h x at within))
     where
       placed : at_place slots h ≡ x
       placed = ap (λ (o : Option (Slot LiveLink)). unwrap_or o Free) (there slots h x at within)
 
-      by_slot : (x : Slot LiveLink) → slot_came_news (slot_reused slots t.delivery_id x) h t x ≡ transfer_news s h t x
+      by_slot : (x : Slot LiveLink) → slot_came_report (slot_reused slots t.delivery_id x) h t x ≡ transfer_report s h t x
       by_slot Free = refl
-      by_slot (Live l) = ap (λ (o : Option LinkFault). came_news h l.link t o) (sym (fault_is l t))
+      by_slot (Live l) = ap (λ (o : Option LinkFault). came_report h l.link t o) (sym (fault_is l t))
       by_slot Waits = refl
 
   pub window_is : s.window ≡ w
@@ -289,9 +289,9 @@ module _ (terms : SessionTerms) (w n : ℕ) (slots : List (Slot LiveLink)) (s : 
   pub flow_refused : (f : Flowing) (h : ℕ) (x : Slot LiveLink) → f.handle ≡ Some h → slot_at s h ≡ x → is_free x ≡ true → session_fault s (Flows f) ≡ Some fault.UnattachedHandle
   flow_refused f h x named at free = ap (named_fault s) named ∙ handle_free terms w n slots s view reached h x at free
 
-  pub flow_told : (f : Flowing) (h : ℕ) (x : Slot LiveLink) (news : News) → f.handle ≡ Some h → x ≡ get_or slots h x → h < length slots → news ≡ flow_news h f x → news ≡ news_of s (Flows f)
-  flow_told f h x news named at within is =
-      is ∙ ap (λ (y : Slot LiveLink). flow_news h f y) (sym (slot_is terms w n slots s view reached h x at within)) ∙ ap (λ (o : Option ℕ). named_news s f o) (sym named)
+  pub flow_told : (f : Flowing) (h : ℕ) (x : Slot LiveLink) (report : Report) → f.handle ≡ Some h → x ≡ get_or slots h x → h < length slots → report ≡ flow_report h f x → report ≡ report_of s (Flows f)
+  flow_told f h x report named at within is =
+      is ∙ ap (λ (y : Slot LiveLink). flow_report h f y) (sym (slot_is terms w n slots s view reached h x at within)) ∙ ap (λ (o : Option ℕ). named_report s f o) (sym named)
 
 -- what slots tell of a flow
 pub told_none : (h : ℕ) (f : Flowing) (x : Slot LiveLink) → IsFlowTold h f x None → x ≡ Waits
@@ -300,10 +300,10 @@ told_none h f (Live l) e = absurd (grind (arith, e))
 told_none h f Waits e = refl
 
 -- a flow that tells something found a live link
-pub told_some : (h : ℕ) (f : Flowing) (x : Slot LiveLink) (news : News) → IsFlowTold h f x (Some news) → (is_live x ≡ true) × (news ≡ flow_news h f x)
-told_some h f Free news e = absurd e
-told_some h f (Live l) news e = (refl, grind (arith, e))
-told_some h f Waits news e = absurd (grind (arith, e))
+pub told_some : (h : ℕ) (f : Flowing) (x : Slot LiveLink) (report : Report) → IsFlowTold h f x (Some report) → (is_live x ≡ true) × (report ≡ flow_report h f x)
+told_some h f Free report e = absurd e
+told_some h f (Live l) report e = (refl, grind (arith, e))
+told_some h f Waits report e = absurd (grind (arith, e))
 
 -- a live handle is in use
 pub live_used : (x : Slot LiveLink) → is_live x ≡ true → is_free x ≡ false
@@ -369,8 +369,8 @@ module _ (terms : SessionTerms) (w n : ℕ) (slots : List (Slot LiveLink)) (s : 
       ∙ ap (λ (o : Option Condition). session_after s (if is_none o then event.LinkAttached a.handle (attached terms a) else event.LinkRefused a.handle)) (sym some)
       ∙ ap (λ (t : SessionTerms). session_after s (attach_event t a)) terms_are
 
-  pub attach_told : (a : Attaching) (o : Option Condition) → refusal terms a ≡ o → attach_news a.handle o ≡ news_of s (Attaches a)
-  attach_told a o is = ap (attach_news a.handle) (sym is) ∙ ap (λ (t : SessionTerms). attach_news a.handle (refusal t a)) terms_are
+  pub attach_told : (a : Attaching) (o : Option Condition) → refusal terms a ≡ o → attach_report a.handle o ≡ report_of s (Attaches a)
+  attach_told a o is = ap (attach_report a.handle) (sym is) ∙ ap (λ (t : SessionTerms). attach_report a.handle (refusal t a)) terms_are
 
 -- tables that were grown, or changed at a place
 pub reached_more : (terms : SessionTerms) (slots slots1 : List (Slot LiveLink)) → IsReached terms slots → length slots1 ≤ handles terms → IsReached terms slots1

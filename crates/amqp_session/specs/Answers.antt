@@ -7,10 +7,10 @@ use Rattle.amqp_session.specs.declared.done.Answer.{Answer}
 use Rattle.amqp_session.specs.declared.done.Answer.TheVariants as answer
 use Rattle.amqp_session.specs.declared.done.Done.{Done}
 use Rattle.amqp_session.specs.declared.fault.SessionFault.{SessionFault}
-use Rattle.amqp_session.specs.declared.news.News.{News}
-use Rattle.amqp_session.specs.declared.news.News.TheVariants as news
+use Rattle.amqp_session.specs.declared.report.Report.{Report}
+use Rattle.amqp_session.specs.declared.report.Report.TheVariants as report
 use Rattle.amqp_session.specs.declared.terms.SessionTerms.{SessionTerms}
-use Rattle.amqp_session.specs.Faults.{session_fault, event_of, news_of, answer_of, IsRefusal}
+use Rattle.amqp_session.specs.Faults.{session_fault, event_of, report_of, answer_of, IsRefusal}
 use Rattle.amqp_perform.specs.Said.{Said, said}
 use Rattle.amqp_session.specs.Frames.{Frame, Attaches, attach_said, refusal_said, failure_said}
 use Rattle.amqp_session.specs.Sessions.{SessionState, session_after, SessionMay}
@@ -47,8 +47,8 @@ IsAnswerTo (Attaches a) x = IsOfAttach x
 IsAnswerTo f x = IsPlain x
 
 -- an attach is answered, or its link refused
-abbrev pub IsAttachAnswer : News → Answer → Type 0
-IsAttachAnswer (news.Failed handle condition dropped) x = (p : Detach) × (x ≡ answer.Refusal p) × (said (performative.Detach p) ≡ failure_said handle condition)
+abbrev pub IsAttachAnswer : Report → Answer → Type 0
+IsAttachAnswer (report.Failed handle condition dropped) x = (p : Detach) × (x ≡ answer.Refusal p) × (said (performative.Detach p) ≡ failure_said handle condition)
 IsAttachAnswer _ x = x ≡ answer.Attach
 
 -- an attach's handle is at most this one
@@ -61,14 +61,14 @@ pub record IsDone (old new : SessionState) (f : Frame) (done : Done) : Type 0 wh
   pub accepted : session_fault old f ≡ None
   pub may : SessionMay old (event_of old f)
   pub after : new ≡ session_after old (event_of old f)
-  pub news : done.news ≡ news_of old f
+  pub report : done.report ≡ report_of old f
   pub answer : answer_of old f ≡ answer_said old.terms f done.answer
   pub kind : IsAnswerTo f done.answer
 
 -- and one that is not for it, which does nothing
 pub record IsPassed (old new : SessionState) (done : Done) : Type 0 where
   pub after : new ≡ old
-  pub news : done.news ≡ news.Nothing
+  pub report : done.report ≡ report.Nothing
   pub answer : done.answer ≡ answer.Nothing
 
 abbrev pub HasDone : SessionState → SessionState → Option Frame → Done → Type 0

@@ -10,8 +10,8 @@ use Rattle.amqp_link.specs.declared.transfer.Step.TheVariants as step
 use Rattle.amqp_link.specs.Links.{Sent, LinkState, fault_of, step_of, is_beyond, is_drained, newly_settled, open_set, may_grow}
 use Rattle.amqp_session.specs.declared.fault.SessionFault.{SessionFault}
 use Rattle.amqp_session.specs.declared.fault.SessionFault.TheVariants as fault
-use Rattle.amqp_session.specs.declared.news.News.{News}
-use Rattle.amqp_session.specs.declared.news.News.TheVariants as news
+use Rattle.amqp_session.specs.declared.report.Report.{Report}
+use Rattle.amqp_session.specs.declared.report.Report.TheVariants as report
 use Rattle.amqp_session.specs.declared.slot.Slot.{Slot}
 use Rattle.amqp_session.specs.declared.slot.Slot.TheVariants.{Free, Live, Waits}
 use Rattle.amqp_session.specs.declared.terms.SessionTerms.{SessionTerms}
@@ -139,34 +139,34 @@ event_of s (Detaches handle closed) = event.PeerDetached handle
 
 -- What is told of it. ------------------------------------------------------------------------------------------------------
 
-abbrev pub attach_news : ℕ → Option Condition → News
-attach_news handle None = news.Attached handle
-attach_news handle (Some condition) = news.Failed handle condition 0
+abbrev pub attach_report : ℕ → Option Condition → Report
+attach_report handle None = report.Attached handle
+attach_report handle (Some condition) = report.Failed handle condition 0
 
-abbrev pub step_news : ℕ → Step → News
-step_news handle step.Unfinished = news.Unfinished handle
-step_news handle step.Ready = news.Ready handle
-step_news handle step.Aborted = news.Aborted handle
+abbrev pub step_report : ℕ → Step → Report
+step_report handle step.Unfinished = report.Unfinished handle
+step_report handle step.Ready = report.Ready handle
+step_report handle step.Aborted = report.Aborted handle
 
-abbrev pub came_news : ℕ → LinkState → Sent → Option LinkFault → News
-came_news handle l t None = step_news handle (step_of t)
-came_news handle l t (Some fault) = news.Failed handle (link_condition fault) (length l.ready)
+abbrev pub came_report : ℕ → LinkState → Sent → Option LinkFault → Report
+came_report handle l t None = step_report handle (step_of t)
+came_report handle l t (Some fault) = report.Failed handle (link_condition fault) (length l.ready)
 
-abbrev pub transfer_news : SessionState → ℕ → Sent → Slot LiveLink → News
-transfer_news s handle t Free = news.Nothing
-transfer_news s handle t (Live l) = came_news handle l.link t (transfer_fault s l.link t)
-transfer_news s handle t Waits = news.Nothing
+abbrev pub transfer_report : SessionState → ℕ → Sent → Slot LiveLink → Report
+transfer_report s handle t Free = report.Nothing
+transfer_report s handle t (Live l) = came_report handle l.link t (transfer_fault s l.link t)
+transfer_report s handle t Waits = report.Nothing
 
-abbrev pub flow_news : ℕ → Flowing → Slot LiveLink → News
-flow_news handle f Free = news.Nothing
-flow_news handle f (Live l) =
-    if is_beyond l.link.delivery_count l.link.credit f.delivery_count then news.Failed handle condition.TransferLimitExceeded (length l.link.ready)
-    else (if is_drained l.link f.delivery_count then news.Drained handle else news.Nothing)
-flow_news handle f Waits = news.Nothing
+abbrev pub flow_report : ℕ → Flowing → Slot LiveLink → Report
+flow_report handle f Free = report.Nothing
+flow_report handle f (Live l) =
+    if is_beyond l.link.delivery_count l.link.credit f.delivery_count then report.Failed handle condition.TransferLimitExceeded (length l.link.ready)
+    else (if is_drained l.link f.delivery_count then report.Drained handle else report.Nothing)
+flow_report handle f Waits = report.Nothing
 
-abbrev pub named_news : SessionState → Flowing → Option ℕ → News
-named_news s f None = news.Nothing
-named_news s f (Some handle) = flow_news handle f (slot_at s handle)
+abbrev pub named_report : SessionState → Flowing → Option ℕ → Report
+named_report s f None = report.Nothing
+named_report s f (Some handle) = flow_report handle f (slot_at s handle)
 
 -- how many open deliveries of a link a disposition settles [2.7.6]
 abbrev pub slot_settled : ℕ → ℕ → Slot LiveLink → ℕ
@@ -178,15 +178,15 @@ slot_settled first last Waits = 0
 abbrev pub settled_count : SessionState → ℕ → ℕ → ℕ
 settled_count s first last = sum_by (slot_settled first last) s.links
 
-abbrev pub settled_news : ℕ → News
-settled_news count = if nat_eq count 0 then news.Nothing else news.Settled count
+abbrev pub settled_report : ℕ → Report
+settled_report count = if nat_eq count 0 then report.Nothing else report.Settled count
 
-abbrev pub news_of : SessionState → Frame → News
-news_of s (Attaches a) = attach_news a.handle (refusal s.terms a)
-news_of s (Flows f) = named_news s f f.handle
-news_of s (Transfers handle t) = transfer_news s handle t (slot_at s handle)
-news_of s (Disposes d) = if is_settling d then settled_news (settled_count s d.first (last_of d)) else news.Nothing
-news_of s (Detaches handle closed) = news.Detached handle (slot_ready (slot_at s handle))
+abbrev pub report_of : SessionState → Frame → Report
+report_of s (Attaches a) = attach_report a.handle (refusal s.terms a)
+report_of s (Flows f) = named_report s f f.handle
+report_of s (Transfers handle t) = transfer_report s handle t (slot_at s handle)
+report_of s (Disposes d) = if is_settling d then settled_report (settled_count s d.first (last_of d)) else report.Nothing
+report_of s (Detaches handle closed) = report.Detached handle (slot_ready (slot_at s handle))
 
 -- What is said in answer: nothing, one performative, or two for a link that is refused. -----------------------------------------
 
@@ -207,8 +207,8 @@ attach_answer terms a None = attach_said terms.bounds.max_message_size a ∷ []
 attach_answer terms a (Some condition) = refusal_said a ∷ failure_said a.handle condition ∷ []
 
 -- a link that ends with an error is detached with it
-abbrev pub failure_answer : News → List Said
-failure_answer (news.Failed handle condition dropped) = failure_said handle condition ∷ []
+abbrev pub failure_answer : Report → List Said
+failure_answer (report.Failed handle condition dropped) = failure_said handle condition ∷ []
 failure_answer _ = []
 
 -- The answer to an echo, of the state after the flow: of the link that it names, else of the session. A link that ended, or waits, has none. [2.7.4]
@@ -216,8 +216,8 @@ abbrev pub echo_answer : SessionState → Option ℕ → List Said
 echo_answer after None = session_flow after ∷ []
 echo_answer after (Some handle) = link_flow after handle
 
-abbrev pub flow_answer : SessionState → Flowing → News → List Said
-flow_answer after f (news.Failed handle condition dropped) = failure_said handle condition ∷ []
+abbrev pub flow_answer : SessionState → Flowing → Report → List Said
+flow_answer after f (report.Failed handle condition dropped) = failure_said handle condition ∷ []
 flow_answer after f _ = if f.echo then echo_answer after f.handle else []
 
 -- a detach is answered by one with the same closed, unless this side sent the first [2.6.4, 2.6.6]
@@ -228,8 +228,8 @@ detach_answer handle closed Waits = []
 
 abbrev pub answer_of : SessionState → Frame → List Said
 answer_of s (Attaches a) = attach_answer s.terms a (refusal s.terms a)
-answer_of s (Flows f) = flow_answer (session_after s (event_of s (Flows f))) f (news_of s (Flows f))
-answer_of s (Transfers handle t) = failure_answer (news_of s (Transfers handle t))
+answer_of s (Flows f) = flow_answer (session_after s (event_of s (Flows f))) f (report_of s (Flows f))
+answer_of s (Transfers handle t) = failure_answer (report_of s (Transfers handle t))
 answer_of s (Disposes d) = []
 answer_of s (Detaches handle closed) = detach_answer handle closed (slot_at s handle)
 

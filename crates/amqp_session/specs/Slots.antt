@@ -10,8 +10,8 @@ use Rattle.amqp_link.specs.HandedUps.{IsHandedUp}
 use Rattle.amqp_link.specs.Links.{Sent, LinkState, LinkEvent, Transferred, FlowStated, fault_of, may_grow, is_beyond, first_ready, open_count}
 use Rattle.amqp_session.specs.declared.fault.SessionFault.{SessionFault}
 use Rattle.amqp_session.specs.declared.fault.SessionFault.TheVariants as fault
-use Rattle.amqp_session.specs.declared.news.News.{News}
-use Rattle.amqp_session.specs.declared.news.News.TheVariants as news
+use Rattle.amqp_session.specs.declared.report.Report.{Report}
+use Rattle.amqp_session.specs.declared.report.Report.TheVariants as report
 use Rattle.amqp_session.specs.declared.slot.Slot.{Slot}
 use Rattle.amqp_session.specs.declared.slot.Slot.TheVariants.{Free, Live, Waits}
 use Rattle.amqp_session.specs.declared.terms.SessionTerms.{SessionTerms}
@@ -20,7 +20,7 @@ use Rattle.amqp_session.specs.declared.table.Found.{Found}
 use Rattle.amqp_session.specs.declared.view.LinkView.{LinkView}
 use Rattle.amqp_session.specs.Places.{slot_map}
 use Rattle.amqp_session.specs.Frames.{Flowing}
-use Rattle.amqp_session.specs.Faults.{is_free, came_news, flow_news}
+use Rattle.amqp_session.specs.Faults.{is_free, came_report, flow_report}
 use Rattle.amqp_session.specs.Calls.{slot_standing, standing_in}
 use Rattle.amqp_session.specs.Sessions.{LiveLink, live_after, SessionState, handles, slot_has}
 
@@ -84,10 +84,10 @@ slot_came reused t Free = Free
 slot_came reused t (Live l) = if is_none (came_fault reused l.link t) then Live (live_after l (Transferred t)) else Waits
 slot_came reused t Waits = Waits
 
-abbrev pub slot_came_news : Bool → ℕ → Sent → Slot LiveLink → News
-slot_came_news reused handle t Free = news.Nothing
-slot_came_news reused handle t (Live l) = came_news handle l.link t (came_fault reused l.link t)
-slot_came_news reused handle t Waits = news.Nothing
+abbrev pub slot_came_report : Bool → ℕ → Sent → Slot LiveLink → Report
+slot_came_report reused handle t Free = report.Nothing
+slot_came_report reused handle t (Live l) = came_report handle l.link t (came_fault reused l.link t)
+slot_came_report reused handle t Waits = report.Nothing
 
 -- why it is refused
 abbrev pub slot_grows : Bool → Sent → Slot LiveLink → Bool
@@ -107,9 +107,9 @@ slot_flowed f (Live l) = if is_beyond l.link.delivery_count l.link.credit f.deli
 slot_flowed f Waits = Waits
 
 -- what is told of it: nothing where it is dropped
-abbrev pub IsFlowTold : ℕ → Flowing → Slot LiveLink → Option News → Type 0
+abbrev pub IsFlowTold : ℕ → Flowing → Slot LiveLink → Option Report → Type 0
 IsFlowTold handle f Free told = ⊥
-IsFlowTold handle f (Live l) told = told ≡ Some (flow_news handle f (Live l))
+IsFlowTold handle f (Live l) told = told ≡ Some (flow_report handle f (Live l))
 IsFlowTold handle f Waits told = told ≡ None
 
 -- a call for the link there

@@ -1,13 +1,13 @@
 //! What becomes of a frame.
 
-use crate::news::News;
+use crate::report::Report;
 use amqp_perform::{Detach, Flow};
 
 /// A frame was taken.
 #[derive(Clone, Copy, Debug)]
 pub struct Done {
     /// What is told of it.
-    pub news: News,
+    pub report: Report,
     /// What is to be written.
     pub answer: Answer,
 }

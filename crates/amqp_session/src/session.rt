@@ -6,7 +6,7 @@ ghost use Rattle.amqp_perform.specs.declared.performative.Performative.TheVarian
 ghost use Rattle.amqp_perform.specs.Frames.{IsWritten};
 ghost use Rattle.amqp_perform.specs.declared.outcome.Outcome.{Outcome};
 ghost use Rattle.amqp_session.specs.Calls.{Widen, Grant, Drain, Take, Settle, Detach as DetachCall, call_fault, call_event, call_answer};
-ghost use Rattle.amqp_session.specs.Faults.{session_fault, event_of, news_of, answer_of, failure_answer, flow_answer, echo_answer, IsRefusal};
+ghost use Rattle.amqp_session.specs.Faults.{session_fault, event_of, report_of, answer_of, failure_answer, flow_answer, echo_answer, IsRefusal};
 ghost use Rattle.amqp_perform.specs.Said.{said, said_frame};
 ghost use Rattle.amqp_session.specs.Frames.{Attaches, Flows, Transfers, Disposes, Detaches, attaching, flowing, disposing, frame_of, attach_said};
 ghost use Rattle.amqp_session.specs.Sessions.{session_begins, session_after, session_bytes, session_ready, slot_at, slot_ready, SessionMay};
@@ -15,8 +15,8 @@ ghost use Rattle.amqp_session.specs.Answers.{said_by, answer_said, IsOfAttach, I
 
 use crate::done::{Answer, Done};
 use crate::fault::{CallFault, SessionFault};
-use crate::news::News;
 use crate::replies;
+use crate::report::Report;
 use crate::slots::stated;
 use crate::state::{State, settles_at_once, standing_fault};
 use crate::terms::SessionTerms;
@@ -123,7 +123,7 @@ impl<A: Allocator + Copy> Session<A> {
         ensures may { OnOk result (SessionMay self.old (event_of self.old (Attaches (attaching attach.now)))) }
         ensures new { OnOk result (self.new ≡ session_after self.old (event_of self.old (Attaches (attaching attach.now)))) }
         ensures accepted { OnOk result (session_fault self.old (Attaches (attaching attach.now)) ≡ None) }
-        ensures news { IfOk result (λ done. done.news ≡ news_of self.old (Attaches (attaching attach.now))) }
+        ensures report { IfOk result (λ done. done.report ≡ report_of self.old (Attaches (attaching attach.now))) }
         ensures answer { IfOk result (λ done. answer_of self.old (Attaches (attaching attach.now)) ≡ answer_said self.old.terms (Attaches (attaching attach.now)) done.answer) }
         ensures kind { IfOk result (λ done. IsOfAttach done.answer) }
         ensures refused { IfErr result (λ e. IsRefusal self.old (Attaches (attaching attach.now)) e) }
@@ -132,8 +132,8 @@ impl<A: Allocator + Copy> Session<A> {
         laws::open_ids_grow_by_heads();
         self.state.is_long();
         is_counted(attach);
-        let news = self.state.attach(attach)?;
-        Ok(attach_done(news))
+        let report = self.state.attach(attach)?;
+        Ok(attach_done(report))
     }
 
     /// Takes a flow of the peer [2.7.4]: its next-outgoing-id is the next-incoming-id from now on, and leaves the
@@ -147,7 +147,7 @@ impl<A: Allocator + Copy> Session<A> {
         ensures may { OnOk result (SessionMay self.old (event_of self.old (Flows (flowing flow.now)))) }
         ensures new { OnOk result (self.new ≡ session_after self.old (event_of self.old (Flows (flowing flow.now)))) }
         ensures accepted { OnOk result (session_fault self.old (Flows (flowing flow.now)) ≡ None) }
-        ensures news { IfOk result (λ done. done.news ≡ news_of self.old (Flows (flowing flow.now))) }
+        ensures report { IfOk result (λ done. done.report ≡ report_of self.old (Flows (flowing flow.now))) }
         ensures answer { IfOk result (λ done. answer_of self.old (Flows (flowing flow.now)) ≡ answer_said self.old.terms (Flows (flowing flow.now)) done.answer) }
         ensures kind { IfOk result (λ done. IsPlain done.answer) }
         ensures refused { IfErr result (λ e. IsRefusal self.old (Flows (flowing flow.now)) e) }
@@ -155,9 +155,9 @@ impl<A: Allocator + Copy> Session<A> {
     {
         laws::open_ids_grow_by_heads();
         self.state.is_long();
-        let news = self.state.flow(flow)?;
-        let answer = flow_answer(&self.state, flow, news);
-        Ok(Done { news, answer })
+        let report = self.state.flow(flow)?;
+        let answer = flow_answer(&self.state, flow, report);
+        Ok(Done { report, answer })
     }
 
     /// Takes a transfer of the peer with its payload [2.6.14]. It uses a place of the window and a number,
@@ -172,27 +172,27 @@ impl<A: Allocator + Copy> Session<A> {
         &mut self,
         transfer: &Transfer<'_>,
         payload: &[u8],
-    ) -> Result<News, SessionFault>
+    ) -> Result<Report, SessionFault>
         ensures may { OnOk result (SessionMay self.old (event_of self.old (Transfers transfer.now.handle (sent_of transfer.now payload.now)))) }
         ensures new { OnOk result (self.new ≡ session_after self.old (event_of self.old (Transfers transfer.now.handle (sent_of transfer.now payload.now)))) }
         ensures accepted { OnOk result (session_fault self.old (Transfers transfer.now.handle (sent_of transfer.now payload.now)) ≡ None) }
-        ensures news { IfOk result (λ news. news ≡ news_of self.old (Transfers transfer.now.handle (sent_of transfer.now payload.now))) }
+        ensures report { IfOk result (λ report. report ≡ report_of self.old (Transfers transfer.now.handle (sent_of transfer.now payload.now))) }
         ensures refused { IfErr result (λ e. IsRefusal self.old (Transfers transfer.now.handle (sent_of transfer.now payload.now)) e) }
         ensures err { OnErr result (self.new ≡ self.old) }
     {
         laws::open_ids_grow_by_heads();
         self.state.is_long();
         is_numbered(transfer);
-        let news = self.state.transfer(transfer, payload)?;
-        Ok(news)
+        let report = self.state.transfer(transfer, payload)?;
+        Ok(report)
     }
 
     /// Takes a disposition of the peer [2.7.6]: a sender's that settles settles what it covers, on all links.
     /// `Settled` tells how many open deliveries it settles, where those are some. Any other does nothing.
-    pub fn disposition(&mut self, disposition: &Disposition<'_>) -> News
+    pub fn disposition(&mut self, disposition: &Disposition<'_>) -> Report
         ensures may { SessionMay self.old (event_of self.old (Disposes (disposing disposition.now))) }
         ensures new { self.new ≡ session_after self.old (event_of self.old (Disposes (disposing disposition.now))) }
-        ensures news { result ≡ news_of self.old (Disposes (disposing disposition.now)) }
+        ensures report { result ≡ report_of self.old (Disposes (disposing disposition.now)) }
     {
         laws::open_ids_grow_by_heads();
         self.state.is_long();
@@ -206,7 +206,7 @@ impl<A: Allocator + Copy> Session<A> {
         ensures may { OnOk result (SessionMay self.old (event_of self.old (Detaches detach.now.handle detach.now.closed))) }
         ensures new { OnOk result (self.new ≡ session_after self.old (event_of self.old (Detaches detach.now.handle detach.now.closed))) }
         ensures accepted { OnOk result (session_fault self.old (Detaches detach.now.handle detach.now.closed) ≡ None) }
-        ensures news { IfOk result (λ done. done.news ≡ news_of self.old (Detaches detach.now.handle detach.now.closed)) }
+        ensures report { IfOk result (λ done. done.report ≡ report_of self.old (Detaches detach.now.handle detach.now.closed)) }
         ensures answer { IfOk result (λ done. answer_of self.old (Detaches detach.now.handle detach.now.closed) ≡ answer_said self.old.terms (Detaches detach.now.handle detach.now.closed) done.answer) }
         ensures kind { IfOk result (λ done. IsPlain done.answer) }
         ensures refused { IfErr result (λ e. IsRefusal self.old (Detaches detach.now.handle detach.now.closed) e) }
@@ -222,7 +222,7 @@ impl<A: Allocator + Copy> Session<A> {
             Answer::Nothing
         };
         Ok(Done {
-            news: News::Detached {
+            report: Report::Detached {
                 handle,
                 dropped: detached.dropped,
             },
@@ -249,7 +249,7 @@ impl<A: Allocator + Copy> Session<A> {
             Performative::Transfer(p) => Ok(told(self.transfer(p, payload)?)),
             Performative::Disposition(p) => Ok(told(self.disposition(p))),
             Performative::Detach(p) => self.detached(p),
-            _ => Ok(told(News::Nothing)),
+            _ => Ok(told(Report::Nothing)),
         }
     }
 
@@ -425,12 +425,12 @@ impl<A: Allocator + Copy> Session<A> {
 }
 
 /// What answers a flow that was taken.
-fn flow_answer<A: Allocator + Copy>(after: &State<A>, flow: &Flow<'_>, news: News) -> Answer
-    ensures said { said_by result ≡ flow_answer after.now (flowing flow.now) news }
+fn flow_answer<A: Allocator + Copy>(after: &State<A>, flow: &Flow<'_>, report: Report) -> Answer
+    ensures said { said_by result ≡ flow_answer after.now (flowing flow.now) report }
     ensures kind { IsPlain result }
 {
-    match news {
-        News::Failed {
+    match report {
+        Report::Failed {
             handle,
             condition,
             ..
@@ -471,36 +471,36 @@ fn is_counted(attach: &Attach<'_>)
 }
 
 /// A frame that is answered by the detach of a link that failed, or by nothing.
-fn told(news: News) -> Done
-    ensures news { result.news ≡ news }
-    ensures answer { said_by result.answer ≡ failure_answer news }
+fn told(report: Report) -> Done
+    ensures report { result.report ≡ report }
+    ensures answer { said_by result.answer ≡ failure_answer report }
     ensures kind { IsPlain result.answer }
-    ensures nothing { news ≡ News.Nothing → result.answer ≡ Answer.Nothing }
+    ensures nothing { report ≡ Report.Nothing → result.answer ≡ Answer.Nothing }
 {
-    let answer = match news {
-        News::Failed {
+    let answer = match report {
+        Report::Failed {
             handle,
             condition,
             ..
         } => Answer::Detach(replies::failure(handle, condition)),
         _ => Answer::Nothing,
     };
-    Done { news, answer }
+    Done { report, answer }
 }
 
 /// An attach that is answered, by a refusal where its link failed.
-fn attach_done(news: News) -> Done
-    ensures news { result.news ≡ news }
-    ensures answer { IsAttachAnswer news result.answer }
+fn attach_done(report: Report) -> Done
+    ensures report { result.report ≡ report }
+    ensures answer { IsAttachAnswer report result.answer }
     ensures kind { IsOfAttach result.answer }
 {
-    let answer = match news {
-        News::Failed {
+    let answer = match report {
+        Report::Failed {
             handle,
             condition,
             ..
         } => Answer::Refusal(replies::failure(handle, condition)),
         _ => Answer::Attach,
     };
-    Done { news, answer }
+    Done { report, answer }
 }

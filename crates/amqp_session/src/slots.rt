@@ -5,15 +5,15 @@ ghost use Rattle.std.specs.Option.{option_copied_mut};
 ghost use Rattle.std.specs.Borrow.{sem};
 ghost use Rattle.amqp_session.specs.Lending.{LendsPlace};
 ghost use Rattle.amqp_session.specs.Links.{link_in};
-ghost use Rattle.amqp_session.specs.Slots.{slot_came, slot_came_news, IsSlotRefusal, slot_flowed, slot_called, stated_of, IsStated, IsFlowTold, is_live, IsViewAt};
-ghost use Rattle.amqp_session.specs.Faults.{is_free, link_condition, step_news, flow_news, slot_settled, where_so};
+ghost use Rattle.amqp_session.specs.Slots.{slot_came, slot_came_report, IsSlotRefusal, slot_flowed, slot_called, stated_of, IsStated, IsFlowTold, is_live, IsViewAt};
+ghost use Rattle.amqp_session.specs.Faults.{is_free, link_condition, step_report, flow_report, slot_settled, where_so};
 ghost use Rattle.amqp_session.specs.Sessions.{slot_ready, slot_has, slot_bytes};
 ghost use Rattle.amqp_session.specs.Calls.{at_link, slot_standing};
 ghost use Rattle.amqp_session.specs.Frames.{flowing};
 
 use crate::fault::{CallFault, SessionFault};
 use crate::kept_link::KeptLink;
-use crate::news::News;
+use crate::report::Report;
 use crate::slot::Slot;
 use crate::view::LinkView;
 use amqp_link::{Link, LinkFault, Standing, Step};
@@ -43,9 +43,9 @@ pub fn transfer<A: Allocator + Copy>(
     reused: bool,
     transfer: &Transfer<'_>,
     payload: &[u8],
-) -> Result<News, SessionFault>
+) -> Result<Report, SessionFault>
     ensures new { OnOk result (slot.new ≡ slot_came reused (sent_of transfer.now payload.now) slot.old) }
-    ensures news { IfOk result (λ news. news ≡ slot_came_news reused transfer.now.handle (sent_of transfer.now payload.now) slot.old) }
+    ensures report { IfOk result (λ report. report ≡ slot_came_report reused transfer.now.handle (sent_of transfer.now payload.now) slot.old) }
     ensures used { OnOk result (is_free slot.old ≡ false) }
     ensures refused { IfErr result (λ e. IsSlotRefusal reused (sent_of transfer.now payload.now) slot.old e) }
     ensures err { OnErr result (slot.new ≡ slot.old) }
@@ -53,9 +53,9 @@ pub fn transfer<A: Allocator + Copy>(
     let handle = transfer.handle;
     let fault = match slot {
         Slot::Free => return Err(SessionFault::UnattachedHandle),
-        Slot::Waits => return Ok(News::Nothing),
+        Slot::Waits => return Ok(Report::Nothing),
         Slot::Live(kept) => match kept.transfer(reused, transfer, payload) {
-            Ok(step) => return Ok(step_news(handle, step)),
+            Ok(step) => return Ok(step_report(handle, step)),
             Err(LinkFault::NoMemory) => return Err(SessionFault::NoMemory),
             Err(fault) => fault,
         },
@@ -64,13 +64,13 @@ pub fn transfer<A: Allocator + Copy>(
 }
 
 /// What an accepted transfer tells.
-fn step_news(handle: u32, step: Step) -> News
-    ensures { result ≡ step_news handle step }
+fn step_report(handle: u32, step: Step) -> Report
+    ensures { result ≡ step_report handle step }
 {
     match step {
-        Step::Unfinished => News::Unfinished { handle },
-        Step::Ready => News::Ready { handle },
-        Step::Aborted => News::Aborted { handle },
+        Step::Unfinished => Report::Unfinished { handle },
+        Step::Ready => Report::Ready { handle },
+        Step::Aborted => Report::Aborted { handle },
     }
 }
 
@@ -103,13 +103,13 @@ fn fail<A: Allocator + Copy>(
     slot: &mut Slot<KeptLink<A>>,
     handle: u32,
     condition: Condition,
-) -> News
+) -> Report
     ensures new { slot.new ≡ Slot.Waits }
-    ensures news { result ≡ News.Failed handle condition (slot_ready slot.old) }
+    ensures report { result ≡ Report.Failed handle condition (slot_ready slot.old) }
 {
     let dropped = ready(slot);
     *slot = Slot::Waits;
-    News::Failed {
+    Report::Failed {
         handle,
         condition,
         dropped,
@@ -121,17 +121,17 @@ pub fn flow<A: Allocator + Copy>(
     slot: &mut Slot<KeptLink<A>>,
     handle: u32,
     flow: &Flow<'_>,
-) -> Result<Option<News>, SessionFault>
+) -> Result<Option<Report>, SessionFault>
     ensures new { slot.new ≡ slot_flowed (flowing flow.now) slot.old }
-    ensures news { IfOk result (λ told. IsFlowTold handle (flowing flow.now) slot.old told) }
+    ensures report { IfOk result (λ told. IsFlowTold handle (flowing flow.now) slot.old told) }
     ensures refused { IfErr result (λ e. (e ≡ SessionFault.UnattachedHandle) × (is_free slot.old ≡ true)) }
 {
     match slot {
         Slot::Free => return Err(SessionFault::UnattachedHandle),
         Slot::Waits => return Ok(None),
         Slot::Live(kept) => match kept.sender_count(flow.delivery_count) {
-            Ok(true) => return Ok(Some(News::Drained { handle })),
-            Ok(false) => return Ok(Some(News::Nothing)),
+            Ok(true) => return Ok(Some(Report::Drained { handle })),
+            Ok(false) => return Ok(Some(Report::Nothing)),
             Err(_) => {}
         },
     }

@@ -8,7 +8,7 @@ ghost use Rattle.std.specs.Option.{option_copied_mut};
 ghost use Rattle.std.specs.Borrow.{sem};
 ghost use Rattle.amqp_session.specs.Links.{link_at};
 ghost use Rattle.amqp_session.specs.StateLending.{LendsHandle};
-ghost use Rattle.amqp_session.specs.Faults.{session_fault, event_of, news_of, attach_fault, IsRefusal, session_flow, link_flow, attached, is_settling, settled_news};
+ghost use Rattle.amqp_session.specs.Faults.{session_fault, event_of, report_of, attach_fault, IsRefusal, session_flow, link_flow, attached, is_settling, settled_report};
 ghost use Rattle.amqp_perform.specs.Said.{said};
 ghost use Rattle.amqp_session.specs.Frames.{Attaches, Flows, Transfers, Disposes, Detaches, attaching, flowing, disposing, link_flow_said};
 ghost use Rattle.amqp_session.specs.Sessions.{SessionState, session_begins, session_after, session_bytes, session_ready, slot_at, slot_ready, handles, live_begins};
@@ -17,9 +17,9 @@ ghost use Rattle.amqp_perform.specs.declared.outcome.Outcome.{Outcome};
 
 use crate::fault::{CallFault, SessionFault};
 use crate::kept_link::KeptLink;
-use crate::news::News;
 use crate::refusal::refusal;
 use crate::replies;
+use crate::report::Report;
 use crate::slot::Slot;
 use crate::slots::{self, LinkStated, PeerDetached};
 use crate::table::{self, Found};
@@ -201,11 +201,11 @@ impl<A: Allocator + Copy> State<A> {
     }
 
     /// Takes an attach.
-    pub fn attach(&mut self, attach: &Attach<'_>) -> Result<News, SessionFault>
+    pub fn attach(&mut self, attach: &Attach<'_>) -> Result<Report, SessionFault>
         requires { attach.now.handle ≤ self.old.terms.handle_max }
         ensures new { OnOk result (self.new ≡ session_after self.old (event_of self.old (Attaches (attaching attach.now)))) }
         ensures accepted { OnOk result (session_fault self.old (Attaches (attaching attach.now)) ≡ None) }
-        ensures news { IfOk result (λ news. news ≡ news_of self.old (Attaches (attaching attach.now))) }
+        ensures report { IfOk result (λ report. report ≡ report_of self.old (Attaches (attaching attach.now))) }
         ensures refused { IfErr result (λ e. IsRefusal self.old (Attaches (attaching attach.now)) e) }
         ensures err { OnErr result (self.new ≡ self.old) }
     {
@@ -218,11 +218,11 @@ impl<A: Allocator + Copy> State<A> {
         match refusal(&self.terms, attach) {
             None => {
                 self.table[place] = Slot::Live(begun(self.alloc, &self.terms, attach)?);
-                Ok(News::Attached { handle })
+                Ok(Report::Attached { handle })
             }
             Some(condition) => {
                 self.table[place] = Slot::Waits;
-                Ok(News::Failed {
+                Ok(Report::Failed {
                     handle,
                     condition,
                     dropped: 0,
@@ -232,10 +232,10 @@ impl<A: Allocator + Copy> State<A> {
     }
 
     /// Takes a flow.
-    pub fn flow(&mut self, flow: &Flow<'_>) -> Result<News, SessionFault>
+    pub fn flow(&mut self, flow: &Flow<'_>) -> Result<Report, SessionFault>
         ensures new { OnOk result (self.new ≡ session_after self.old (event_of self.old (Flows (flowing flow.now)))) }
         ensures accepted { OnOk result (session_fault self.old (Flows (flowing flow.now)) ≡ None) }
-        ensures news { IfOk result (λ news. news ≡ news_of self.old (Flows (flowing flow.now))) }
+        ensures report { IfOk result (λ report. report ≡ report_of self.old (Flows (flowing flow.now))) }
         ensures refused { IfErr result (λ e. IsRefusal self.old (Flows (flowing flow.now)) e) }
         ensures err { OnErr result (self.new ≡ self.old) }
     {
@@ -243,17 +243,17 @@ impl<A: Allocator + Copy> State<A> {
             Some(handle) => self.link_flowed(handle, flow),
             None => {
                 self.next_incoming_id = flow.next_outgoing_id;
-                Ok(News::Nothing)
+                Ok(Report::Nothing)
             }
         }
     }
 
     /// Takes a flow of the link at a handle.
-    fn link_flowed(&mut self, handle: u32, flow: &Flow<'_>) -> Result<News, SessionFault>
+    fn link_flowed(&mut self, handle: u32, flow: &Flow<'_>) -> Result<Report, SessionFault>
         requires { flow.now.handle ≡ Some handle }
         ensures new { OnOk result (self.new ≡ session_after self.old (event_of self.old (Flows (flowing flow.now)))) }
         ensures accepted { OnOk result (session_fault self.old (Flows (flowing flow.now)) ≡ None) }
-        ensures news { IfOk result (λ news. news ≡ news_of self.old (Flows (flowing flow.now))) }
+        ensures report { IfOk result (λ report. report ≡ report_of self.old (Flows (flowing flow.now))) }
         ensures refused { IfErr result (λ e. IsRefusal self.old (Flows (flowing flow.now)) e) }
         ensures err { OnErr result (self.new ≡ self.old) }
     {
@@ -262,10 +262,10 @@ impl<A: Allocator + Copy> State<A> {
             return Err(SessionFault::UnattachedHandle);
         }
         match slots::flow(&mut self.table[place], handle, flow)? {
-            None => Ok(News::Nothing),
-            Some(news) => {
+            None => Ok(Report::Nothing),
+            Some(report) => {
                 self.next_incoming_id = flow.next_outgoing_id;
-                Ok(news)
+                Ok(report)
             }
         }
     }
@@ -275,10 +275,10 @@ impl<A: Allocator + Copy> State<A> {
         &mut self,
         transfer: &Transfer<'_>,
         payload: &[u8],
-    ) -> Result<News, SessionFault>
+    ) -> Result<Report, SessionFault>
         ensures new { OnOk result (self.new ≡ session_after self.old (event_of self.old (Transfers transfer.now.handle (sent_of transfer.now payload.now)))) }
         ensures accepted { OnOk result (session_fault self.old (Transfers transfer.now.handle (sent_of transfer.now payload.now)) ≡ None) }
-        ensures news { IfOk result (λ news. news ≡ news_of self.old (Transfers transfer.now.handle (sent_of transfer.now payload.now))) }
+        ensures report { IfOk result (λ report. report ≡ report_of self.old (Transfers transfer.now.handle (sent_of transfer.now payload.now))) }
         ensures refused { IfErr result (λ e. IsRefusal self.old (Transfers transfer.now.handle (sent_of transfer.now payload.now)) e) }
         ensures err { OnErr result (self.new ≡ self.old) }
     {
@@ -290,24 +290,24 @@ impl<A: Allocator + Copy> State<A> {
             return Err(SessionFault::UnattachedHandle);
         }
         let reused = table::is_reused(&self.table, place, transfer.delivery_id);
-        let news = slots::transfer(&mut self.table[place], reused, transfer, payload)?;
+        let report = slots::transfer(&mut self.table[place], reused, transfer, payload)?;
         self.window -= 1;
         self.next_incoming_id = self.next_incoming_id.wrapping_add(1);
-        Ok(news)
+        Ok(report)
     }
 
     /// Takes a disposition.
-    pub fn disposition(&mut self, disposition: &Disposition<'_>) -> News
+    pub fn disposition(&mut self, disposition: &Disposition<'_>) -> Report
         ensures new { self.new ≡ session_after self.old (event_of self.old (Disposes (disposing disposition.now))) }
-        ensures news { result ≡ news_of self.old (Disposes (disposing disposition.now)) }
+        ensures report { result ≡ report_of self.old (Disposes (disposing disposition.now)) }
     {
         let _ = &self.table;
         if !is_settling(disposition) {
-            return News::Nothing;
+            return Report::Nothing;
         }
         let first = disposition.first;
         let last = disposition.last.unwrap_or(first);
-        settled_news(table::peer_settled(&mut self.table, first, last))
+        settled_report(table::peer_settled(&mut self.table, first, last))
     }
 
     /// Takes a detach of the link at a handle.
@@ -417,12 +417,12 @@ fn is_settling(disposition: &Disposition<'_>) -> bool
 }
 
 /// What is told where so many deliveries are settled.
-fn settled_news(count: u32) -> News
-    ensures { result ≡ settled_news count }
+fn settled_report(count: u32) -> Report
+    ensures { result ≡ settled_report count }
 {
     match count {
-        0 => News::Nothing,
-        _ => News::Settled { count },
+        0 => Report::Nothing,
+        _ => Report::Settled { count },
     }
 }
 

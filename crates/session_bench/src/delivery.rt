@@ -3,7 +3,7 @@
 use crate::case::Case;
 use amqp_link::{LinkBounds, MAX_ALLOWED};
 use amqp_perform::{Outcome, Performative};
-use amqp_session::{CallFault, News, Session, SessionFault, SessionTerms};
+use amqp_session::{CallFault, Report, Session, SessionFault, SessionTerms};
 use bench_parts::frames::{attach, whole};
 use std::alloc::Global;
 
@@ -45,8 +45,8 @@ fn terms() -> SessionTerms {
 fn arrive(session: &mut Session, handle: u32, id: u32, payload: &[u8]) -> Result<u64, Stopped> {
     session.grant(handle, 1)?;
     let done = session.frame(&Performative::Transfer(whole(handle, id)), payload)?;
-    match done.news {
-        News::Ready { .. } => {}
+    match done.report {
+        Report::Ready { .. } => {}
         _ => return Err(Stopped::Link),
     }
     let taken = session.take(handle)?;

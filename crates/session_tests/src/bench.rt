@@ -2,7 +2,7 @@
 
 use amqp_link::LinkBounds;
 use amqp_perform::{Attach, Detach, Flow, Outcome, Performative, read_body, write_frame};
-use amqp_session::{Answer, CallFault, News, Session, SessionFault, SessionTerms, refusal_reply};
+use amqp_session::{Answer, CallFault, Report, Session, SessionFault, SessionTerms, refusal_reply};
 use std::alloc::{Allocator, Global};
 use std::test::Fail;
 
@@ -74,7 +74,7 @@ impl<A: Allocator + Copy> Bench<A> {
     }
 
     /// Feeds a frame without extended header.
-    pub fn feed(&mut self, frame: &[u8]) -> Option<Result<News, SessionFault>> {
+    pub fn feed(&mut self, frame: &[u8]) -> Option<Result<Report, SessionFault>> {
         let body = frame.get(8..)?;
         let (performative, len) = read_body(body).ok()?;
         let payload = body.get(len..)?;
@@ -91,7 +91,7 @@ impl<A: Allocator + Copy> Bench<A> {
         &mut self,
         performative: &Performative<'_>,
         payload: &[u8],
-    ) -> Result<News, SessionFault> {
+    ) -> Result<Report, SessionFault> {
         if let Performative::Attach(p) = performative {
             if p.handle > u32::from(self.session.terms().handle_max) {
                 return Err(SessionFault::HandleInUse);
@@ -105,7 +105,7 @@ impl<A: Allocator + Copy> Bench<A> {
             (Answer::Refusal(detach), Performative::Attach(p)) => self.refuse(p, detach),
             _ => {}
         }
-        Ok(done.news)
+        Ok(done.report)
     }
 
     fn accept(&mut self, attach: &Attach<'_>) {

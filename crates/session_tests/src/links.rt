@@ -2,7 +2,7 @@
 
 use crate::bench::{ATTACH, Bench, ONE, ZERO, ready, terms};
 use amqp_perform::Condition;
-use amqp_session::{CallFault, News, SessionFault, SessionTerms};
+use amqp_session::{CallFault, Report, SessionFault, SessionTerms};
 use std::test::Fail;
 
 /// A detach of the handle 0, closed.
@@ -12,7 +12,7 @@ const DETACH: &[u8] = b"\x00\x00\x00\x10\x02\x00\x00\x00\x00\x53\x16\xc0\x03\x02
 fn a_link_on_which_the_peer_receives_is_refused(rt: HostRuntime) -> Result<(), Fail> {
     let mut session = Bench::new(rt.alloc(), terms(100, 4)?);
     let attach = b"\x00\x00\x00\x13\x02\x00\x00\x00\x00\x53\x12\xc0\x06\x03\xa1\x01l\x43\x41";
-    let refused = News::Failed {
+    let refused = Report::Failed {
         handle: 0,
         condition: Condition::NotImplemented,
         dropped: 0,
@@ -24,7 +24,7 @@ fn a_link_on_which_the_peer_receives_is_refused(rt: HostRuntime) -> Result<(), F
     );
     assert_eq!(rt; session.held(), 192);
     assert_eq!(rt; session.feed(ATTACH), Some(Err(SessionFault::HandleInUse)));
-    let gone = News::Detached {
+    let gone = Report::Detached {
         handle: 0,
         dropped: 0,
     };
@@ -32,7 +32,7 @@ fn a_link_on_which_the_peer_receives_is_refused(rt: HostRuntime) -> Result<(), F
     assert_eq!(rt; session.said(), b"".as_slice());
     assert_eq!(rt;
         session.feed(ATTACH),
-        Some(Ok(News::Attached { handle: 0 }))
+        Some(Ok(Report::Attached { handle: 0 }))
     );
     Ok(())
 }
@@ -46,7 +46,7 @@ fn a_coordinator_is_refused(rt: HostRuntime) -> Result<(), Fail> {
     ];
     for attach in targets {
         let mut session = Bench::new(rt.alloc(), terms(100, 4)?);
-        let refused = News::Failed {
+        let refused = Report::Failed {
             handle: 0,
             condition: Condition::NotImplemented,
             dropped: 0,
@@ -68,10 +68,10 @@ fn the_answer_fits_a_frame_of_the_peer(rt: HostRuntime) -> Result<(), Fail> {
     let mut session = Bench::new(rt.alloc(), small(34)?);
     assert_eq!(rt;
         session.feed(ATTACH),
-        Some(Ok(News::Attached { handle: 0 }))
+        Some(Ok(Report::Attached { handle: 0 }))
     );
     let mut session = Bench::new(rt.alloc(), small(33)?);
-    let refused = News::Failed {
+    let refused = Report::Failed {
         handle: 0,
         condition: Condition::FrameSizeTooSmall,
         dropped: 0,
@@ -84,12 +84,12 @@ fn the_answer_fits_a_frame_of_the_peer(rt: HostRuntime) -> Result<(), Fail> {
 #[test]
 fn a_detached_link_waits(rt: HostRuntime) -> Result<(), Fail> {
     let mut session = ready(rt.alloc(), terms(100, 4)?, ATTACH, 2)?;
-    assert_eq!(rt; session.feed(ZERO), Some(Ok(News::Ready { handle: 0 })));
+    assert_eq!(rt; session.feed(ZERO), Some(Ok(Report::Ready { handle: 0 })));
     assert_eq!(rt; session.detach(0), Ok(1));
     assert_eq!(rt; session.said(), DETACH);
     assert_eq!(rt; session.detach(0), Err(CallFault::NoLink));
     assert_eq!(rt; session.take(0), Err(CallFault::NoLink));
-    assert_eq!(rt; session.feed(ONE), Some(Ok(News::Nothing)));
+    assert_eq!(rt; session.feed(ONE), Some(Ok(Report::Nothing)));
     let shown = session.shown();
     assert_eq!(rt;
         (shown.window, shown.next_incoming_id, shown.held),
@@ -97,10 +97,10 @@ fn a_detached_link_waits(rt: HostRuntime) -> Result<(), Fail> {
     );
     let flow =
         b"\x00\x00\x00\x1b\x02\x00\x00\x00\x00\x53\x13\xc0\x0e\x0a\x43\x52\x64\x52\x09\x52\x64\x43\x40\x40\x40\x40\x41";
-    assert_eq!(rt; session.feed(flow), Some(Ok(News::Nothing)));
+    assert_eq!(rt; session.feed(flow), Some(Ok(Report::Nothing)));
     assert_eq!(rt; session.said(), b"".as_slice());
     assert_eq!(rt; session.shown(), shown);
-    let gone = News::Detached {
+    let gone = Report::Detached {
         handle: 0,
         dropped: 0,
     };
@@ -111,7 +111,7 @@ fn a_detached_link_waits(rt: HostRuntime) -> Result<(), Fail> {
     );
     assert_eq!(rt;
         session.feed(ATTACH),
-        Some(Ok(News::Attached { handle: 0 }))
+        Some(Ok(Report::Attached { handle: 0 }))
     );
     assert_eq!(rt; session.shown().link, Some((0, 0, 0)));
     Ok(())
@@ -121,9 +121,9 @@ fn a_detached_link_waits(rt: HostRuntime) -> Result<(), Fail> {
 #[test]
 fn a_detach_is_answered(rt: HostRuntime) -> Result<(), Fail> {
     let mut session = ready(rt.alloc(), terms(100, 4)?, ATTACH, 1)?;
-    assert_eq!(rt; session.feed(ZERO), Some(Ok(News::Ready { handle: 0 })));
+    assert_eq!(rt; session.feed(ZERO), Some(Ok(Report::Ready { handle: 0 })));
     let open = b"\x00\x00\x00\x0f\x02\x00\x00\x00\x00\x53\x16\xc0\x02\x01\x43";
-    let gone = News::Detached {
+    let gone = Report::Detached {
         handle: 0,
         dropped: 1,
     };

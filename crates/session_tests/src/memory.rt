@@ -2,7 +2,7 @@
 
 use crate::bench::{ATTACH, Bench, ONE, TWO, ZERO, terms};
 use amqp_perform::Outcome;
-use amqp_session::{News, SessionFault};
+use amqp_session::{Report, SessionFault};
 use std::alloc::Global;
 use std::process::Abort;
 use std::test::Fail;
@@ -29,12 +29,12 @@ fn three_deliveries(rt: &impl Abort, alloc: Global, number: u64) -> Result<u32, 
     let mut session = Bench::new(&heap, terms(100, 4)?);
     let mut refused: u32 = 0;
     let frames = [
-        (ATTACH, News::Attached { handle: 0 }),
-        (ZERO, News::Ready { handle: 0 }),
-        (ONE, News::Ready { handle: 0 }),
-        (TWO, News::Ready { handle: 0 }),
+        (ATTACH, Report::Attached { handle: 0 }),
+        (ZERO, Report::Ready { handle: 0 }),
+        (ONE, Report::Ready { handle: 0 }),
+        (TWO, Report::Ready { handle: 0 }),
     ];
-    for (frame, news) in frames {
+    for (frame, report) in frames {
         let before = session.shown();
         let mut answer = session.feed(frame);
         if answer == Some(Err(SessionFault::NoMemory)) {
@@ -42,7 +42,7 @@ fn three_deliveries(rt: &impl Abort, alloc: Global, number: u64) -> Result<u32, 
             refused = refused.saturating_add(1);
             answer = session.feed(frame);
         }
-        assert_eq!(rt; answer, Some(Ok(news)), "at {number}");
+        assert_eq!(rt; answer, Some(Ok(report)), "at {number}");
         if frame == ATTACH {
             assert_eq!(rt; session.grant(0, 3), Ok(()), "at {number}");
         }

@@ -2,7 +2,7 @@
 
 use crate::bench::{ATTACH, ATTACH_SECOND, ONE, ZERO, ready, terms};
 use amqp_perform::{Condition, Outcome};
-use amqp_session::{CallFault, News};
+use amqp_session::{CallFault, Report};
 use std::test::Fail;
 
 /// The attach of a sender at the handle 1, in mode first.
@@ -20,7 +20,7 @@ const ZERO_THERE: &[u8] =
 #[test]
 fn in_mode_second_the_sender_settles(rt: HostRuntime) -> Result<(), Fail> {
     let mut session = ready(rt.alloc(), terms(100, 4)?, ATTACH_SECOND, 1)?;
-    assert_eq!(rt; session.feed(ZERO), Some(Ok(News::Ready { handle: 0 })));
+    assert_eq!(rt; session.feed(ZERO), Some(Ok(Report::Ready { handle: 0 })));
     assert_eq!(rt;
         session.settle(0, Outcome::Accepted),
         Err(CallFault::NotTaken)
@@ -36,8 +36,8 @@ fn in_mode_second_the_sender_settles(rt: HostRuntime) -> Result<(), Fail> {
         Err(CallFault::AlreadyTold)
     );
     let settled = b"\x00\x00\x00\x12\x02\x00\x00\x00\x00\x53\x15\xc0\x05\x04\x42\x43\x40\x41";
-    assert_eq!(rt; session.feed(settled), Some(Ok(News::Settled { count: 1 })));
-    assert_eq!(rt; session.feed(settled), Some(Ok(News::Nothing)));
+    assert_eq!(rt; session.feed(settled), Some(Ok(Report::Settled { count: 1 })));
+    assert_eq!(rt; session.feed(settled), Some(Ok(Report::Nothing)));
     Ok(())
 }
 
@@ -45,13 +45,13 @@ fn in_mode_second_the_sender_settles(rt: HostRuntime) -> Result<(), Fail> {
 #[test]
 fn a_told_delivery_keeps_its_place(rt: HostRuntime) -> Result<(), Fail> {
     let mut session = ready(rt.alloc(), terms(100, 4)?, ATTACH_SECOND, 1)?;
-    assert_eq!(rt; session.feed(ZERO), Some(Ok(News::Ready { handle: 0 })));
+    assert_eq!(rt; session.feed(ZERO), Some(Ok(Report::Ready { handle: 0 })));
     assert_eq!(rt; session.take(0), Ok((0, 1)));
     assert_eq!(rt; session.settle(0, Outcome::Released), Ok(()));
     assert_eq!(rt; session.grant(0, 4), Err(CallFault::TooMuchCredit));
     assert_eq!(rt; session.grant(0, 3), Ok(()));
     let settled = b"\x00\x00\x00\x12\x02\x00\x00\x00\x00\x53\x15\xc0\x05\x04\x42\x43\x40\x41";
-    assert_eq!(rt; session.feed(settled), Some(Ok(News::Settled { count: 1 })));
+    assert_eq!(rt; session.feed(settled), Some(Ok(Report::Settled { count: 1 })));
     assert_eq!(rt; session.grant(0, 1), Ok(()));
     Ok(())
 }
@@ -62,13 +62,13 @@ fn a_range_across_the_end_of_the_ids(rt: HostRuntime) -> Result<(), Fail> {
     let mut session = ready(rt.alloc(), terms(100, 4)?, ATTACH_SECOND, 2)?;
     let last =
         b"\x00\x00\x00\x18\x02\x00\x00\x00\x00\x53\x14\xc0\x0a\x03\x43\x70\xff\xff\xff\xff\xa0\x01tx";
-    assert_eq!(rt; session.feed(last), Some(Ok(News::Ready { handle: 0 })));
-    assert_eq!(rt; session.feed(ZERO), Some(Ok(News::Ready { handle: 0 })));
+    assert_eq!(rt; session.feed(last), Some(Ok(Report::Ready { handle: 0 })));
+    assert_eq!(rt; session.feed(ZERO), Some(Ok(Report::Ready { handle: 0 })));
     assert_eq!(rt; session.take(0), Ok((u32::MAX, 1)));
     assert_eq!(rt; session.take(0), Ok((0, 1)));
     let both =
         b"\x00\x00\x00\x16\x02\x00\x00\x00\x00\x53\x15\xc0\x09\x04\x42\x70\xff\xff\xff\xff\x43\x41";
-    assert_eq!(rt; session.feed(both), Some(Ok(News::Settled { count: 2 })));
+    assert_eq!(rt; session.feed(both), Some(Ok(Report::Settled { count: 2 })));
     Ok(())
 }
 
@@ -78,23 +78,23 @@ fn ids_are_those_of_the_session(rt: HostRuntime) -> Result<(), Fail> {
     let mut session = ready(rt.alloc(), terms(100, 4)?, ATTACH, 2)?;
     assert_eq!(rt;
         session.feed(SECOND_LINK),
-        Some(Ok(News::Attached { handle: 1 }))
+        Some(Ok(Report::Attached { handle: 1 }))
     );
     assert_eq!(rt; session.grant(1, 2), Ok(()));
-    assert_eq!(rt; session.feed(ZERO), Some(Ok(News::Ready { handle: 0 })));
+    assert_eq!(rt; session.feed(ZERO), Some(Ok(Report::Ready { handle: 0 })));
     assert_eq!(rt;
         session.feed(ONE_THERE),
-        Some(Ok(News::Ready { handle: 1 }))
+        Some(Ok(Report::Ready { handle: 1 }))
     );
     let both = b"\x00\x00\x00\x13\x02\x00\x00\x00\x00\x53\x15\xc0\x06\x04\x42\x43\x52\x01\x41";
-    assert_eq!(rt; session.feed(both), Some(Ok(News::Settled { count: 2 })));
-    let reused = News::Failed {
+    assert_eq!(rt; session.feed(both), Some(Ok(Report::Settled { count: 2 })));
+    let reused = Report::Failed {
         handle: 1,
         condition: Condition::InvalidField,
         dropped: 1,
     };
     assert_eq!(rt; session.feed(ZERO_THERE), Some(Ok(reused)));
     assert_eq!(rt; session.take(0), Ok((0, 1)));
-    assert_eq!(rt; session.feed(ONE), Some(Ok(News::Ready { handle: 0 })));
+    assert_eq!(rt; session.feed(ONE), Some(Ok(Report::Ready { handle: 0 })));
     Ok(())
 }

@@ -2,14 +2,14 @@
 
 use crate::bench::{ATTACH, ONE, THREE, TWO, ZERO, ready, terms};
 use amqp_perform::{Condition, Outcome};
-use amqp_session::{CallFault, News, SessionFault};
+use amqp_session::{CallFault, Report, SessionFault};
 use std::test::Fail;
 
-const READY: Option<Result<News, SessionFault>> = Some(Ok(News::Ready { handle: 0 }));
+const READY: Option<Result<Report, SessionFault>> = Some(Ok(Report::Ready { handle: 0 }));
 
 /// The link ends with this condition.
-fn failed(condition: Condition, dropped: u32) -> Option<Result<News, SessionFault>> {
-    Some(Ok(News::Failed {
+fn failed(condition: Condition, dropped: u32) -> Option<Result<Report, SessionFault>> {
+    Some(Ok(Report::Failed {
         handle: 0,
         condition,
         dropped,
@@ -29,7 +29,7 @@ fn a_delivery_in_three_transfers(rt: HostRuntime) -> Result<(), Fail> {
         session.said(),
         b"\x00\x00\x00\x17\x02\x00\x00\x00\x00\x53\x13\xc0\x0a\x07\x43\x52\x64\x43\x43\x43\x43\x52\x01".as_slice()
     );
-    let unfinished = Some(Ok(News::Unfinished { handle: 0 }));
+    let unfinished = Some(Ok(Report::Unfinished { handle: 0 }));
     let first =
         b"\x00\x00\x00\x19\x02\x00\x00\x00\x00\x53\x14\xc0\x09\x06\x43\x43\xa0\x01t\x40\x40\x41abc";
     assert_eq!(rt; session.feed(first), unfinished);
@@ -108,15 +108,15 @@ fn credit_runs_out_behind_the_end_of_the_count(rt: HostRuntime) -> Result<(), Fa
 /// What a sender may state of its count when it was asked to use five places of credit up.
 #[test]
 fn a_drained_sender_states_its_count(rt: HostRuntime) -> Result<(), Fail> {
-    let flows: [(&[u8], Option<Result<News, SessionFault>>, Option<u32>); 3] = [
+    let flows: [(&[u8], Option<Result<Report, SessionFault>>, Option<u32>); 3] = [
         (
             b"\x00\x00\x00\x1a\x02\x00\x00\x00\x00\x53\x13\xc0\x0d\x09\x43\x52\x64\x43\x52\x64\x43\x52\x05\x43\x40\x41",
-            Some(Ok(News::Drained { handle: 0 })),
+            Some(Ok(Report::Drained { handle: 0 })),
             Some(0),
         ),
         (
             b"\x00\x00\x00\x1d\x02\x00\x00\x00\x00\x53\x13\xc0\x10\x09\x43\x52\x64\x43\x52\x64\x43\x70\xff\xff\xff\xff\x43\x40\x41",
-            Some(Ok(News::Nothing)),
+            Some(Ok(Report::Nothing)),
             Some(5),
         ),
         (
@@ -125,14 +125,14 @@ fn a_drained_sender_states_its_count(rt: HostRuntime) -> Result<(), Fail> {
             None,
         ),
     ];
-    for (flow, news, credit) in flows {
+    for (flow, report, credit) in flows {
         let mut session = ready(rt.alloc(), terms(100, 5)?, ATTACH, 5)?;
         assert_eq!(rt; session.drain(0), Ok(()));
         assert_eq!(rt;
             session.said(),
             b"\x00\x00\x00\x19\x02\x00\x00\x00\x00\x53\x13\xc0\x0c\x09\x43\x52\x64\x43\x43\x43\x43\x52\x05\x40\x41".as_slice()
         );
-        assert_eq!(rt; session.feed(flow), news);
+        assert_eq!(rt; session.feed(flow), report);
         let left = match session.shown().link {
             Some(link) => Some(link.0),
             None => None,
@@ -149,7 +149,7 @@ fn a_flow_restates_the_number(rt: HostRuntime) -> Result<(), Fail> {
     assert_eq!(rt; session.feed(ZERO), READY);
     let flow =
         b"\x00\x00\x00\x1b\x02\x00\x00\x00\x00\x53\x13\xc0\x0e\x0a\x43\x52\x64\x52\x07\x52\x64\x40\x40\x40\x40\x40\x41";
-    assert_eq!(rt; session.feed(flow), Some(Ok(News::Nothing)));
+    assert_eq!(rt; session.feed(flow), Some(Ok(Report::Nothing)));
     assert_eq!(rt;
         session.said(),
         b"\x00\x00\x00\x14\x02\x00\x00\x00\x00\x53\x13\xc0\x07\x04\x52\x07\x52\x63\x43\x43".as_slice()

@@ -11,7 +11,7 @@ answer_failure-requires-clause-short g c =
     let old = c.args.connection.now in
     let t = live_there (slot_at old c.args.channel) c.requires.live in
     failure_fits old c.transfer.new.self c.args.channel c.args.transfer.now.handle (sent_of c.args.transfer.now c.args.payload.now)
-    t.0 c.frames_are_as_long.ensures c.in-Ok.news (c.in-Ok.ensures t.0 t.1)
+    t.0 c.frames_are_as_long.ensures c.in-Ok.report (c.in-Ok.ensures t.0 t.1)
 
 pub fail-requires-clause-channel : goal.fail-requires-clause-channel
 fail-requires-clause-channel g c =
@@ -21,7 +21,7 @@ fail-requires-clause-channel g c =
 
 pub returns-in-Ok : goal.returns-in-Ok
 returns-in-Ok g c = λ t live.
-    transfer_taken c.args.connection.now c.transfer.new.self c.args.channel c.args.transfer.now.handle (sent_of c.args.transfer.now c.args.payload.now) t c.in-Ok.news (c.in-Ok.ensures t live)
+    transfer_taken c.args.connection.now c.transfer.new.self c.args.channel c.args.transfer.now.handle (sent_of c.args.transfer.now c.args.payload.now) t c.in-Ok.report (c.in-Ok.ensures t live)
     c.args.out.now c.answer_failure.new.out c.told.result c.answer_failure.ensures c.told.ensures
 
 pub returns-in-None : goal.returns-in-None

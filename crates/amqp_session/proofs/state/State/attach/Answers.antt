@@ -50,8 +50,8 @@ returns-in_ok-begun-in-None-clause-new g c =
     (let within : c.args.attach.now.handle ≤ c.self.inside.terms.handle_max = (subst (λ (t : SessionState). c.args.attach.now.handle ≤ t.terms.handle_max) (sym c.self.view_is) c.requires) in
     c.reach.ensures.most (handles c.self.inside.terms) (omega (arith, within)) c.self.invariant.reached) (sym c.in-None.ensures) (ap (λ (l : LiveLink). Live l) c.in_ok-begun-in-None.ensures)
 
-pub returns-in_ok-begun-in-None-clause-news : goal.returns-in_ok-begun-in-None-clause-news
-returns-in_ok-begun-in-None-clause-news g c =
+pub returns-in_ok-begun-in-None-clause-report : goal.returns-in_ok-begun-in-None-clause-report
+returns-in_ok-begun-in-None-clause-report g c =
     attach_told c.self.inside.terms c.self.inside.window c.self.inside.next_incoming_id c.self.inside.table.items c.args.self.now c.self.view_is c.self.invariant c.reach.new.table.items
     c.reach.ensures.same (attaching c.args.attach.now) None (sym c.in-None.ensures)
 
@@ -63,7 +63,7 @@ returns-in-Some-refusal-clause-new g c =
     (let within : c.args.attach.now.handle ≤ c.self.inside.terms.handle_max = (subst (λ (t : SessionState). c.args.attach.now.handle ≤ t.terms.handle_max) (sym c.self.view_is) c.requires) in
     c.reach.ensures.most (handles c.self.inside.terms) (omega (arith, within)) c.self.invariant.reached) (sym c.in-Some-refusal.ensures)
 
-pub returns-in-Some-refusal-clause-news : goal.returns-in-Some-refusal-clause-news
-returns-in-Some-refusal-clause-news g c =
+pub returns-in-Some-refusal-clause-report : goal.returns-in-Some-refusal-clause-report
+returns-in-Some-refusal-clause-report g c =
     attach_told c.self.inside.terms c.self.inside.window c.self.inside.next_incoming_id c.self.inside.table.items c.args.self.now c.self.view_is c.self.invariant c.reach.new.table.items
     c.reach.ensures.same (attaching c.args.attach.now) (Some c.in-Some-refusal.condition) (sym c.in-Some-refusal.ensures)

@@ -1,9 +1,9 @@
 use Rattle.std.proofs.Common.{arith, refl, ◌∙◌, ap, sym, subst}
 use Rattle.std.proofs.lemmas.Result.{err_from_is_err_and}
 use Rattle.amqp_session.specs.Frames.{flowing}
-use Rattle.amqp_session.specs.Faults.{is_free, flow_news}
+use Rattle.amqp_session.specs.Faults.{is_free, flow_report}
 use Rattle.amqp_session.specs.Slots.{IsFlowTold}
-use Rattle.amqp_session.specs.declared.news.News.TheVariants as news
+use Rattle.amqp_session.specs.declared.report.Report.TheVariants as report
 use Rattle.amqp_session.specs.declared.slot.Slot.TheVariants.{Free}
 use Rattle.amqp_session.proofs.States.{slot_is, slot_past, link_flowed, flow_dropped, flow_kept, flow_accepted, flow_refused, flow_told, told_none, told_some, live_used, free_kept}
 use Rattle.amqp_session.proofs.state.State.link_flowed.Goals as goal
@@ -33,39 +33,39 @@ returns-in-None-clause-new g c =
     flow_dropped c.self.inside.terms c.self.inside.window c.self.inside.next_incoming_id c.self.inside.table.items c.args.self.now c.self.view_is c.self.invariant
     (flowing c.args.flow.now) c.args.handle c.index_mut.result.now c.flow.new.slot c.requires c.self.ranges.1.1.1.0.1 c.index_mut.ensures.value (omega arith)
     (told_none c.args.handle (flowing c.args.flow.now) c.index_mut.result.now (subst (λ o. IsFlowTold c.args.handle (flowing c.args.flow.now) c.index_mut.result.now o) c.in-None.is
-    c.in_ok-flow.ensures.news)) c.flow.ensures.new
+    c.in_ok-flow.ensures.report)) c.flow.ensures.new
 
 pub returns-in-None-clause-accepted : goal.returns-in-None-clause-accepted
 returns-in-None-clause-accepted g c =
     flow_accepted c.self.inside.terms c.self.inside.window c.self.inside.next_incoming_id c.self.inside.table.items c.args.self.now c.self.view_is c.self.invariant
     (flowing c.args.flow.now) c.args.handle c.index_mut.result.now c.requires c.index_mut.ensures.value (omega arith) (ap is_free
     (told_none c.args.handle (flowing c.args.flow.now) c.index_mut.result.now (subst (λ o. IsFlowTold c.args.handle (flowing c.args.flow.now) c.index_mut.result.now o) c.in-None.is
-    c.in_ok-flow.ensures.news)))
+    c.in_ok-flow.ensures.report)))
 
-pub returns-in-None-clause-news : goal.returns-in-None-clause-news
-returns-in-None-clause-news g c =
+pub returns-in-None-clause-report : goal.returns-in-None-clause-report
+returns-in-None-clause-report g c =
     flow_told c.self.inside.terms c.self.inside.window c.self.inside.next_incoming_id c.self.inside.table.items c.args.self.now c.self.view_is c.self.invariant
-    (flowing c.args.flow.now) c.args.handle c.index_mut.result.now news.Nothing c.requires c.index_mut.ensures.value (omega arith)
-    (sym (ap (flow_news c.args.handle (flowing c.args.flow.now)) (told_none c.args.handle (flowing c.args.flow.now) c.index_mut.result.now
-    (subst (λ o. IsFlowTold c.args.handle (flowing c.args.flow.now) c.index_mut.result.now o) c.in-None.is c.in_ok-flow.ensures.news))))
+    (flowing c.args.flow.now) c.args.handle c.index_mut.result.now report.Nothing c.requires c.index_mut.ensures.value (omega arith)
+    (sym (ap (flow_report c.args.handle (flowing c.args.flow.now)) (told_none c.args.handle (flowing c.args.flow.now) c.index_mut.result.now
+    (subst (λ o. IsFlowTold c.args.handle (flowing c.args.flow.now) c.index_mut.result.now o) c.in-None.is c.in_ok-flow.ensures.report))))
 
 pub returns-in-Some-clause-new : goal.returns-in-Some-clause-new
 returns-in-Some-clause-new g c =
     link_flowed c.self.inside.terms c.self.inside.window c.self.inside.next_incoming_id c.self.inside.table.items c.args.self.now c.self.view_is c.self.invariant
     (flowing c.args.flow.now) c.args.handle c.index_mut.result.now c.flow.new.slot c.requires (omega arith) c.index_mut.ensures.value (omega arith)
-    (told_some c.args.handle (flowing c.args.flow.now) c.index_mut.result.now c.in-Some.news
-    (subst (λ o. IsFlowTold c.args.handle (flowing c.args.flow.now) c.index_mut.result.now o) c.in-Some.is c.in_ok-flow.ensures.news)).0 c.flow.ensures.new
+    (told_some c.args.handle (flowing c.args.flow.now) c.index_mut.result.now c.in-Some.report
+    (subst (λ o. IsFlowTold c.args.handle (flowing c.args.flow.now) c.index_mut.result.now o) c.in-Some.is c.in_ok-flow.ensures.report)).0 c.flow.ensures.new
 
 pub returns-in-Some-clause-accepted : goal.returns-in-Some-clause-accepted
 returns-in-Some-clause-accepted g c =
     flow_accepted c.self.inside.terms c.self.inside.window c.self.inside.next_incoming_id c.self.inside.table.items c.args.self.now c.self.view_is c.self.invariant
     (flowing c.args.flow.now) c.args.handle c.index_mut.result.now c.requires c.index_mut.ensures.value (omega arith) (live_used c.index_mut.result.now
-    (told_some c.args.handle (flowing c.args.flow.now) c.index_mut.result.now c.in-Some.news
-    (subst (λ o. IsFlowTold c.args.handle (flowing c.args.flow.now) c.index_mut.result.now o) c.in-Some.is c.in_ok-flow.ensures.news)).0)
+    (told_some c.args.handle (flowing c.args.flow.now) c.index_mut.result.now c.in-Some.report
+    (subst (λ o. IsFlowTold c.args.handle (flowing c.args.flow.now) c.index_mut.result.now o) c.in-Some.is c.in_ok-flow.ensures.report)).0)
 
-pub returns-in-Some-clause-news : goal.returns-in-Some-clause-news
-returns-in-Some-clause-news g c =
+pub returns-in-Some-clause-report : goal.returns-in-Some-clause-report
+returns-in-Some-clause-report g c =
     flow_told c.self.inside.terms c.self.inside.window c.self.inside.next_incoming_id c.self.inside.table.items c.args.self.now c.self.view_is c.self.invariant
-    (flowing c.args.flow.now) c.args.handle c.index_mut.result.now c.in-Some.news c.requires c.index_mut.ensures.value (omega arith)
-    (told_some c.args.handle (flowing c.args.flow.now) c.index_mut.result.now c.in-Some.news
-    (subst (λ o. IsFlowTold c.args.handle (flowing c.args.flow.now) c.index_mut.result.now o) c.in-Some.is c.in_ok-flow.ensures.news)).1
+    (flowing c.args.flow.now) c.args.handle c.index_mut.result.now c.in-Some.report c.requires c.index_mut.ensures.value (omega arith)
+    (told_some c.args.handle (flowing c.args.flow.now) c.index_mut.result.now c.in-Some.report
+    (subst (λ o. IsFlowTold c.args.handle (flowing c.args.flow.now) c.index_mut.result.now o) c.in-Some.is c.in_ok-flow.ensures.report)).1

@@ -14,27 +14,27 @@ returns-then-place-len-clause-refused g c =
     Free (slot_past c.self.inside.terms c.self.inside.window c.self.inside.next_incoming_id c.self.inside.table.items c.args.self.now c.self.view_is c.self.invariant
     c.args.transfer.now.handle (omega arith)) refl
 
-pub returns-in_err-news-clause-refused : goal.returns-in_err-news-clause-refused
-returns-in_err-news-clause-refused g c =
+pub returns-in_err-report-clause-refused : goal.returns-in_err-report-clause-refused
+returns-in_err-report-clause-refused g c =
     let p = err_from_is_err_and c.from_residual.result c.from_residual.ensures.1 in rw (p.1, p.2)
     (came_refused c.self.inside.terms c.self.inside.window c.self.inside.next_incoming_id c.self.inside.table.items c.args.self.now c.self.view_is c.self.invariant
     (sent_of c.args.transfer.now c.args.payload.now) c.args.transfer.now.handle c.index_mut.result.now c.is_reused-reused.result _ (omega arith) c.index_mut.ensures.value (omega arith)
-    (c.is_reused-reused.ensures ∙ ap (λ ls. slot_reused ls c.args.transfer.now.delivery_id (at_place ls c.args.transfer.now.handle)) c.deref.ensures.value) c.in_err-news.ensures.refused)
+    (c.is_reused-reused.ensures ∙ ap (λ ls. slot_reused ls c.args.transfer.now.delivery_id (at_place ls c.args.transfer.now.handle)) c.deref.ensures.value) c.in_err-report.ensures.refused)
 
 pub returns-clause-new : goal.returns-clause-new
 returns-clause-new g c =
     came c.self.inside.terms c.self.inside.window c.self.inside.next_incoming_id c.self.inside.table.items c.args.self.now c.self.view_is c.self.invariant
     (sent_of c.args.transfer.now c.args.payload.now) c.args.transfer.now.handle c.index_mut.result.now c.transfer.new.slot c.is_reused-reused.result c.self.ranges.1.1.1.0.1
-    (omega arith) c.index_mut.ensures.value (omega arith) c.in_ok-news.ensures.used
-    (c.is_reused-reused.ensures ∙ ap (λ ls. slot_reused ls c.args.transfer.now.delivery_id (at_place ls c.args.transfer.now.handle)) c.deref.ensures.value) c.in_ok-news.ensures.new
+    (omega arith) c.index_mut.ensures.value (omega arith) c.in_ok-report.ensures.used
+    (c.is_reused-reused.ensures ∙ ap (λ ls. slot_reused ls c.args.transfer.now.delivery_id (at_place ls c.args.transfer.now.handle)) c.deref.ensures.value) c.in_ok-report.ensures.new
 
 pub returns-clause-accepted : goal.returns-clause-accepted
 returns-clause-accepted g c =
     came_accepted c.self.inside.terms c.self.inside.window c.self.inside.next_incoming_id c.self.inside.table.items c.args.self.now c.self.view_is c.self.invariant
-    (sent_of c.args.transfer.now c.args.payload.now) c.args.transfer.now.handle c.index_mut.result.now (omega arith) c.index_mut.ensures.value (omega arith) c.in_ok-news.ensures.used
+    (sent_of c.args.transfer.now c.args.payload.now) c.args.transfer.now.handle c.index_mut.result.now (omega arith) c.index_mut.ensures.value (omega arith) c.in_ok-report.ensures.used
 
-pub returns-clause-news : goal.returns-clause-news
-returns-clause-news g c =
+pub returns-clause-report : goal.returns-clause-report
+returns-clause-report g c =
     came_told c.self.inside.terms c.self.inside.window c.self.inside.next_incoming_id c.self.inside.table.items c.args.self.now c.self.view_is c.self.invariant
     (sent_of c.args.transfer.now c.args.payload.now) c.args.transfer.now.handle c.index_mut.result.now c.is_reused-reused.result _ c.index_mut.ensures.value (omega arith)
-    (c.is_reused-reused.ensures ∙ ap (λ ls. slot_reused ls c.args.transfer.now.delivery_id (at_place ls c.args.transfer.now.handle)) c.deref.ensures.value) c.in_ok-news.ensures.news
+    (c.is_reused-reused.ensures ∙ ap (λ ls. slot_reused ls c.args.transfer.now.delivery_id (at_place ls c.args.transfer.now.handle)) c.deref.ensures.value) c.in_ok-report.ensures.report

@@ -4,7 +4,7 @@ use amqp_perform::Condition;
 
 /// What a frame that was accepted did.
 #[derive(Clone, Copy, Debug, PartialEq, Eq)]
-pub enum News {
+pub enum Report {
     /// Nothing that has to be told.
     Nothing,
     /// A link attached [2.6.3].
