@@ -12,7 +12,7 @@ use std::net::{OpenListener, OpenStream};
 
 /// How a connection was served.
 #[derive(Clone, Copy, Debug, PartialEq, Eq)]
-enum Told {
+enum Ending {
     /// The peer closed it.
     Closed,
     /// This side ended it with an error, or refused its header.
@@ -31,34 +31,34 @@ enum Told {
     NoMemory,
 }
 
-impl Display for Told {
+impl Display for Ending {
     fn fmt<W: fmt::Write>(&self, f: &mut Formatter<W>) -> fmt::Result {
         f.write_str(match self {
-            Told::Closed => "Closed",
-            Told::Failed => "Failed",
-            Told::Between => "Between",
-            Told::Inside => "Inside",
-            Told::Read => "Read",
-            Told::Write => "Write",
-            Told::Sink => "Sink",
-            Told::NoMemory => "NoMemory",
+            Ending::Closed => "Closed",
+            Ending::Failed => "Failed",
+            Ending::Between => "Between",
+            Ending::Inside => "Inside",
+            Ending::Read => "Read",
+            Ending::Write => "Write",
+            Ending::Sink => "Sink",
+            Ending::NoMemory => "NoMemory",
         })
     }
 }
 
 /// How a connection was served, by the answer of `serve`.
-fn told_of(served: Result<End, ServeFault>) -> Told
-    ensures { (result ≡ Told.Sink) ↔ (served ≡ Err ServeFault.Sink) }
+fn ending_of(served: Result<End, ServeFault>) -> Ending
+    ensures { (result ≡ Ending.Sink) ↔ (served ≡ Err ServeFault.Sink) }
 {
     match served {
-        Ok(End::Closed) => Told::Closed,
-        Ok(End::Failed) => Told::Failed,
-        Ok(End::Between) => Told::Between,
-        Ok(End::Inside(_)) => Told::Inside,
-        Err(ServeFault::Read) => Told::Read,
-        Err(ServeFault::Write) => Told::Write,
-        Err(ServeFault::Sink) => Told::Sink,
-        Err(ServeFault::NoMemory) => Told::NoMemory,
+        Ok(End::Closed) => Ending::Closed,
+        Ok(End::Failed) => Ending::Failed,
+        Ok(End::Between) => Ending::Between,
+        Ok(End::Inside(_)) => Ending::Inside,
+        Err(ServeFault::Read) => Ending::Read,
+        Err(ServeFault::Write) => Ending::Write,
+        Err(ServeFault::Sink) => Ending::Sink,
+        Err(ServeFault::NoMemory) => Ending::NoMemory,
     }
 }
 
@@ -83,10 +83,10 @@ where
     for number in 1..=connections {
         let told = serve_next(alloc, listener, config, policy, sink);
         let _ = eprintln!(log; "connection {number}: {told}");
-        if told != Told::Closed {
+        if told != Ending::Closed {
             all_closed = false;
         }
-        if told == Told::Sink {
+        if told == Ending::Sink {
             break;
         }
     }
@@ -100,28 +100,28 @@ fn serve_next<L: OpenListener, S: Write + Drop>(
     config: &Config,
     policy: Policy,
     sink: &mut Device<S>,
-) -> Told
+) -> Ending
 where
     L::Stream: Read + Write + OpenStream + Drop,
     requires { ¬ (IsTrue (has_failed sink.old)) }
-    ensures { (result ≡ Told.Sink) ↔ IsTrue (has_failed sink.new) }
+    ensures { (result ≡ Ending.Sink) ↔ IsTrue (has_failed sink.new) }
 {
     let Ok((stream, _)) = listener.accept() else {
-        return Told::Read;
+        return Ending::Read;
     };
     let _ = stream.set_nodelay(true);
     let Ok(other) = stream.try_clone() else {
-        return Told::Read;
+        return Ending::Read;
     };
     let Ok(mut endpoint) = new_endpoint(alloc, config) else {
-        return Told::NoMemory;
+        return Ending::NoMemory;
     };
     let Ok(buffered) = BufWriter::new(alloc, other) else {
-        return Told::NoMemory;
+        return Ending::NoMemory;
     };
     let mut reader = Device::new(stream);
     let mut writer = Device::new(buffered);
-    told_of(serve(&mut endpoint, &mut reader, &mut writer, sink, policy))
+    ending_of(serve(&mut endpoint, &mut reader, &mut writer, sink, policy))
 }
 
 fn new_endpoint(alloc: Global, config: &Config) -> Result<Endpoint, AllocError> {

@@ -29,7 +29,7 @@ const HEARTBEAT: [u8; 8] = [0, 0, 0, 8, 2, 0, 0, 0];
 #[derive(Drop)]
 pub struct Output<A: Allocator + Copy = Global> {
     pipe: HeapCircularBuffer<u8, A>,
-    scratch: Vec<u8, A>,
+    scratch: [u8; REPLY_ROOM],
 }
 
 impl<A: Allocator + Copy> Model for Output<A> {
@@ -39,7 +39,7 @@ impl<A: Allocator + Copy> Model for Output<A> {
 
     ghost view = { λ a. a.pipe.items };
 
-    ghost invariant = { λ a. (a.pipe.capacity ≡ 8192) × (length a.pipe.items ≤ 8192) × (length a.scratch.items ≡ 2560) };
+    ghost invariant = { λ a. (a.pipe.capacity ≡ 8192) × (length a.pipe.items ≤ 8192) };
 }
 
 impl<A: Allocator + Copy> Output<A> {
@@ -49,7 +49,7 @@ impl<A: Allocator + Copy> Output<A> {
     {
         Ok(Output {
             pipe: HeapCircularBuffer::with_capacity(alloc, OUTPUT_SIZE)?,
-            scratch: Vec::from_elem(alloc, 0, REPLY_ROOM)?,
+            scratch: [0; REPLY_ROOM],
         })
     }
 
@@ -95,7 +95,7 @@ impl<A: Allocator + Copy> Output<A> {
         requires room { length self.old + length (said_frame channel (said performative.now) []) ≤ output_size }
         ensures { self.new ≡ self.old ++ said_frame channel (said performative.now) [] }
     {
-        if let Some(len) = write_frame(channel, performative, &[], self.scratch.as_mut_slice()) {
+        if let Some(len) = write_frame(channel, performative, &[], &mut self.scratch) {
             self.pipe.fill_from_slice(&self.scratch[..len]);
         }
     }
@@ -115,12 +115,7 @@ impl<A: Allocator + Copy> Output<A> {
         requires room { length self.old + length (said_frame channel (said (performative.Disposition disposition.now)) []) ≤ output_size }
         ensures { self.new ≡ self.old ++ said_frame channel (said (performative.Disposition disposition.now)) [] }
     {
-        if let Some(len) = write_disposition(
-            channel,
-            disposition,
-            &[],
-            self.scratch.as_mut_slice(),
-        ) {
+        if let Some(len) = write_disposition(channel, disposition, &[], &mut self.scratch) {
             self.pipe.fill_from_slice(&self.scratch[..len]);
         }
     }
@@ -140,7 +135,7 @@ impl<A: Allocator + Copy> Output<A> {
         requires room { length self.old + length (said_frame channel (attach_said session.now.terms.bounds.max_message_size (attaching attach.now)) []) ≤ output_size }
         ensures { self.new ≡ self.old ++ said_frame channel (attach_said session.now.terms.bounds.max_message_size (attaching attach.now)) [] }
     {
-        let written = session.write_attach_reply(channel, attach, self.scratch.as_mut_slice());
+        let written = session.write_attach_reply(channel, attach, &mut self.scratch);
         if let Some(len) = written {
             self.pipe.fill_from_slice(&self.scratch[..len]);
         }

@@ -6,7 +6,7 @@
 //! shows it, [`Splitter::drop_frame`] lets it go, and [`Splitter::finish`] ends; over one buffer,
 //! which is reserved at the start. [`Device`] is a reader or a writer that keeps its first failure.
 //! `specs/Units.antt` has what a unit is, `specs/Splits.antt` what a splitter holds.
-//! The tests stand in `codec_bench`.
+//! The tests stand in `codec_rows`.
 #![tactic(auto)]
 
 mod device;

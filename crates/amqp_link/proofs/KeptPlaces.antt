@@ -1,18 +1,15 @@
 -- What a link keeps at its places, after each of its steps.
-use Rattle.std.proofs.Common.{arith, ◌≡◌, ℕ, ◌+◌, ◌-◌, ◌<◌, ◌≤◌, get_or, set, take, List, [], ◌∷◌, ◌++◌, length, map, Option, Some, None, refl, sym, ap, subst, ◌∙◌}
-use Rattle.std.specs.Prelude.{option_map, option_to_list, filter, is_some, IsSome, true, false, drop}
+use Rattle.std.proofs.Common.{arith, ◌≡◌, ℕ, ◌+◌, ◌*◌, ◌-◌, ◌<◌, ◌≤◌, get_or, set, take, List, [], ◌∷◌, ◌++◌, length, map, Option, Some, None, refl, sym, ap, subst, ◌∙◌}
+use Rattle.std.specs.Prelude.{option_map, option_to_list, IsSome, true, false, drop}
 use Rattle.std.specs.List.{AllByRecursion}
-use Rattle.std.proofs.Math.Seq.{take-append_seam, drop-append_seam}
-use Rattle.std.proofs.lemmas.List.{nil_from_length}
-use Rattle.std.proofs.lemmas.List.{append-nil, length-append, length-drop, length-map, length-set, take-append-drop, take-append-le, drop-append-le, take_more, take_more_set, drop_more, drop-set-lt}
-use Rattle.std.proofs.lemmas.List.Elements.{filter-append}
+use Rattle.std.proofs.lemmas.List.{append-nil, length-append, length-drop, length-map, length-set, take-append-le, drop-append-le, take_more, take_more_set, drop_more, drop-set-lt}
 use Rattle.slab.specs.Slab.{Slab, get, ContainsKey, Updates, with_value, slab_len}
 use Rattle.amqp_link.specs.declared.open_delivery.OpenDelivery.{OpenDelivery}
 use Rattle.amqp_link.specs.Links.{Delivery, OpenSet, how_many, delivery_bytes, left_open}
-use Rattle.amqp_link.specs.Keeping.{delivery_of, at_key, keys_of, set_at, AreKeys, IsKept, IsKeptAt}
-use Rattle.amqp_link.proofs.Keys.{in_keys}
+use Rattle.amqp_link.specs.Keeping.{delivery_of, at_key, keys_of, set_at, AreKeys, SameKeys, IsKept, IsKeptAt}
+use Rattle.amqp_link.proofs.Keys.{in_keys, size_kept}
 use Rattle.amqp_link.proofs.KeptKeys.{begins, changes, finishes, goes, first_in, leaves_settled, moves_unsettled}
-use Rattle.amqp_link.proofs.PlaceKeys.{keys_append, keys_filter, filter_filled, length_filled, keys_length, keys_split}
+use Rattle.amqp_link.proofs.PlaceKeys.{keys_append, length_filled, keys_length, keys_split}
 
 all_push : (xs : List (Option ℕ)) (key : ℕ) → AllByRecursion IsSome xs → AllByRecursion IsSome (xs ++ Some key ∷ [])
 all_push [] key all = (refl, tt)
@@ -35,27 +32,49 @@ within order h key e = omega (arith, ap length e, length-drop h order)
 later : (order : List (Option ℕ)) (h key : ℕ) → drop h order ≡ Some key ∷ drop (h + 1) order → AllByRecursion IsSome (drop h order) → AllByRecursion IsSome (drop (h + 1) order)
 later order h key e all = (subst (λ (ps : List (Option ℕ)). AllByRecursion IsSome ps) e all).1
 
+one_at_most : (p : Option ℕ) → length (option_to_list p) ≤ 1
+one_at_most None = omega arith
+one_at_most (Some key) = omega arith
+
 module _ {A : Type 0} where
+  -- what is kept at its places, however many
+  pub record IsPlacedAt (slab : Slab (OpenDelivery A)) (order : List (Option ℕ)) (handed_up : ℕ) (unfinished : Option ℕ) (bytes room : ℕ) : Type 0 where
+    pub kept : IsKept slab (keys_of (take handed_up order)) (keys_of (drop handed_up order)) unfinished bytes
+    pub split : handed_up ≤ length order
+    pub filled : AllByRecursion IsSome (drop handed_up order)
+    pub fits : length order + length (option_to_list unfinished) ≤ room
+
   -- a state and what is kept of it
   pub record ComesAt (slab : Slab (OpenDelivery A)) (order : List (Option ℕ)) (handed_up : ℕ) (unfinished : Option ℕ) (bytes room : ℕ) (o : OpenSet) : Type 0 where
     pub kept : IsKeptAt slab order handed_up unfinished bytes room
     pub is : set_at slab order handed_up unfinished ≡ o
 
-  -- other places for the same keys
-  same_keys : (slab : Slab (OpenDelivery A)) (order order' : List (Option ℕ)) (h h' : ℕ) (unfinished : Option ℕ) (bytes room room' : ℕ) → keys_of (take h' order') ≡ keys_of (take h order) →
-      drop h' order' ≡ drop h order → h' ≤ length order' → length order' ≤ length order → room ≤ room' → IsKeptAt slab order h unfinished bytes room →
-      ComesAt slab order' h' unfinished bytes room' (set_at slab order h unfinished)
-  same_keys slab order order' h h' unfinished bytes room room' front back split short roomy at =
-      let kept : IsKept slab (keys_of (take h' order')) (keys_of (drop h' order')) unfinished bytes = rw (front, back) at.kept in
+  -- the same before empty places are closed up
+  pub record PlacedAt (slab : Slab (OpenDelivery A)) (order : List (Option ℕ)) (handed_up : ℕ) (unfinished : Option ℕ) (bytes room : ℕ) (o : OpenSet) : Type 0 where
+    pub placed : IsPlacedAt slab order handed_up unfinished bytes room
+    pub is : set_at slab order handed_up unfinished ≡ o
+
+  -- other places for the same keys, and few
+  pub same_keys : (slab : Slab (OpenDelivery A)) (order order' : List (Option ℕ)) (h h' : ℕ) (unfinished : Option ℕ) (bytes room room' : ℕ) (o : OpenSet) →
+      PlacedAt slab order h unfinished bytes room o → SameKeys order order' h h' → length order' + 1 ≤ 4 * (slab_len slab + 4) → room ≤ room' → ComesAt slab order' h' unfinished bytes room' o
+  same_keys slab order order' h h' unfinished bytes room room' o at same few roomy =
+      let kept : IsKept slab (keys_of (take h' order')) (keys_of (drop h' order')) unfinished bytes = rw (same.front, same.back) at.placed.kept in
       record {
         kept = record {
           kept = kept;
-          split = split;
-          filled = rw back at.filled;
-          fits = omega (arith, at.fits, short, roomy);
+          split = same.split;
+          filled = rw same.back at.placed.filled;
+          fits = omega (arith, at.placed.fits, same.short, roomy);
+          few = omega (arith, few, one_at_most unfinished);
         };
-        is = rw (front, back) refl;
+        is = rw (same.front, same.back) at.is;
       }
+
+  -- there are no more keys than deliveries
+  pub keys_within : (slab : Slab (OpenDelivery A)) (order : List (Option ℕ)) (h : ℕ) (unfinished : Option ℕ) (bytes room : ℕ) → IsPlacedAt slab order h unfinished bytes room →
+      length (keys_of order) ≤ slab_len slab
+  keys_within slab order h unfinished bytes room at =
+      omega (arith, at.kept.only, ap length (keys_split h order), length-append (keys_of (take h order)) (keys_of (drop h order)))
 
   -- a place is left for each ready delivery
   pub ready_places : (slab : Slab (OpenDelivery A)) (order : List (Option ℕ)) (h : ℕ) (unfinished : Option ℕ) (bytes room : ℕ) → IsKeptAt slab order h unfinished bytes room →
@@ -63,42 +82,21 @@ module _ {A : Type 0} where
   ready_places slab order h unfinished bytes room at =
       omega (arith, length-map (keys_of (drop h order)) (at_key slab), length_filled (drop h order) at.filled, length-drop h order)
 
-  -- the empty places go
-  pub closed : (slab : Slab (OpenDelivery A)) (order order' : List (Option ℕ)) (h h' : ℕ) (unfinished : Option ℕ) (bytes room room' : ℕ) → IsKeptAt slab order h unfinished bytes room →
-      order' ≡ filter (λ place. is_some place) order → length order' ≤ length order → room ≤ room' → h' ≡ length order' - (length order - h) →
-      ComesAt slab order' h' unfinished bytes room' (set_at slab order h unfinished) × (length order - h ≤ length order')
-  closed slab order order' h h' unfinished bytes room room' at e short roomy n =
-      let front = filter (λ (place : Option ℕ). is_some place) (take h order) in
-      let parts : order' ≡ filter (λ (place : Option ℕ). is_some place) (take h order) ++ drop h order =
-      e ∙ ap (filter (λ place. is_some place)) (sym (take-append-drop h order)) ∙ filter-append (λ place. is_some place) (take h order) (drop h order)
-      ∙ ap (λ (ps : List (Option ℕ)). filter (λ place. is_some place) (take h order) ++ ps) (filter_filled (drop h order) at.filled) in
-      let long = ap length parts ∙ length-append front (drop h order) in
-      let n' : h' ≡ length front = omega (arith, n, long, length-drop h order, at.split) in
-      let f : take h' order' ≡ front = ap (λ (k : ℕ). take k order') n' ∙ ap (take (length front)) parts ∙ take-append_seam front (drop h order) in
-      let b : drop h' order' ≡ drop h order = ap (λ (k : ℕ). drop k order') n' ∙ ap (drop (length front)) parts ∙ drop-append_seam front (drop h order) in
-      (same_keys slab order order' h h' unfinished bytes room room' (ap keys_of f ∙ keys_filter (take h order)) b (omega (arith, n', long)) short roomy at, omega (arith, long, length-drop h order))
-
-  -- where nothing is open all places go
-  pub cleared : (slab : Slab (OpenDelivery A)) (order order' : List (Option ℕ)) (h h' : ℕ) (unfinished : Option ℕ) (bytes room room' : ℕ) → IsKeptAt slab order h unfinished bytes room →
-      how_many (set_at slab order h unfinished) ≡ 0 → order' ≡ [] → h' ≡ 0 → room ≤ room' → ComesAt slab order' h' unfinished bytes room' (set_at slab order h unfinished)
-  cleared slab order order' h h' unfinished bytes room room' at none e n roomy =
-      let fore : keys_of (take h order) ≡ [] = nil_from_length (keys_of (take h order)) (omega (arith, none, length-map (keys_of (take h order)) (at_key slab))) in
-      let aft : drop h order ≡ [] = nil_from_length (drop h order) (omega (arith, none, length-map (keys_of (drop h order)) (at_key slab), length_filled (drop h order) at.filled)) in
-      let front : keys_of (take h' order') ≡ keys_of (take h order) = ap (λ (k : ℕ). keys_of (take k order')) n ∙ ap (λ (ps : List (Option ℕ)). keys_of (take 0 ps)) e ∙ sym fore in
-      let back : drop h' order' ≡ drop h order = ap (λ (k : ℕ). drop k order') n ∙ ap (λ (ps : List (Option ℕ)). drop 0 ps) e ∙ sym aft in
-      same_keys slab order order' h h' unfinished bytes room room' front back (omega arith) (omega (arith, ap length e)) roomy at
-
   -- no more deliveries than places that there is room for
-  pub few_kept : (slab : Slab (OpenDelivery A)) (order : List (Option ℕ)) (h : ℕ) (unfinished : Option ℕ) (bytes room : ℕ) → IsKeptAt slab order h unfinished bytes room → slab_len slab ≤ room
-  few_kept slab order h unfinished bytes room at =
+  pub few_placed : (slab : Slab (OpenDelivery A)) (order : List (Option ℕ)) (h : ℕ) (unfinished : Option ℕ) (bytes room : ℕ) → IsPlacedAt slab order h unfinished bytes room → slab_len slab ≤ room
+  few_placed slab order h unfinished bytes room at =
       omega (arith, at.kept.only, at.fits, keys_length order, ap length (keys_split h order), length-append (keys_of (take h order)) (keys_of (drop h order)))
+
+  placed_of : (slab : Slab (OpenDelivery A)) (order : List (Option ℕ)) (h : ℕ) (unfinished : Option ℕ) (bytes room : ℕ) → IsKeptAt slab order h unfinished bytes room →
+      IsPlacedAt slab order h unfinished bytes room
+  placed_of slab order h unfinished bytes room at = record { kept = at.kept; split = at.split; filled = at.filled; fits = at.fits }
 
   pub many_kept : (slab : Slab (OpenDelivery A)) (order : List (Option ℕ)) (h : ℕ) (unfinished : Option ℕ) (bytes room : ℕ) → IsKeptAt slab order h unfinished bytes room →
       how_many (set_at slab order h unfinished) ≤ room
   many_kept slab order h unfinished bytes room at =
       omega (
         arith,
-        few_kept slab order h unfinished bytes room at,
+        few_placed slab order h unfinished bytes room (placed_of slab order h unfinished bytes room at),
         at.kept.only,
         length-map (keys_of (take h order)) (at_key slab),
         length-map (keys_of (drop h order)) (at_key slab),
@@ -115,6 +113,7 @@ module _ {A : Type 0} where
           split = at.split;
           filled = at.filled;
           fits = omega (arith, at.fits, roomy);
+          few = at.few;
         };
         is = refl;
       })
@@ -136,6 +135,7 @@ module _ {A : Type 0} where
           split = ready.kept.split;
           filled = ready.kept.filled;
           fits = fit;
+          few = omega (arith, ready.kept.few, size);
         };
         is = c.is ∙ ap (λ (o : OpenSet). record o { unfinished = Some (delivery_of d) }) ready.is;
       }
@@ -155,7 +155,10 @@ module _ {A : Type 0} where
       ComesAt (with_value old key d) order h p more room (record (set_at old order h p) { unfinished = Some (delivery_of d) }))
       (sym e) (λ at long m.
       let c = changes old (keys_of (take h order)) (keys_of (drop h order)) key d bytes more n at.kept long m in
-      record { kept = record { kept = c.kept; split = at.split; filled = at.filled; fits = at.fits }; is = c.is })
+      record {
+        kept = record { kept = c.kept; split = at.split; filled = at.filled; fits = at.fits; few = omega (arith, at.few, size_kept old key d (here_of old order h (Some key) key bytes room at refl)) };
+        is = c.is;
+      })
 
   -- the unfinished delivery becomes ready
   pub finishes_at : (slab : Slab (OpenDelivery A)) (order order' : List (Option ℕ)) (h : ℕ) (unfinished : Option ℕ) (key bytes room room' : ℕ) → unfinished ≡ Some key →
@@ -176,6 +179,7 @@ module _ {A : Type 0} where
           split = omega (arith, at.split, ap length f, length-append order (Some key ∷ []));
           filled = rw back (all_push (drop h order) key at.filled);
           fits = omega (arith, at.fits, roomy, ap length f, length-append order (Some key ∷ []));
+          few = omega (arith, at.few, ap length f, length-append order (Some key ∷ []));
         };
         is = rw (front, keys) c.is;
       })
@@ -183,13 +187,13 @@ module _ {A : Type 0} where
   -- the unfinished delivery goes
   pub goes_at : (old new : Slab (OpenDelivery A)) (order : List (Option ℕ)) (h : ℕ) (unfinished : Option ℕ) (key bytes less room : ℕ) → unfinished ≡ Some key →
       IsKeptAt old order h unfinished bytes room → Updates old new key None → slab_len new + 1 ≡ slab_len old → less ≡ bytes - delivery_bytes (at_key old key) →
-      ComesAt new order h None less room (record (set_at old order h unfinished) { unfinished = None })
+      PlacedAt new order h None less room (record (set_at old order h unfinished) { unfinished = None })
   goes_at old new order h unfinished key bytes less room e =
       subst (λ (p : Option ℕ). IsKeptAt old order h p bytes room → Updates old new key None → slab_len new + 1 ≡ slab_len old → less ≡ bytes - delivery_bytes (at_key old key) →
-      ComesAt new order h None less room (record (set_at old order h p) { unfinished = None }))
+      PlacedAt new order h None less room (record (set_at old order h p) { unfinished = None }))
       (sym e) (λ at u size m.
       let c = goes old new (keys_of (take h order)) (keys_of (drop h order)) key bytes less at.kept u size m in
-      record { kept = record { kept = c.kept; split = at.split; filled = at.filled; fits = omega (arith, at.fits) }; is = c.is })
+      record { placed = record { kept = c.kept; split = at.split; filled = at.filled; fits = omega (arith, at.fits) }; is = c.is })
 
   -- the next delivery has a key
   pub first_at : (slab : Slab (OpenDelivery A)) (order : List (Option ℕ)) (h : ℕ) (unfinished : Option ℕ) (key bytes room : ℕ) → IsKeptAt slab order h unfinished bytes room →
@@ -201,7 +205,7 @@ module _ {A : Type 0} where
   -- it is settled, and goes as it is handed up
   pub leaves_at : (old new : Slab (OpenDelivery A)) (order : List (Option ℕ)) (h : ℕ) (unfinished : Option ℕ) (key : ℕ) (d : OpenDelivery A) (bytes less room : ℕ) →
       drop h order ≡ Some key ∷ drop (h + 1) order → IsKeptAt old order h unfinished bytes room → get old key ≡ Some d → d.settled ≡ true → Updates old new key None →
-      slab_len new + 1 ≡ slab_len old → less ≡ bytes - delivery_bytes (delivery_of d) → ComesAt new (set order h None) (h + 1) unfinished less room
+      slab_len new + 1 ≡ slab_len old → less ≡ bytes - delivery_bytes (delivery_of d) → PlacedAt new (set order h None) (h + 1) unfinished less room
       (record (set_at old order h unfinished) { awaiting = (set_at old order h unfinished).awaiting ++ left_open (delivery_of d); ready = drop 1 (set_at old order h unfinished).ready })
   leaves_at old new order h unfinished key d bytes less room e at has settled u size m =
       let lt = within order h key e in
@@ -213,7 +217,7 @@ module _ {A : Type 0} where
       let back : drop (h + 1) (set order h None) ≡ drop (h + 1) order = drop-set-lt (h + 1) order h None (omega arith) in
       let now : IsKept new (keys_of (take (h + 1) (set order h None))) (keys_of (drop (h + 1) (set order h None))) unfinished less = rw (front, back) c.kept in
       record {
-        kept = record {
+        placed = record {
           kept = now;
           split = omega (arith, lt, length-set order h None);
           filled = rw back (later order h key e at.filled);
@@ -248,6 +252,7 @@ module _ {A : Type 0} where
           split = omega (arith, lt);
           filled = later order h key e at.filled;
           fits = at.fits;
+          few = omega (arith, at.few, size_kept old key d (first_at old order h unfinished key bytes room at e));
         };
         is = rw front (c.is ∙ ap (λ (ps : List (Option ℕ)). record (set_at old order h unfinished) {
           awaiting = map (at_key old) (keys_of (take h order)) ++ left_open (delivery_of was);

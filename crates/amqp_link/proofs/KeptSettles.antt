@@ -12,7 +12,7 @@ use Rattle.amqp_link.specs.declared.open_delivery.Settler.TheVariants.{SenderOfH
 use Rattle.amqp_link.specs.Links.{Delivery, OpenSet, set_bytes, delivery_bytes, is_covered, sender_settled_by, sender_settled_in}
 use Rattle.amqp_link.specs.Keeping.{at_key, keys_of, set_of_keys, set_at, AreKeys, IsKept, IsKeptAt, Settles, settled_list}
 use Rattle.amqp_link.proofs.Keys.{keys_before, keys_behind, total_is}
-use Rattle.amqp_link.proofs.KeptPlaces.{ComesAt}
+use Rattle.amqp_link.proofs.KeptPlaces.{ComesAt, PlacedAt}
 use Rattle.amqp_link.proofs.Settles.{same_append, one_key}
 
 -- the sender ends none that was not handed up
@@ -73,7 +73,7 @@ module _ {A : Type 0} where
 
   -- those that were handed up are settled
   pub awaiting_settled : (s : Settling) (old new : Slab (OpenDelivery A)) (order before after : List (Option ℕ)) (h : ℕ) (unfinished : Option ℕ) (many freed bytes room : ℕ) →
-      IsKeptAt old order h unfinished bytes room → before ≡ take h order → Settles s old new before after many freed → ComesAt new (after ++ drop h order) h unfinished (bytes - freed) room
+      IsKeptAt old order h unfinished bytes room → before ≡ take h order → Settles s old new before after many freed → PlacedAt new (after ++ drop h order) h unfinished (bytes - freed) room
       (record (set_at old order h unfinished) { awaiting = settled_list s (set_at old order h unfinished).awaiting })
   awaiting_settled s old new order before after h unfinished many freed bytes room at e settles =
       let a = keys_of (take h order) in
@@ -97,7 +97,7 @@ module _ {A : Type 0} where
       } in
       let now : IsKept new (keys_of (take h (after ++ drop h order))) (keys_of (drop h (after ++ drop h order))) unfinished (bytes - freed) = rw (front, back) kept in
       record {
-        kept = record {
+        placed = record {
           kept = now;
           split = omega (arith, long, length-append after (drop h order));
           filled = rw back at.filled;
@@ -135,6 +135,7 @@ module _ {A : Type 0} where
           split = at.split;
           filled = at.filled;
           fits = at.fits;
+          few = omega (arith, at.few, done.only);
         };
         is = is;
       }
@@ -167,6 +168,7 @@ module _ {A : Type 0} where
           split = at.split;
           filled = at.filled;
           fits = at.fits;
+          few = omega (arith, at.few, done.only);
         };
         is = is;
       })

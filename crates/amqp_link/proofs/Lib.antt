@@ -12,6 +12,7 @@ pub mod Tags
 pub mod Keys
 pub mod KeptKeys
 pub mod PlaceKeys
+pub mod Closings
 pub mod KeptPlaces
 pub mod Settles
 pub mod KeptSettles

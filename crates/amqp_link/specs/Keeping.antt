@@ -1,5 +1,5 @@
 -- How a link keeps its open deliveries, which no public clause names: each under a key, and the keys at places in link order.
-use Rattle.std.specs.Prelude.{◌≡◌, ◌≢◌, ℕ, ◌+◌, ◌≤◌, List, [], ◌∷◌, ◌++◌, length, map, filter, take, drop, Bool, false, not, ◌&&◌, Option, Some, None, IsSome, option_map, option_to_list, sum_by}
+use Rattle.std.specs.Prelude.{◌≡◌, ◌≢◌, ℕ, ◌+◌, ◌*◌, ◌≤◌, List, [], ◌∷◌, ◌++◌, length, map, filter, take, drop, Bool, false, not, ◌&&◌, Option, Some, None, IsSome, option_map, option_to_list, sum_by}
 use Rattle.std.specs.Prelude.{count_by}
 use Rattle.std.specs.List.{AllByRecursion}
 use Rattle.slab.specs.Slab.{Slab, get, ContainsKey, slab_len}
@@ -60,6 +60,13 @@ abbrev pub keys_of : List (Option ℕ) → List ℕ
 keys_of [] = []
 keys_of (None ∷ places) = keys_of places
 keys_of (Some key ∷ places) = key ∷ keys_of places
+
+-- other places for the same keys: what is ready keeps its own, in front of it empty ones may go
+pub record SameKeys (before after : List (Option ℕ)) (handed_up handed_up' : ℕ) : Type 0 where
+  pub front : keys_of (take handed_up' after) ≡ keys_of (take handed_up before)
+  pub back : drop handed_up' after ≡ drop handed_up before
+  pub split : handed_up' ≤ length after
+  pub short : length after ≤ length before
 
 module _ {A : Type 0} where
   -- what is held of a delivery
@@ -122,6 +129,8 @@ module _ {A : Type 0} where
     pub filled : AllByRecursion IsSome (drop handed_up order)
     -- what is unfinished has room for its place
     pub fits : length order + length (option_to_list unfinished) ≤ room
+    -- no more places than so many for each delivery that is open
+    pub few : length order + length (option_to_list unfinished) ≤ 4 * (slab_len slab + 4)
 
 -- The link. --------------------------------------------------------------------------------------------------------
 

@@ -14,8 +14,8 @@ use std::marker::Model;
 /// The open deliveries, each under a key of its own, and their places in link order.
 ///
 /// The place that a delivery needs once it is whole is made when it begins. A delivery that is settled leaves
-/// its place empty, so that no other moves; empty places are closed up when a delivery begins, once no other is
-/// open, or there is no room behind them and three in four are empty.
+/// its place empty, so that no other moves; empty places are closed up once no delivery is open, or three in four
+/// places are empty, so that there are never more than four for each open delivery, and a few.
 #[derive(Drop)]
 pub struct OpenDeliveries<A: Allocator + Copy = Global> {
     alloc: A,
@@ -42,9 +42,6 @@ impl<A: Allocator + Copy> Model for OpenDeliveries<A> {
     ghost invariant = { λ a. IsKeptAt a.slab a.order.items a.handed_up a.unfinished a.bytes (vec_capacity a.order) };
 }
 
-/// Open deliveries beyond which empty places are closed up: of fewer places it is not worth while.
-const FEW: usize = 4;
-
 impl<A: Allocator + Copy> OpenDeliveries<A> {
     /// None is open.
     pub fn new(alloc: A) -> Self
@@ -68,46 +65,11 @@ impl<A: Allocator + Copy> OpenDeliveries<A> {
         ensures ok { OnOk result (self.new ≡ record self.old { unfinished = Some (delivery_of delivery) }) }
         ensures err { OnErr result (self.new ≡ self.old) }
     {
-        self.close_up();
         self.slab.reserve(1)?;
         self.order.reserve(1)?;
         self.bytes += delivery.bytes();
         self.unfinished = Some(self.slab.insert_reserved(delivery));
         Ok(())
-    }
-
-    /// Closes up the empty places: all of them where no delivery is open, else where there is no room behind them
-    /// and three in four are empty.
-    fn close_up(&mut self)
-        ensures { self.new ≡ self.old }
-    {
-        if self.len() == 0 {
-            self.clear_places();
-        } else {
-            self.close_gaps();
-        }
-    }
-
-    /// Closes up all places where no delivery is open.
-    fn clear_places(&mut self)
-        requires { how_many self.old ≡ 0 }
-        ensures { self.new ≡ self.old }
-    {
-        self.order.clear();
-        self.handed_up = 0;
-    }
-
-    /// Closes up the empty places, where there is no room behind them and three in four are empty.
-    fn close_gaps(&mut self)
-        ensures { self.new ≡ self.old }
-    {
-        let places = self.order.len();
-        if places < self.order.capacity() || places / 4 <= self.slab.len() + FEW {
-            return;
-        }
-        let ready = places - self.handed_up;
-        self.order.retain(|place| place.is_some());
-        self.handed_up = self.order.len() - ready;
     }
 
     /// One transfer more of the delivery that is unfinished.
@@ -141,6 +103,7 @@ impl<A: Allocator + Copy> OpenDeliveries<A> {
         if let Some(key) = self.unfinished {
             self.unfinished = None;
             self.bytes -= self.slab.remove(key).bytes();
+            places::close_up(&mut self.order, &mut self.handed_up, self.slab.len());
         }
     }
 
@@ -156,6 +119,7 @@ impl<A: Allocator + Copy> OpenDeliveries<A> {
             self.handed_up += 1;
             let delivery = self.slab.remove(key);
             self.bytes -= delivery.bytes();
+            places::close_up(&mut self.order, &mut self.handed_up, self.slab.len());
             return Some(delivery);
         }
         self.handed_up += 1;
@@ -310,6 +274,7 @@ impl<A: Allocator + Copy> OpenDeliveries<A> {
         let handed_up = self.order.slice_mut(..self.handed_up);
         let settled = places::settle(&mut self.slab, handed_up, settling);
         self.bytes -= settled.freed;
+        places::close_up(&mut self.order, &mut self.handed_up, self.slab.len());
         settled.count
     }
 

@@ -1,13 +1,16 @@
 //! The places of deliveries in link order, each with the key of its delivery, or empty.
-ghost use Rattle.std.specs.Prelude.{◌≡◌, ◌<◌, ◌^◌, ◌∷◌, [], find, map, option_map, option_to_list, sum_by};
+ghost use Rattle.std.specs.Prelude.{◌≡◌, ◌<◌, ◌≤◌, ◌+◌, ◌*◌, ◌^◌, ◌∷◌, [], length, drop, find, map, option_map, option_to_list, sum_by, vec_capacity, IsSome};
 ghost use Rattle.std.specs.List.{AllByRecursion};
 ghost use Rattle.slab.specs.Slab.{ContainsKey};
 ghost use Rattle.amqp_link.specs.Links.{delivery_bytes};
-ghost use Rattle.amqp_link.specs.Keeping.{delivery_of, at_key, keys_of, AreKeys, asks_of, Settles};
+ghost use Rattle.amqp_link.specs.Keeping.{delivery_of, at_key, keys_of, AreKeys, SameKeys, asks_of, Settles};
 
 use crate::open_delivery::{OpenDelivery, Question, Settling};
 use slab::Slab;
 use std::alloc::Allocator;
+
+/// Open deliveries beyond which empty places are closed up: of fewer places it is not worth while.
+const FEW: usize = 4;
 
 /// What a settle came to.
 #[derive(Clone, Copy)]
@@ -77,4 +80,30 @@ pub fn settle_at<A: Allocator + Copy>(
     *place = None;
     let freed = slab.remove(key).bytes();
     Settled { count, freed }
+}
+
+/// Closes up empty places: all of them where no delivery is open, else once three in four are empty. So many places
+/// are of deliveries that were handed up; those behind them are of ready ones.
+pub fn close_up<A: Allocator + Copy>(
+    places: &mut Vec<Option<usize>, A>,
+    handed_up: &mut usize,
+    deliveries: usize,
+)
+    requires split { handed_up.old ≤ length places.old.items }
+    requires filled { AllByRecursion IsSome (drop handed_up.old places.old.items) }
+    requires keys { length (keys_of places.old.items) ≤ deliveries }
+    requires fits { deliveries < 2 ^ 62 }
+    ensures same { SameKeys places.old.items places.new.items handed_up.old handed_up.new }
+    ensures few { length places.new.items + 1 ≤ 4 * (deliveries + 4) }
+    ensures room { vec_capacity places.old ≤ vec_capacity places.new }
+{
+    let count = places.len();
+    if deliveries == 0 {
+        places.clear();
+        *handed_up = 0;
+    } else if count / 4 >= deliveries + FEW {
+        let ready = count - *handed_up;
+        places.retain(|place| place.is_some());
+        *handed_up = places.len() - ready;
+    }
 }

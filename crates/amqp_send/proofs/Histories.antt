@@ -13,8 +13,8 @@ use Rattle.amqp_send.specs.declared.flow_state.FlowState.{FlowState}
 use Rattle.amqp_send.specs.declared.talk.Talk.{Talk}
 use Rattle.amqp_send.specs.declared.talk.Talk.TheVariants as talk
 use Rattle.amqp_send.specs.declared.telling.Limits.{Limits}
-use Rattle.amqp_send.specs.declared.telling.Told.{Told}
-use Rattle.amqp_send.specs.declared.telling.Told.TheVariants as told
+use Rattle.amqp_send.specs.declared.telling.Telling.{Telling}
+use Rattle.amqp_send.specs.declared.telling.Telling.TheVariants as told
 use Rattle.amqp_send.specs.Flows.{ahead, credit, window, most, opened, begun, limited, drained, transferred}
 use Rattle.amqp_send.specs.Histories.{Piece, Deed, Heard, Wrote, pieces, offers, goes_on, part, wholes, heads, drains, advances, credit_end, flow_of, answer_by, transfer_text, written, moved, waiting}
 use Rattle.amqp_send.specs.Histories.{IsBegun, IsHistory, MayGo, AllMayGo, heard_deeds, event_deeds, next_piece, wrote_deeds, frame_deeds, deeds, after_all, history, IsLawfulEvent, Accepted}
@@ -149,7 +149,7 @@ pub ended_is : (terms : SendTerms) (h : List Deed) (s : Sending) (c : Condition)
 ended_is terms h s c k = record { is = record { terms_are = k.is.terms_are; flow_is = k.is.flow_is; messages = k.is.messages; begun = k.is.begun; bytes = k.is.bytes }; all = k.all; least = k.least }
 
 -- what is told changes the limits and what waits to be sent, and no message
-heard_keeps : (terms : SendTerms) (h : List Deed) (s : Sending) (t : Told) (f : FlowState) (unsent : List ℕ) → Keeps terms h s → f ≡ flow_of (Heard t ∷ h) →
+heard_keeps : (terms : SendTerms) (h : List Deed) (s : Sending) (t : Telling) (f : FlowState) (unsent : List ℕ) → Keeps terms h s → f ≡ flow_of (Heard t ∷ h) →
     moved h ++ unsent ≡ written terms (Heard t ∷ h) → 512 ≤ f.max_frame_size → Keeps terms (Heard t ∷ h) (record s { flow = f; unsent = unsent })
 heard_keeps terms h s t f unsent k flow bytes least = record {
   is = record { terms_are = k.is.terms_are; flow_is = flow; messages = k.is.messages; begun = k.is.begun; bytes = bytes };
@@ -158,7 +158,7 @@ heard_keeps terms h s t f unsent k flow bytes least = record {
 }
 
 -- what changes nothing that counts
-quiet : (terms : SendTerms) (h : List Deed) (s : Sending) (t : Told) → flow_of (Heard t ∷ h) ≡ flow_of h → written terms (Heard t ∷ h) ≡ written terms h ++ [] → Keeps terms h s →
+quiet : (terms : SendTerms) (h : List Deed) (s : Sending) (t : Telling) → flow_of (Heard t ∷ h) ≡ flow_of h → written terms (Heard t ∷ h) ≡ written terms h ++ [] → Keeps terms h s →
     Keeps terms (Heard t ∷ h) s
 quiet terms h s t flow text k = heard_keeps terms h s t s.flow s.unsent k (k.is.flow_is ∙ sym flow) (k.is.bytes ∙ sym (append-nil (written terms h)) ∙ sym text) k.least
 
@@ -213,7 +213,7 @@ flow_step terms h s l k = subst (λ (d : Bool). Keeps terms (Heard (told.Flowed 
         (k.is.bytes ∙ sym (append-nil (written terms h)) ∙ ap (λ (x : Bool). written terms h ++ answer_by x false after) (sym ed)
         ∙ ap (λ (x : Bool). written terms h ++ answer_by (drains l h) x after) (sym ee)) k.least
 
-heard_step : (terms : SendTerms) (h : List Deed) (s : Sending) (t : Told) → IsLawful t → Keeps terms h s → Keeps terms (Heard t ∷ h) (heard t s)
+heard_step : (terms : SendTerms) (h : List Deed) (s : Sending) (t : Telling) → IsLawful t → Keeps terms h s → Keeps terms (Heard t ∷ h) (heard t s)
 heard_step terms h s told.Nothing lawful k = quiet terms h s told.Nothing refl refl k
 heard_step terms h s (told.Opened n) lawful k =
     heard_keeps terms h s (told.Opened n) (opened n s.flow) s.unsent k (ap (opened n) k.is.flow_is) (k.is.bytes ∙ sym (append-nil (written terms h))) lawful
@@ -226,7 +226,7 @@ heard_step terms h s (told.Left c) lawful k = ended_is terms (Heard (told.Left c
 heard_step terms h s (told.Closed c) lawful k = ended_is terms (Heard (told.Closed c) ∷ h) s c (quiet terms h s (told.Closed c) refl refl k)
 heard_step terms h s told.Unread lawful k = ended_is terms (Heard told.Unread ∷ h) s condition.Other (quiet terms h s told.Unread refl refl k)
 
-acted_step : (terms : SendTerms) (h : List Deed) (s : Sending) (u : Talk) (t : Told) → IsLawful t → Keeps terms h s → Keeps terms (heard_deeds u t ++ h) (heard_in u t s)
+acted_step : (terms : SendTerms) (h : List Deed) (s : Sending) (u : Talk) (t : Telling) → IsLawful t → Keeps terms h s → Keeps terms (heard_deeds u t ++ h) (heard_in u t s)
 acted_step terms h s talk.Silent told.Nothing lawful k = record {
   is = record {
     terms_are = k.is.terms_are;

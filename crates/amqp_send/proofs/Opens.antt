@@ -11,7 +11,7 @@ use Rattle.amqp_perform.specs.Frames.{written_cells}
 use Rattle.amqp_perform.specs.Outcomes.{outcome_of}
 use Rattle.amqp_perform.specs.Performatives.{type_of, performative_cells, role, flag, span, optional_whole}
 use Rattle.amqp_perform.specs.Tables.{Field, fields_of, open_fields}
-use Rattle.amqp_send.specs.declared.telling.Told.TheVariants.{Nothing}
+use Rattle.amqp_send.specs.declared.telling.Telling.TheVariants.{Nothing}
 use Rattle.amqp_send.specs.Tellings.{told_by, disposed, IsLawful}
 use Rattle.std.specs.Prelude.{unwrap_or, if◌then◌else◌}
 

@@ -12,8 +12,8 @@ use Rattle.amqp_frame.proofs.Histories.{unit_went}
 use Rattle.amqp_send.specs.declared.news.News.{News}
 use Rattle.amqp_send.specs.declared.talk.Talk.{Talk}
 use Rattle.amqp_send.specs.declared.talk.Talk.TheVariants as talk
-use Rattle.amqp_send.specs.declared.telling.Told.{Told}
-use Rattle.amqp_send.specs.declared.telling.Told.TheVariants as told
+use Rattle.amqp_send.specs.declared.telling.Telling.{Telling}
+use Rattle.amqp_send.specs.declared.telling.Telling.TheVariants as told
 use Rattle.amqp_send.specs.Calls.{SenderState, taken}
 use Rattle.amqp_send.specs.Histories.{Deed, Wrote, offers, moved, heard_deeds, event_deeds, next_piece, wrote_deeds, frame_deeds, deeds}
 use Rattle.amqp_send.specs.Histories.{after_all, history, IsHistory, AllMayGo, IsLawfulEvent, Accepted}
@@ -53,7 +53,7 @@ event_same s e h =
     subst (λ (x : List Deed). IsSame x (event_deeds s e ++ h)) (sym (append_assoc (frame_deeds (frames_left t.message) t) (event_deeds s e) h))
     (frames_same (frames_left t.message) t (event_deeds s e ++ h))
 
-heard_same : (w : Talk) (t : Told) (h : List Deed) → IsSame (heard_deeds w t ++ h) h
+heard_same : (w : Talk) (t : Telling) (h : List Deed) → IsSame (heard_deeds w t ++ h) h
 heard_same talk.Silent told.Nothing h = record { offers_are = refl; moved_is = refl }
 heard_same talk.Silent t h = record { offers_are = refl; moved_is = refl }
 heard_same talk.Talking t h = record { offers_are = refl; moved_is = refl }

@@ -9,8 +9,8 @@ use Rattle.amqp_send.specs.declared.flow_state.FlowState.{FlowState}
 use Rattle.amqp_send.specs.declared.talk.Talk.{Talk}
 use Rattle.amqp_send.specs.declared.talk.Talk.TheVariants as talk
 use Rattle.amqp_send.specs.declared.telling.Limits.{Limits}
-use Rattle.amqp_send.specs.declared.telling.Told.{Told}
-use Rattle.amqp_send.specs.declared.telling.Told.TheVariants.{Nothing, Opened, Begun, Flowed}
+use Rattle.amqp_send.specs.declared.telling.Telling.{Telling}
+use Rattle.amqp_send.specs.declared.telling.Telling.TheVariants.{Nothing, Opened, Begun, Flowed}
 use Rattle.amqp_send.specs.Flows.{ahead, credit, window, most}
 use Rattle.amqp_send.specs.Sendings.{SendTerms, Message, Sending, sending_begins, frame, opening, flow_said, close_said, transfer_said, is_last, share, is_talking, may_go, writes, frames_left}
 use Rattle.amqp_send.specs.Sendings.{SendEvent, Acted, Offered, CloseWritten, Moved, changed, send_after, SendMay}
@@ -25,7 +25,7 @@ pub data Deed : Type 0 where
   -- the receiver's header came, and the opening was written
   Greeted : Deed
   -- a unit of the receiver told this while the sender talked
-  Heard : Told → Deed
+  Heard : Telling → Deed
   -- a message was taken over
   Took : List ℕ → Deed
   -- a frame of a message was written
@@ -144,7 +144,7 @@ answer_by true echo f = frame (flow_said f true)
 answer_by false true f = frame (flow_said f false)
 answer_by false false f = []
 
-abbrev pub answer_text : Told → List Deed → List ℕ
+abbrev pub answer_text : Telling → List Deed → List ℕ
 answer_text (Flowed l) h = answer_by (drains l h) l.echo (flow_of (Heard (Flowed l) ∷ h))
 answer_text t h = []
 
@@ -215,11 +215,11 @@ AllMayGo (Gave bytes ∷ h) = AllMayGo h
 
 -- What an event adds to the history. ----------------------------------------------------------------------------------
 
-abbrev pub greeted_deeds : Told → List Deed
+abbrev pub greeted_deeds : Telling → List Deed
 greeted_deeds Nothing = Greeted ∷ []
 greeted_deeds _ = []
 
-abbrev pub heard_deeds : Talk → Told → List Deed
+abbrev pub heard_deeds : Talk → Telling → List Deed
 heard_deeds talk.Silent t = greeted_deeds t
 heard_deeds talk.Talking t = Heard t ∷ []
 heard_deeds talk.Closing t = []

@@ -19,8 +19,8 @@ use Rattle.amqp_send.specs.declared.news.OfferFault.TheVariants as offer
 use Rattle.amqp_send.specs.declared.talk.Talk.{Talk}
 use Rattle.amqp_send.specs.declared.talk.Talk.TheVariants as talk
 use Rattle.amqp_send.specs.declared.telling.Limits.{Limits}
-use Rattle.amqp_send.specs.declared.telling.Told.{Told}
-use Rattle.amqp_send.specs.declared.telling.Told.TheVariants.{Nothing, Opened, Begun, Flowed, Disposed, Left, Closed, Unread}
+use Rattle.amqp_send.specs.declared.telling.Telling.{Telling}
+use Rattle.amqp_send.specs.declared.telling.Telling.TheVariants.{Nothing, Opened, Begun, Flowed, Disposed, Left, Closed, Unread}
 use Rattle.amqp_send.specs.Flows.{flow_begins, credit, window, most, opened, begun, limited, drained, transferred}
 use Rattle.amqp_send.specs.Tellings.{told_of}
 
@@ -212,7 +212,7 @@ abbrev pub flowed : Limits → Sending → Sending
 flowed l s = answered (l.of_link && l.drain && is_none s.message) l.echo (record s { flow = limited l s.flow })
 
 -- while it talks
-abbrev pub heard : Told → Sending → Sending
+abbrev pub heard : Telling → Sending → Sending
 heard Nothing s = s
 heard (Opened max_frame_size) s = record s { flow = opened max_frame_size s.flow }
 heard (Begun next incoming_window) s = record s { flow = begun next incoming_window s.flow }
@@ -223,23 +223,23 @@ heard (Closed c) s = ended c s
 heard Unread s = ended condition.Other s
 
 -- the receiver's header: the opening follows [2.4.1]
-abbrev pub greeted : Told → Sending → Sending
+abbrev pub greeted : Telling → Sending → Sending
 greeted Nothing s = record s { talk = talk.Talking; unsent = s.unsent ++ flat_map frame (opening s.terms) }
 greeted _ s = ended condition.Other s
 
 -- after its own close the receiver's close alone counts [2.4.3]
-abbrev pub heard_closing : Told → Sending → Sending
+abbrev pub heard_closing : Telling → Sending → Sending
 heard_closing (Closed c) s = ended c s
 heard_closing _ s = s
 
-abbrev pub heard_in : Talk → Told → Sending → Sending
+abbrev pub heard_in : Talk → Telling → Sending → Sending
 heard_in talk.Silent t s = greeted t s
 heard_in talk.Talking t s = heard t s
 heard_in talk.Closing t s = heard_closing t s
 heard_in (talk.Ended c) t s = s
 
 -- what is handed up of it
-abbrev pub heard_news : Told → Option News
+abbrev pub heard_news : Telling → Option News
 heard_news Nothing = None
 heard_news (Opened max_frame_size) = None
 heard_news (Begun next incoming_window) = None
@@ -249,15 +249,15 @@ heard_news (Left c) = Some (Ended c)
 heard_news (Closed c) = Some (Ended c)
 heard_news Unread = Some (Ended condition.Other)
 
-abbrev pub greeted_news : Told → Option News
+abbrev pub greeted_news : Telling → Option News
 greeted_news Nothing = None
 greeted_news _ = Some (Ended condition.Other)
 
-abbrev pub closing_news : Told → Option News
+abbrev pub closing_news : Telling → Option News
 closing_news (Closed c) = Some (Ended c)
 closing_news _ = None
 
-abbrev pub news_in : Talk → Told → Option News
+abbrev pub news_in : Talk → Telling → Option News
 news_in talk.Silent t = greeted_news t
 news_in talk.Talking t = heard_news t
 news_in talk.Closing t = closing_news t

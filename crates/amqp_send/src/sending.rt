@@ -16,7 +16,7 @@ use crate::news::{News, OfferFault};
 use crate::outgoing::{Outgoing, write_frame_of};
 use crate::output::Output;
 use crate::talk::Talk;
-use crate::telling::{Limits, Told};
+use crate::telling::{Limits, Telling};
 use amqp_frame::HEADER;
 use amqp_perform::Condition;
 use std::alloc::{AllocError, Allocator, Global};
@@ -95,7 +95,7 @@ impl<A: Allocator + Copy> Sending<A> {
     }
 
     /// Acts upon what a unit of the receiver told, and answers what is handed up of it.
-    pub fn hear(&mut self, told: Told) -> Option<News>
+    pub fn hear(&mut self, told: Telling) -> Option<News>
         requires room { length self.old.unsent + 64 ≤ pipe_size }
         requires lawful { IsLawful told }
         ensures new { self.new ≡ heard_in self.old.talk told self.old }
@@ -110,13 +110,13 @@ impl<A: Allocator + Copy> Sending<A> {
     }
 
     /// The receiver's header came: the opening follows, or the sender ends.
-    fn greet(&mut self, told: Told) -> Option<News>
+    fn greet(&mut self, told: Telling) -> Option<News>
         requires { self.old.talk ≡ Talk.Silent }
         ensures new { self.new ≡ spec.greeted told self.old }
         ensures news { result ≡ spec.greeted_news told }
     {
         match told {
-            Told::Nothing => {
+            Telling::Nothing => {
                 frames::put_opening(&self.config, &mut self.output);
                 self.talk = Talk::Talking;
                 None
@@ -126,7 +126,7 @@ impl<A: Allocator + Copy> Sending<A> {
     }
 
     /// What is told while it talks.
-    fn listen(&mut self, told: Told) -> Option<News>
+    fn listen(&mut self, told: Telling) -> Option<News>
         requires talking { self.old.talk ≡ Talk.Talking }
         requires room { length self.old.unsent + 64 ≤ pipe_size }
         requires lawful { IsLawful told }
@@ -134,36 +134,36 @@ impl<A: Allocator + Copy> Sending<A> {
         ensures news { result ≡ spec.heard_news told }
     {
         match told {
-            Told::Nothing => None,
-            Told::Opened(max_frame_size) => {
+            Telling::Nothing => None,
+            Telling::Opened(max_frame_size) => {
                 self.flow = self.flow.opened(max_frame_size);
                 None
             }
-            Told::Begun(next_outgoing_id, incoming_window) => {
+            Telling::Begun(next_outgoing_id, incoming_window) => {
                 self.flow = self.flow.begun(next_outgoing_id, incoming_window);
                 None
             }
-            Told::Flowed(limits) => {
+            Telling::Flowed(limits) => {
                 self.answer(limits);
                 None
             }
-            Told::Disposed(first, last, outcome) => Some(News::Disposition {
+            Telling::Disposed(first, last, outcome) => Some(News::Disposition {
                 first,
                 last,
                 outcome,
             }),
-            Told::Left(condition) | Told::Closed(condition) => self.end(condition),
-            Told::Unread => self.end(Condition::Other),
+            Telling::Left(condition) | Telling::Closed(condition) => self.end(condition),
+            Telling::Unread => self.end(Condition::Other),
         }
     }
 
     /// After its own close the receiver's alone counts [2.4.3].
-    fn listen_closing(&mut self, told: Told) -> Option<News>
+    fn listen_closing(&mut self, told: Telling) -> Option<News>
         ensures new { self.new ≡ spec.heard_closing told self.old }
         ensures news { result ≡ spec.closing_news told }
     {
         match told {
-            Told::Closed(condition) => self.end(condition),
+            Telling::Closed(condition) => self.end(condition),
             _ => None,
         }
     }

@@ -29,7 +29,7 @@ pub struct Limits {
 
 /// What a unit of the receiver's bytes tells.
 #[derive(Clone, Copy, Debug, PartialEq, Eq)]
-pub enum Told {
+pub enum Telling {
     /// Nothing that concerns a sender.
     Nothing,
     /// Its max-frame-size [2.7.1].
@@ -50,10 +50,10 @@ pub enum Told {
 
 /// What a flow tells.
 #[tactic(auto, using(crate::proofs::Fields::fields_are))]
-fn told_by_flow(p: &Flow<'_>) -> Told
+fn told_by_flow(p: &Flow<'_>) -> Telling
     ensures { result ≡ flow_told (flow_cells p.now) }
 {
-    Told::Flowed(Limits {
+    Telling::Flowed(Limits {
         next_incoming_id: p.next_incoming_id.unwrap_or(0),
         incoming_window: p.incoming_window,
         of_link: p.handle.is_some(),
@@ -66,52 +66,54 @@ fn told_by_flow(p: &Flow<'_>) -> Told
 
 /// What a disposition tells: nothing where it is of a sender, or has no outcome and does not settle.
 #[tactic(auto, using(crate::proofs::Fields::fields_are))]
-fn told_by_disposition(p: &Disposition<'_>) -> Told
+fn told_by_disposition(p: &Disposition<'_>) -> Telling
     ensures { result ≡ disposition_told (disposition_cells p.now) }
 {
     let last = p.last.unwrap_or(p.first);
     let outcome = Outcome::of(p.state);
     match p.role {
-        Role::Receiver if outcome.is_some() || p.settled => Told::Disposed(p.first, last, outcome),
-        _ => Told::Nothing,
+        Role::Receiver if outcome.is_some() || p.settled => Telling::Disposed(
+            p.first, last, outcome,
+        ),
+        _ => Telling::Nothing,
     }
 }
 
 /// What a performative tells.
 #[tactic(auto, using(crate::proofs::Fields::fields_are))]
-fn told_by(performative: &Performative<'_>) -> Told
+fn told_by(performative: &Performative<'_>) -> Telling
     ensures { result ≡ told_by (type_of performative.now) (performative_cells performative.now) }
 {
     match performative {
-        Performative::Open(p) => Told::Opened(p.max_frame_size),
-        Performative::Begin(p) => Told::Begun(p.next_outgoing_id, p.incoming_window),
+        Performative::Open(p) => Telling::Opened(p.max_frame_size),
+        Performative::Begin(p) => Telling::Begun(p.next_outgoing_id, p.incoming_window),
         Performative::Flow(p) => told_by_flow(p),
         Performative::Disposition(p) => told_by_disposition(p),
-        Performative::Detach(p) => Told::Left(Condition::of(p.error)),
-        Performative::End(p) => Told::Left(Condition::of(p.error)),
-        Performative::Close(p) => Told::Closed(Condition::of(p.error)),
-        Performative::Attach(_) | Performative::Transfer(_) => Told::Nothing,
+        Performative::Detach(p) => Telling::Left(Condition::of(p.error)),
+        Performative::End(p) => Telling::Left(Condition::of(p.error)),
+        Performative::Close(p) => Telling::Closed(Condition::of(p.error)),
+        Performative::Attach(_) | Performative::Transfer(_) => Telling::Nothing,
     }
 }
 
 /// What the body of a frame tells. A max-frame-size that is told is at least 512 [2.7.1].
-fn told_in(body: &[u8]) -> Told
+fn told_in(body: &[u8]) -> Telling
     ensures told { result ≡ told_in body.now }
     ensures lawful { IsLawful result }
 {
     what_is_read_may_be_written();
     if body.is_empty() {
-        return Told::Nothing;
+        return Telling::Nothing;
     }
     match read_body(body) {
         Ok((performative, _)) => told_by(&performative),
-        Err(_) => Told::Unread,
+        Err(_) => Telling::Unread,
     }
 }
 
 /// What the unit that waits tells; `None` where none waits. A max-frame-size that is told is at least 512
 /// [2.7.1].
-pub fn told_by_unit<A: Allocator + Copy>(input: &Splitter<A>) -> Option<Told>
+pub fn told_by_unit<A: Allocator + Copy>(input: &Splitter<A>) -> Option<Telling>
     requires { 8 ≤ input.now.limit }
     ensures some { IfSome result (λ t. (u : StreamUnit) × Waits input.now u × (t ≡ told_of u)) }
     ensures none { IfNone result ((u : StreamUnit) → Waits input.now u → ⊥) }
@@ -126,17 +128,17 @@ pub fn told_by_unit<A: Allocator + Copy>(input: &Splitter<A>) -> Option<Told>
     }
     match input.frame()? {
         Ok(frame) => Some(told_in(frame.body)),
-        Err(_) => Some(Told::Unread),
+        Err(_) => Some(Telling::Unread),
     }
 }
 
 /// What the receiver's header tells.
-fn told_by_header(header: &[u8; 8]) -> Told
+fn told_by_header(header: &[u8; 8]) -> Telling
     ensures { result ≡ told_of (StreamUnit.HeaderUnit header.now) }
 {
     if header == &HEADER {
-        Told::Nothing
+        Telling::Nothing
     } else {
-        Told::Unread
+        Telling::Unread
     }
 }

@@ -12,12 +12,12 @@ use Rattle.amqp_serve.specs.declared.serving.Policy.{Policy}
 use Rattle.amqp_endpoint.specs.Calls.{call_fault, call_spoken}
 use Rattle.amqp_endpoint.specs.Configs.{Configured}
 use Rattle.amqp_endpoint.specs.Connections.{slot_at, is_dead}
-use Rattle.amqp_serve.specs.Cuts.{Made, called_by, called, answer_at, place_channel, call_for, topped_by, topped, all_topped, topped_up}
+use Rattle.amqp_serve.specs.Cuts.{Made, called_by, called, answer_at, supply_channel, call_for, topped_by, topped, all_topped, topped_up}
 use Rattle.amqp_serve.specs.Cuts.{done_taken, done_from, answered, served_one, served_all, AreTimely, first_made, IsMade, IsFront}
 use Rattle.amqp_endpoint.specs.Lines.{line_of}
 use Rattle.amqp_endpoint.specs.Replies.{joined, reply_on}
 use Rattle.amqp_endpoint.specs.Runs.{InSession, IsStart, accepted_answer}
-use Rattle.amqp_serve.specs.Serving.{Place, lack, all_places, Stand, ToppingUp, Receiving, Settling, Starved, Over, reading, stand_told, stand_taken}
+use Rattle.amqp_serve.specs.Serving.{Supply, lack, all_supplies, Stand, ToppingUp, Receiving, Settling, Starved, Over, reading, stand_told, stand_taken}
 use Rattle.amqp_serve.specs.Serving.{Step, Serves, moved, recorded, recorded_by, fed}
 use Rattle.amqp_endpoint.specs.Steps.{EndpointState, acted_after, acted_outcome}
 use Rattle.amqp_serve.proofs.Cuts.{Stops, goes_no_further, new_made, new_good}
@@ -53,20 +53,20 @@ called_grows (Some fault) m channel c = grows_none m
 call_grows : (m : Made) (channel : ℕ) (c : session.Call) → Grows m (called m channel c)
 call_grows m channel c = called_grows (call_fault m.connection [] channel c) m channel c
 
-given_grows : (n : ℕ) (m : Made) (place : Place) → Grows m (topped_by n m place)
-given_grows zero m place = grows_none m
-given_grows (suc n) m place = call_grows m (place_channel place) (call_for place (suc n))
+given_grows : (n : ℕ) (m : Made) (supply : Supply) → Grows m (topped_by n m supply)
+given_grows zero m supply = grows_none m
+given_grows (suc n) m supply = call_grows m (supply_channel supply) (call_for supply (suc n))
 
-all_grow : (p : Policy) (places : List Place) (m : Made) → Grows m (all_topped p places m)
+all_grow : (p : Policy) (supplies : List Supply) (m : Made) → Grows m (all_topped p supplies m)
 all_grow p [] m = grows_none m
-all_grow p (place ∷ places) m =
-    grows_on m (topped p m place) (all_topped p (place ∷ places) m) (given_grows (lack p m.connection place) m place) (all_grow p places (topped p m place))
+all_grow p (supply ∷ supplies) m =
+    grows_on m (topped p m supply) (all_topped p (supply ∷ supplies) m) (given_grows (lack p m.connection supply) m supply) (all_grow p supplies (topped p m supply))
 
 up_grows : (p : Policy) (m : Made) → Grows m (topped_up p m)
-up_grows p m = all_grow p (all_places m.connection.config) m
+up_grows p m = all_grow p (all_supplies m.connection.config) m
 
 taken_grows : (p : Policy) (a : Stand) (m : Made) → Grows m (done_taken p a m)
-taken_grows p (ToppingUp places) m = all_grow p places m
+taken_grows p (ToppingUp supplies) m = all_grow p supplies m
 taken_grows p (Receiving channel handle) m = grows_none m
 taken_grows p (Settling channel id) m =
     let after = called m channel (session.Settle id p.outcome) in grows_on m after (topped_up p after) (call_grows m channel (session.Settle id p.outcome)) (up_grows p after)
@@ -78,7 +78,7 @@ from_grows p (Receiving channel handle) m =
     let after = called m channel (session.Take handle) in
     let stand = stand_taken after.connection.config channel (answer_at m.connection channel (session.Take handle)) in
     grows_on m after (done_taken p stand after) (call_grows m channel (session.Take handle)) (taken_grows p stand after)
-from_grows p (ToppingUp places) m = taken_grows p (ToppingUp places) m
+from_grows p (ToppingUp supplies) m = taken_grows p (ToppingUp supplies) m
 from_grows p (Settling channel id) m = taken_grows p (Settling channel id) m
 from_grows p Starved m = grows_none m
 from_grows p Over m = grows_none m
@@ -111,7 +111,7 @@ fewer_grow p max least m stage (u ∷ us) (v ∷ vs) a b e x y i g =
 
 -- only one stand is the end
 is_over : (b : Stand) → IsEnded b → b ≡ Over
-is_over (ToppingUp places) h = absurd h
+is_over (ToppingUp supplies) h = absurd h
 is_over (Receiving channel handle) h = absurd h
 is_over (Settling channel id) h = absurd h
 is_over Starved h = absurd h

@@ -21,7 +21,7 @@ use Rattle.amqp_endpoint.specs.Lines.{line_of, told_on}
 use Rattle.amqp_endpoint.specs.Replies.{reply_on}
 use Rattle.amqp_endpoint.specs.Runs.{Call, Feed, InSession, Output, Fed, MovedOut}
 use Rattle.amqp_endpoint.specs.Traces.{moved_by, taken_by}
-use Rattle.amqp_serve.specs.Serving.{Stand, ToppingUp, Receiving, Settling, Starved, Over, all_places, stand_told, lack, top_up_by}
+use Rattle.amqp_serve.specs.Serving.{Stand, ToppingUp, Receiving, Settling, Starved, Over, all_supplies, stand_told, lack, top_up_by}
 use Rattle.amqp_serve.specs.Serving.{Step, Serves, Rests, MovesOut, Feeds, Takes, Settles, TopsUp, Passes, Finishes, recorded_by, fed, moved, recorded}
 use Rattle.amqp_endpoint.specs.Steps as steps
 use Rattle.amqp_endpoint.specs.Steps.{EndpointState, IsTaken, IsActed, IsKept, IsFed, TakesAndActs, Acts, acted_after, acted_outcome, room_for, told_outcome}
@@ -35,7 +35,7 @@ use Rattle.amqp_serve.proofs.ServingTops.{call_keeps}
 
 -- memory was refused, or the input has ended
 abbrev pub IsStuck : Stand → Type 0
-IsStuck (ToppingUp places) = ⊥
+IsStuck (ToppingUp supplies) = ⊥
 IsStuck (Receiving channel handle) = ⊥
 IsStuck (Settling channel id) = ⊥
 IsStuck Starved = Unit {0}
@@ -43,7 +43,7 @@ IsStuck Over = Unit {0}
 
 -- the input has ended
 abbrev pub IsEnded : Stand → Type 0
-IsEnded (ToppingUp places) = ⊥
+IsEnded (ToppingUp supplies) = ⊥
 IsEnded (Receiving channel handle) = ⊥
 IsEnded (Settling channel id) = ⊥
 IsEnded Starved = ⊥
@@ -55,8 +55,8 @@ ended (MovesOut next room bytes does x) h = ended x h
 ended (Feeds next piece used told none range does x) h = absurd h
 ended (Takes next channel handle answer does x) h = absurd h
 ended (Settles next channel id answer none small does x) h = absurd h
-ended (TopsUp next place places answer none lacks does x) h = absurd h
-ended (Passes place places lacks x) h = absurd h
+ended (TopsUp next supply supplies answer none lacks does x) h = absurd h
+ended (Passes supply supplies lacks x) h = absurd h
 ended (Finishes next end none does x) h = absurd h
 
 -- once memory was refused bytes are moved out, and nothing else is done
@@ -70,7 +70,7 @@ record IsHalted (s t : EndpointState) (xs : List Step) (b : Stand) (w r : List �
 
 -- where all that follows is done nothing is lacking, and no unit is in the buffer
 pub record IsGood (p : Policy) (m : Made) (input : SplitterState) : Type 0 where
-  pub still : AreStill p m.connection (all_places m.connection.config)
+  pub still : AreStill p m.connection (all_supplies m.connection.config)
   pub rest : IsRest input.limit input.stage input.filled
   pub left : (input.filled ≡ []) ⊎ (is_dead m.connection.phase ≡ false)
 
@@ -251,11 +251,11 @@ module _ (p : Policy) (s next : EndpointState) (b : Stand) (t : EndpointState) (
 
   -- where nothing was acted upon, topping up again changes nothing
   unacted : IsGood p (made_at s w r) s.input → s.connection ≡ next.connection → s.unsent ≡ next.unsent →
-      stand_told next.connection.config told ≡ ToppingUp (all_places next.connection.config) → made_at s w r ≡ then_made
+      stand_told next.connection.config told ≡ ToppingUp (all_supplies next.connection.config) → made_at s w r ≡ then_made
   unacted good c u stand =
       let kept = kept_made s next w r c u in
       let still = (good_made kept good).still in
-      kept ∙ sym (ap (λ (a : Stand). done_from p a (made_at next (w ++ []) (r ++ []))) stand ∙ all_unchanged p (made_at next (w ++ []) (r ++ [])) (all_places next.connection.config) still)
+      kept ∙ sym (ap (λ (a : Stand). done_from p a (made_at next (w ++ []) (r ++ []))) stand ∙ all_unchanged p (made_at next (w ++ []) (r ++ [])) (all_supplies next.connection.config) still)
 
   -- a connection that is over
   fed_dead : IsKept s next → used ≡ 0 → told ≡ outcome.Dead → Rest → Whole
@@ -378,8 +378,8 @@ halted (MovesOut {p} {a} {b} {s} {last} {steps} next room bytes does x) e w r =
 halted (Feeds next piece used told none range does x) e w r = absurd (grind (arith, e))
 halted (Takes next channel handle answer does x) e w r = absurd (grind (arith, e))
 halted (Settles next channel id answer none small does x) e w r = absurd (grind (arith, e))
-halted (TopsUp next place places answer none lacks does x) e w r = absurd (grind (arith, e))
-halted (Passes place places lacks x) e w r = absurd (grind (arith, e))
+halted (TopsUp next supply supplies answer none lacks does x) e w r = absurd (grind (arith, e))
+halted (Passes supply supplies lacks x) e w r = absurd (grind (arith, e))
 halted (Finishes next end none does x) e w r = absurd (grind (arith, e))
 
 -- The whole of it. ----------------------------------------------------------------------------------------------------
@@ -399,10 +399,10 @@ follows (Takes {p} {b} {s} {last} {steps} next channel handle answer does x) e w
 follows (Settles {p} {b} {s} {last} {steps} next channel id answer none small does x) e w r =
     goes_on p s next b last (record { call = InSession channel (Settle id p.outcome); answer = answer }) steps w r
     (settle_made p s next channel id answer w r none does) (call_keeps s next channel _ answer does) refl (follows x e _ _)
-follows (TopsUp {p} {b} {s} {last} {steps} next place places answer none lacks does x) e w r =
-    let y = top_made p s next place places answer w r none lacks does in
-    goes_on p s next b last (record { call = top_up_by place (lack p s.connection place); answer = answer }) steps w r y.0 y.1
-    (ap (λ (c : Call). taken_by c answer) (top_call place (lack p s.connection place))) (follows x e _ _)
-follows (Passes {p} {b} {s} {last} {steps} place places lacks x) e w r =
-    goes_same p s b last steps w r (ap (λ (n : ℕ). all_topped p places (topped_by n (made_at s w r) place)) lacks) (follows x e w r)
+follows (TopsUp {p} {b} {s} {last} {steps} next supply supplies answer none lacks does x) e w r =
+    let y = top_made p s next supply supplies answer w r none lacks does in
+    goes_on p s next b last (record { call = top_up_by supply (lack p s.connection supply); answer = answer }) steps w r y.0 y.1
+    (ap (λ (c : Call). taken_by c answer) (top_call supply (lack p s.connection supply))) (follows x e _ _)
+follows (Passes {p} {b} {s} {last} {steps} supply supplies lacks x) e w r =
+    goes_same p s b last steps w r (ap (λ (n : ℕ). all_topped p supplies (topped_by n (made_at s w r) supply)) lacks) (follows x e w r)
 follows (Finishes next end none does x) e w r = absurd (e (ended x tt))

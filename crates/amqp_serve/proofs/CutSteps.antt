@@ -13,12 +13,12 @@ use Rattle.amqp_serve.specs.declared.serving.Policy.{Policy}
 use Rattle.amqp_endpoint.specs.Calls.{call_fault, call_event, call_spoken}
 use Rattle.amqp_endpoint.specs.Configs.{Configured}
 use Rattle.amqp_endpoint.specs.Connections.{ConnectionState, connection_after, slot_at}
-use Rattle.amqp_serve.specs.Cuts.{Made, called_by, called, answered_by, answer_at, place_channel, call_for, topped_by, all_topped, topped_up, done_taken, done_from}
+use Rattle.amqp_serve.specs.Cuts.{Made, called_by, called, answered_by, answer_at, supply_channel, call_for, topped_by, all_topped, topped_up, done_taken, done_from}
 use Rattle.amqp_endpoint.specs.Replies.{joined}
 use Rattle.amqp_endpoint.specs.Runs.{Call, InSession, Answer, Fed, Accepted, Dropped, HandedUp, Refused, MovedOut, Holds, Ended, Does}
 use Rattle.amqp_endpoint.specs.Runs.{CallDone, IsMoved, IsWritten, accepted_answer}
 use Rattle.amqp_endpoint.specs.Traces.{moved_by}
-use Rattle.amqp_serve.specs.Serving.{Place, WindowOf, CreditOf, lack, top_up_by, all_places, Stand, ToppingUp, Receiving, Settling, stand_told, stand_taken, recorded_by}
+use Rattle.amqp_serve.specs.Serving.{Supply, WindowOf, CreditOf, lack, top_up_by, all_supplies, Stand, ToppingUp, Receiving, Settling, stand_told, stand_taken, recorded_by}
 use Rattle.amqp_endpoint.specs.Steps.{EndpointState, IsKept}
 use Rattle.amqp_endpoint.proofs.Traces.{answer_still}
 use Rattle.amqp_serve.proofs.CutTops.{AreStill, all_still, config_all}
@@ -109,7 +109,7 @@ kept_made s t w r c u =
 
 -- where it stands once a message was handed up, by whether its sender settled it
 abbrev if_settled : Bool → Configured → ℕ → ℕ → Stand
-if_settled settled config channel id = if settled then ToppingUp (all_places config) else Settling channel id
+if_settled settled config channel id = if settled then ToppingUp (all_supplies config) else Settling channel id
 
 handed_same : (p : Policy) (config : Configured) (channel id : ℕ) (settled : Bool) (m : Made) →
     done_taken p (if_settled settled config channel id) m ≡ done_from p (if_settled settled config channel id) m
@@ -134,44 +134,44 @@ take_made p s t channel handle answer w r d =
 -- So does settling it.
 pub settle_made : (p : Policy) (s t : EndpointState) (channel id : ℕ) (answer : Answer) (w r : List ℕ) → s.unsent ≡ [] → CallDone s t channel (session.Settle id p.outcome) answer →
     done_from p (Settling channel id) (made_at s w r)
-    ≡ done_from p (ToppingUp (all_places t.connection.config)) (made_at t (w ++ moved_by answer) (r ++ recorded_by (InSession channel (session.Settle id p.outcome)) answer))
+    ≡ done_from p (ToppingUp (all_supplies t.connection.config)) (made_at t (w ++ moved_by answer) (r ++ recorded_by (InSession channel (session.Settle id p.outcome)) answer))
 settle_made p s t channel id answer w r none d =
     ap (λ (m : Made). topped_up p m) (silent_made s t channel (session.Settle id p.outcome) w r answer none d).made
 
--- The call that tops a place up is one for the session on its channel.
-pub top_call : (place : Place) (n : ℕ) → top_up_by place n ≡ InSession (place_channel place) (call_for place n)
+-- The call that tops a supply up is one for the session on its channel.
+pub top_call : (supply : Supply) (n : ℕ) → top_up_by supply n ≡ InSession (supply_channel supply) (call_for supply n)
 top_call (WindowOf channel) n = refl
 top_call (CreditOf channel handle) n = refl
 
-given_some : (n : ℕ) (m : Made) (place : Place) → 0 < n → topped_by n m place ≡ called m (place_channel place) (call_for place n)
-given_some zero m place some = absurd (omega (arith, some))
-given_some (suc n) m place some = refl
+given_some : (n : ℕ) (m : Made) (supply : Supply) → 0 < n → topped_by n m supply ≡ called m (supply_channel supply) (call_for supply n)
+given_some zero m supply some = absurd (omega (arith, some))
+given_some (suc n) m supply some = refl
 
--- So does topping up a place.
-pub top_made : (p : Policy) (s t : EndpointState) (place : Place) (places : List Place) (answer : Answer) (w r : List ℕ) → s.unsent ≡ [] → 0 < lack p s.connection place →
-    Does s t (top_up_by place (lack p s.connection place)) answer →
-    (done_from p (ToppingUp (place ∷ places)) (made_at s w r)
-    ≡ done_from p (ToppingUp places) (made_at t (w ++ moved_by answer) (r ++ recorded_by (top_up_by place (lack p s.connection place)) answer)))
+-- So does topping up a supply.
+pub top_made : (p : Policy) (s t : EndpointState) (supply : Supply) (supplies : List Supply) (answer : Answer) (w r : List ℕ) → s.unsent ≡ [] → 0 < lack p s.connection supply →
+    Does s t (top_up_by supply (lack p s.connection supply)) answer →
+    (done_from p (ToppingUp (supply ∷ supplies)) (made_at s w r)
+    ≡ done_from p (ToppingUp supplies) (made_at t (w ++ moved_by answer) (r ++ recorded_by (top_up_by supply (lack p s.connection supply)) answer)))
     × IsUnchanged s.input t.input
-top_made p s t place places answer w r none some d =
-    let n = lack p s.connection place in
-    let is = top_call place (lack p s.connection place) in
+top_made p s t supply supplies answer w r none some d =
+    let n = lack p s.connection supply in
+    let is = top_call supply (lack p s.connection supply) in
     let done = subst (λ (c : Call). Does s t c answer) is d in
-    let y = silent_made s t (place_channel place) (call_for place n) w r answer none done in (
-      ap (λ (m : Made). all_topped p places m)
-          (given_some n (made_at s w r) place some ∙ y.made ∙ ap (λ (c : Call). made_at t (w ++ moved_by answer) (r ++ recorded_by c answer)) (sym is)),
+    let y = silent_made s t (supply_channel supply) (call_for supply n) w r answer none done in (
+      ap (λ (m : Made). all_topped p supplies m)
+          (given_some n (made_at s w r) supply some ∙ y.made ∙ ap (λ (c : Call). made_at t (w ++ moved_by answer) (r ++ recorded_by c answer)) (sym is)),
       y.input,
     )
 
 -- What was topped up is still. ------------------------------------------------------------------------------------------
 
 abbrev IsStill : Policy → Made → Type 0
-IsStill p m = AreStill p m.connection (all_places m.connection.config)
+IsStill p m = AreStill p m.connection (all_supplies m.connection.config)
 
 still_up : (p : Policy) (m : Made) → IsStill p (topped_up p m)
 still_up p m =
-    let places = all_places m.connection.config in
-    subst (λ (config : Configured). AreStill p (topped_up p m).connection (all_places config)) (sym (config_all p places m)) (all_still p m places)
+    let supplies = all_supplies m.connection.config in
+    subst (λ (config : Configured). AreStill p (topped_up p m).connection (all_supplies config)) (sym (config_all p supplies m)) (all_still p m supplies)
 
 settled_still : (p : Policy) (channel id : ℕ) (settled : Bool) (m : Made) → IsStill p (done_taken p (if_settled settled m.connection.config channel id) m)
 settled_still p channel id true m = still_up p m
@@ -185,7 +185,7 @@ event_still : (p : Policy) (e : Event) (m : Made) → IsStill p (done_from p (st
 event_still p (event.Ready channel handle) m = taken_still p channel (answer_at m.connection channel (session.Take handle)) (called m channel (session.Take handle))
 event_still p _ m = still_up p m
 
--- Whatever is told but a want of memory, all places are topped up at last.
+-- Whatever is told but a want of memory, all supplies are topped up at last.
 pub told_still : (p : Policy) (told : Outcome) (m : Made) → (told ≡ outcome.NoMemory → ⊥) → IsStill p (done_from p (stand_told m.connection.config told) m)
 told_still p (outcome.Event e) m fine = event_still p e m
 told_still p outcome.NoMemory m fine = absurd (fine refl)

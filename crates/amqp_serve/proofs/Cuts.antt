@@ -17,7 +17,7 @@ use Rattle.amqp_endpoint.specs.Connections.{ConnectionState, connection_begins, 
 use Rattle.amqp_serve.specs.Cuts.{Made, served_one, served_all, AreTimely, first_made, left_over, end_with, IsMade, AreAlike}
 use Rattle.amqp_endpoint.specs.Runs.{Call, Finish, Answer, Ended, IsStart, end_of}
 use Rattle.amqp_endpoint.specs.Takings.{link_in}
-use Rattle.amqp_serve.specs.Serving.{Place, WindowOf, CreditOf, window_lack, credit_lack, all_places, lack, top_up_by, moved, recorded, fed, IsServed}
+use Rattle.amqp_serve.specs.Serving.{Supply, WindowOf, CreditOf, window_lack, credit_lack, all_supplies, lack, top_up_by, moved, recorded, fed, IsServed}
 use Rattle.amqp_serve.specs.Serving.{Stand, Step, Serves, Rests, MovesOut, Feeds, Takes, Settles, TopsUp, Passes, Finishes}
 use Rattle.amqp_endpoint.specs.Steps.{EndpointState}
 use Rattle.amqp_serve.proofs.CutTops.{Still, AreStill}
@@ -28,13 +28,13 @@ use Rattle.amqp_endpoint.proofs.Endpoints.{free_at}
 -- The start. ----------------------------------------------------------------------------------------------------------
 
 -- a new connection lacks nothing
-new_still : (p : Policy) (config : Configured) (place : Place) → Still p (connection_begins config) place
+new_still : (p : Policy) (config : Configured) (supply : Supply) → Still p (connection_begins config) supply
 new_still p config (WindowOf channel) = inl (ap (λ (x : Slot SessionState). window_lack config.window x) (free_at 0 (channels config) channel))
 new_still p config (CreditOf channel handle) = inl (ap (λ (x : Slot SessionState). credit_lack p.credit config.bounds.allowed (link_in handle x)) (free_at 0 (channels config) channel))
 
-all_new : (p : Policy) (config : Configured) (places : List Place) → AreStill p (connection_begins config) places
+all_new : (p : Policy) (config : Configured) (supplies : List Supply) → AreStill p (connection_begins config) supplies
 all_new p config [] = tt
-all_new p config (place ∷ places) = (new_still p config place, all_new p config places)
+all_new p config (supply ∷ supplies) = (new_still p config supply, all_new p config supplies)
 
 -- A new endpoint has made nothing.
 pub new_made : (config : Configured) (s : EndpointState) → IsStart config s → made_at s [] [] ≡ first_made config
@@ -43,7 +43,7 @@ new_made config s start = made_same s.connection (connection_begins config) s.un
 -- It lacks nothing, and its buffer is empty.
 pub new_good : (p : Policy) (config : Configured) (s : EndpointState) → IsStart config s → IsGood p (made_at s [] []) s.input
 new_good p config s start = record {
-  still = subst (λ (c : ConnectionState). AreStill p c (all_places c.config)) (sym start.connection) (all_new p config (all_places config));
+  still = subst (λ (c : ConnectionState). AreStill p c (all_supplies c.config)) (sym start.connection) (all_new p config (all_supplies config));
   rest = nothing_rests s.input.limit s.input.stage s.input.filled start.filled;
   left = inl start.filled;
 }
@@ -59,7 +59,7 @@ abbrev AtFirst : EndpointState → List Step → Type 0
 AtFirst s [] = Unit {0}
 AtFirst s (x ∷ xs) = AtEnd s x.call x.answer
 
-top_first : (s : EndpointState) (place : Place) (n : ℕ) (answer : Answer) → AtEnd s (top_up_by place n) answer
+top_first : (s : EndpointState) (supply : Supply) (n : ℕ) (answer : Answer) → AtEnd s (top_up_by supply n) answer
 top_first s (WindowOf channel) n answer = tt
 top_first s (CreditOf channel handle) n answer = tt
 
@@ -70,8 +70,8 @@ at_first (MovesOut next room bytes does x) = tt
 at_first (Feeds next piece used told none range does x) = tt
 at_first (Takes next channel handle answer does x) = tt
 at_first (Settles next channel id answer none small does x) = tt
-at_first (TopsUp {p} {b} {s} next place places answer none lacks does x) = top_first s place (lack p s.connection place) answer
-at_first (Passes place places lacks x) = at_first x
+at_first (TopsUp {p} {b} {s} next supply supplies answer none lacks does x) = top_first s supply (lack p s.connection supply) answer
+at_first (Passes supply supplies lacks x) = at_first x
 at_first (Finishes next end none does x) = (none, does.1)
 
 -- What is left in the buffer. -------------------------------------------------------------------------------------------

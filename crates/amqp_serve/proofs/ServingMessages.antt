@@ -8,14 +8,14 @@ use Rattle.amqp_serve.specs.declared.serving.Policy.{Policy}
 use Rattle.amqp_serve.specs.declared.serving.ServeFault.TheVariants as fault
 use Rattle.amqp_endpoint.specs.Endpoints.{accepted_by}
 use Rattle.amqp_endpoint.specs.Runs.{Refused, Handed, HandedUp, InSession, CallDone}
-use Rattle.amqp_serve.specs.Serving.{all_places, ToppingUp, Receiving, Settling, stand_handed, Rests, Takes, Settles, record_of, IsPart, BrokeOff, Works}
+use Rattle.amqp_serve.specs.Serving.{all_supplies, ToppingUp, Receiving, Settling, stand_handed, Rests, Takes, Settles, record_of, IsPart, BrokeOff, Works}
 use Rattle.amqp_endpoint.specs.Steps.{EndpointState}
 use Rattle.amqp_serve.proofs.Servings.{works_one}
 use Rattle.amqp_serve.proofs.ServingTops.{call_keeps, accepted_silent}
 
 module _ (p : Policy) (s t : EndpointState) (channel handle : ℕ) (w k k1 : Option (List ℕ)) where
   -- a take that is refused
-  pub take_refused : (fault : CallFault) → CallDone s t channel (Take handle) (Refused fault) → Works p (Receiving channel handle) (ToppingUp (all_places t.connection.config)) s t w w k k
+  pub take_refused : (fault : CallFault) → CallDone s t channel (Take handle) (Refused fault) → Works p (Receiving channel handle) (ToppingUp (all_supplies t.connection.config)) s t w w k k
   take_refused fault done =
       works_one p _ _ s t w k k _ (Takes t channel handle (Refused fault) done Rests) refl refl (Appends-nil k) (call_keeps s t channel (Take handle) (Refused fault) done)
 
@@ -46,7 +46,7 @@ module _ (p : Policy) (s t : EndpointState) (channel handle : ℕ) (w k k1 : Opt
 
 -- it is settled
 pub settle_works : (p : Policy) (s t : EndpointState) (channel id : ℕ) (r : Result (Unit {0}) CallFault) (w k : Option (List ℕ)) → s.unsent ≡ [] → id < 2 ^ 32
-    → CallDone s t channel (Settle id p.outcome) (accepted_by r) → Works p (Settling channel id) (ToppingUp (all_places t.connection.config)) s t w w k k
+    → CallDone s t channel (Settle id p.outcome) (accepted_by r) → Works p (Settling channel id) (ToppingUp (all_supplies t.connection.config)) s t w w k k
 settle_works p s t channel id r w k none small done =
     works_one p _ _ s t w k k _ (Settles t channel id (accepted_by r) none small done Rests) refl (accepted_silent r) (Appends-nil k)
     (call_keeps s t channel (Settle id p.outcome) (accepted_by r) done)

@@ -18,7 +18,7 @@ use Rattle.amqp_endpoint.specs.Endpoints.{accepted_by}
 use Rattle.amqp_endpoint.specs.Runs.{Answer, Fed, Accepted, Dropped, HandedUp, Refused, MovedOut, Holds, Ended, CallDone}
 use Rattle.amqp_endpoint.specs.Takings.{link_in}
 use Rattle.amqp_endpoint.specs.Traces.{moved_by}
-use Rattle.amqp_serve.specs.Serving.{Place, WindowOf, CreditOf, window_lack, credit_lack, lack, session_places, all_places_from, Stand, ToppingUp, all_places, Serves, Rests, TopsUp, Passes, Works}
+use Rattle.amqp_serve.specs.Serving.{Supply, WindowOf, CreditOf, window_lack, credit_lack, lack, session_supplies, all_supplies_from, Stand, ToppingUp, all_supplies, Serves, Rests, TopsUp, Passes, Works}
 use Rattle.amqp_endpoint.specs.Steps.{EndpointState}
 use Rattle.amqp_serve.proofs.Servings.{works_one}
 
@@ -38,8 +38,8 @@ pub accepted_silent : (r : Result (Unit {0}) CallFault) → moved_by (accepted_b
 accepted_silent (Ok x) = refl
 accepted_silent (Err fault) = refl
 
--- a place is given what it lacks
-pub window_topped : (p : Policy) (rest : List Place) (s t : EndpointState) (channel n : ℕ) (r : Result (Unit {0}) CallFault) (w k : Option (List ℕ))
+-- a supply is given what it lacks
+pub window_topped : (p : Policy) (rest : List Supply) (s t : EndpointState) (channel n : ℕ) (r : Result (Unit {0}) CallFault) (w k : Option (List ℕ))
     → s.unsent ≡ [] → 0 < n → n ≡ window_lack s.connection.config.window (slot_at s.connection channel) → CallDone s t channel (Widen n) (accepted_by r)
     → Works p (ToppingUp (WindowOf channel ∷ rest)) (ToppingUp rest) s t w w k k
 window_topped p rest s t channel n r w k none some is done =
@@ -49,7 +49,7 @@ window_topped p rest s t channel n r w k none some is done =
     (call_keeps s t channel (Widen n) (accepted_by r) done)
 
 -- a link is granted what it lacks
-pub credit_topped : (p : Policy) (rest : List Place) (s t : EndpointState) (channel handle n : ℕ) (r : Result (Unit {0}) CallFault) (w k : Option (List ℕ))
+pub credit_topped : (p : Policy) (rest : List Supply) (s t : EndpointState) (channel handle n : ℕ) (r : Result (Unit {0}) CallFault) (w k : Option (List ℕ))
     → s.unsent ≡ [] → 0 < n → n ≡ credit_lack p.credit s.connection.config.bounds.allowed (link_in handle (slot_at s.connection channel)) → CallDone s t channel (Grant handle n) (accepted_by r)
     → Works p (ToppingUp (CreditOf channel handle ∷ rest)) (ToppingUp rest) s t w w k k
 credit_topped p rest s t channel handle n r w k none some is done =
@@ -65,10 +65,10 @@ works_silent p a b s w k serves = record {
   input = record { limit = refl; stage = refl; filled = refl };
 }
 
--- a place that lacks nothing
-pub place_passed : (p : Policy) (place : Place) (rest : List Place) (s : EndpointState) (w k : Option (List ℕ)) → lack p s.connection place ≡ 0
-    → Works p (ToppingUp (place ∷ rest)) (ToppingUp rest) s s w w k k
-place_passed p place rest s w k none = works_silent p _ _ s w k (Passes place rest none Rests)
+-- a supply that lacks nothing
+pub supply_passed : (p : Policy) (supply : Supply) (rest : List Supply) (s : EndpointState) (w k : Option (List ℕ)) → lack p s.connection supply ≡ 0
+    → Works p (ToppingUp (supply ∷ rest)) (ToppingUp rest) s s w w k k
+supply_passed p supply rest s w k none = works_silent p _ _ s w k (Passes supply rest none Rests)
 
 -- no session is live here
 abbrev pub IsNotLive : Slot SessionState → Type 0
@@ -86,7 +86,7 @@ no_credit credit allowed handle Free h = refl
 no_credit credit allowed handle (Live s) h = absurd h
 no_credit credit allowed handle Awaits h = refl
 
-no_credits : (p : Policy) (rest : List Place) (s : EndpointState) (channel i n : ℕ) → IsNotLive (slot_at s.connection channel)
+no_credits : (p : Policy) (rest : List Supply) (s : EndpointState) (channel i n : ℕ) → IsNotLive (slot_at s.connection channel)
     → Serves p (ToppingUp (tabulate i n (λ handle. CreditOf channel handle) ++ rest)) s [] (ToppingUp rest) s
 no_credits p rest s channel i zero h = Rests
 no_credits p rest s channel i (suc n) h =
@@ -94,8 +94,8 @@ no_credits p rest s channel i (suc n) h =
     (no_credits p rest s channel (suc i) n h)
 
 -- so nothing is lacking there
-pub session_passed : (p : Policy) (rest : List Place) (s : EndpointState) (handles channel : ℕ) (w k : Option (List ℕ)) → IsNotLive (slot_at s.connection channel)
-    → Works p (ToppingUp (session_places handles channel ++ rest)) (ToppingUp rest) s s w w k k
+pub session_passed : (p : Policy) (rest : List Supply) (s : EndpointState) (handles channel : ℕ) (w k : Option (List ℕ)) → IsNotLive (slot_at s.connection channel)
+    → Works p (ToppingUp (session_supplies handles channel ++ rest)) (ToppingUp rest) s s w w k k
 session_passed p rest s handles channel w k h =
     works_silent p _ _ s w k (Passes (WindowOf channel) (tabulate 0 handles (λ handle. CreditOf channel handle) ++ rest)
     (no_window s.connection.config.window (slot_at s.connection channel) h) (no_credits p rest s channel 0 handles h))
@@ -110,27 +110,27 @@ tabulate_step f i n l =
 pub tabulate_none : {A : Type 0} (f : ℕ → A) (i n : ℕ) → n ≤ i → tabulate i (n - i) f ≡ []
 tabulate_none f i n l = let none : n - i ≡ 0 = omega arith in ap (λ (m : ℕ). tabulate i m f) none
 
--- the places of the first channel that is left, and of the others
-pub places_step : (handles i n : ℕ) → i < n → all_places_from handles i (n - i) ≡ session_places handles i ++ all_places_from handles (i + 1) (n - (i + 1))
-unfolding all_places_from
-places_step handles i n l = ap (λ (ks : List ℕ). flat_map (λ k. session_places handles k) ks) (tabulate_step (λ (k : ℕ). k) i n l)
+-- the supplies of the first channel that is left, and of the others
+pub places_step : (handles i n : ℕ) → i < n → all_supplies_from handles i (n - i) ≡ session_supplies handles i ++ all_supplies_from handles (i + 1) (n - (i + 1))
+unfolding all_supplies_from
+places_step handles i n l = ap (λ (ks : List ℕ). flat_map (λ k. session_supplies handles k) ks) (tabulate_step (λ (k : ℕ). k) i n l)
 
 -- where no channel is left
-pub places_none : (handles i n : ℕ) → n ≤ i → all_places_from handles i (n - i) ≡ []
-unfolding all_places_from
-places_none handles i n l = ap (λ (ks : List ℕ). flat_map (λ k. session_places handles k) ks) (tabulate_none (λ (k : ℕ). k) i n l)
+pub places_none : (handles i n : ℕ) → n ≤ i → all_supplies_from handles i (n - i) ≡ []
+unfolding all_supplies_from
+places_none handles i n l = ap (λ (ks : List ℕ). flat_map (λ k. session_supplies handles k) ks) (tabulate_none (λ (k : ℕ). k) i n l)
 
 -- all of them are left at first
 pub tabulate_all : {A : Type 0} (f : ℕ → A) (n : ℕ) → tabulate 0 n f ≡ tabulate 0 (n - 0) f
 tabulate_all f n = let all : n ≡ n - 0 = omega arith in ap (λ (m : ℕ). tabulate 0 m f) all
 
--- all places, where the highest handle and channel are these
-pub all_from : (config : Configured) (h n : ℕ) → h ≡ config.handle_max → n ≡ config.channel_max → all_places config ≡ all_places_from (h + 1) 0 (n + 1 - 0)
-unfolding all_places
+-- all supplies, where the highest handle and channel are these
+pub all_from : (config : Configured) (h n : ℕ) → h ≡ config.handle_max → n ≡ config.channel_max → all_supplies config ≡ all_supplies_from (h + 1) 0 (n + 1 - 0)
+unfolding all_supplies
 all_from config h n handles channels =
     let hs : suc config.handle_max ≡ h + 1 = omega arith in
     let cs : suc config.channel_max ≡ n + 1 - 0 = omega arith in
-    ap (λ (i : ℕ). all_places_from i 0 (suc config.channel_max)) hs ∙ ap (λ (i : ℕ). all_places_from (h + 1) 0 i) cs
+    ap (λ (i : ℕ). all_supplies_from i 0 (suc config.channel_max)) hs ∙ ap (λ (i : ℕ). all_supplies_from (h + 1) 0 i) cs
 
 -- where no window is shown no session is live
 pub none_live : (f : SessionState → ℕ) (x : Slot SessionState) (shown : Option ℕ) → shown ≡ option_map f (live_in x) → is_some shown ≡ false → IsNotLive x

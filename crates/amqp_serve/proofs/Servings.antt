@@ -11,7 +11,7 @@ use Rattle.amqp_serve.specs.declared.serving.Policy.{Policy}
 use Rattle.amqp_serve.specs.declared.serving.ServeFault.{ServeFault}
 use Rattle.amqp_serve.specs.declared.serving.ServeFault.TheVariants as fault
 use Rattle.amqp_endpoint.specs.Runs.{Output, MovedOut, Does, Run}
-use Rattle.amqp_serve.specs.Serving.{Stand, Starved, Step, Serves, Rests, MovesOut, Feeds, Takes, Settles, TopsUp, Passes, Finishes, Place, WindowOf, CreditOf, lack, top_up_by, recorded_by, fed}
+use Rattle.amqp_serve.specs.Serving.{Stand, Starved, Step, Serves, Rests, MovesOut, Feeds, Takes, Settles, TopsUp, Passes, Finishes, Supply, WindowOf, CreditOf, lack, top_up_by, recorded_by, fed}
 use Rattle.amqp_serve.specs.Serving.{moved, recorded, Served, IsLeft, BrokeOff, Works, IsPart}
 use Rattle.amqp_endpoint.specs.Steps.{EndpointState}
 use Rattle.amqp_endpoint.specs.Traces.{IsInRange, AreInRange, moved_by, taken_by}
@@ -23,8 +23,8 @@ serves_on (MovesOut next room bytes does x) y = MovesOut next room bytes does (s
 serves_on (Feeds next piece used told none bytes does x) y = Feeds next piece used told none bytes does (serves_on x y)
 serves_on (Takes next channel handle answer does x) y = Takes next channel handle answer does (serves_on x y)
 serves_on (Settles next channel id answer none small does x) y = Settles next channel id answer none small does (serves_on x y)
-serves_on (TopsUp next place places answer none lacks does x) y = TopsUp next place places answer none lacks does (serves_on x y)
-serves_on (Passes place places lacks x) y = Passes place places lacks (serves_on x y)
+serves_on (TopsUp next supply supplies answer none lacks does x) y = TopsUp next supply supplies answer none lacks does (serves_on x y)
+serves_on (Passes supply supplies lacks x) y = Passes supply supplies lacks (serves_on x y)
 serves_on (Finishes next end none does x) y = Finishes next end none does (serves_on x y)
 
 -- what is served is a run
@@ -34,11 +34,11 @@ run_of (MovesOut next room bytes does x) = (next, does, run_of x)
 run_of (Feeds next piece used told none bytes does x) = (next, does, run_of x)
 run_of (Takes next channel handle answer does x) = (next, does, run_of x)
 run_of (Settles next channel id answer none small does x) = (next, does, run_of x)
-run_of (TopsUp next place places answer none lacks does x) = (next, does, run_of x)
-run_of (Passes place places lacks x) = run_of x
+run_of (TopsUp next supply supplies answer none lacks does x) = (next, does, run_of x)
+run_of (Passes supply supplies lacks x) = run_of x
 run_of (Finishes next end none does x) = (next, does, run_of x)
 
-top_up_ranges : (place : Place) (n : ℕ) → IsInRange (top_up_by place n)
+top_up_ranges : (supply : Supply) (n : ℕ) → IsInRange (top_up_by supply n)
 top_up_ranges (WindowOf channel) n = tt
 top_up_ranges (CreditOf channel handle) n = tt
 
@@ -49,8 +49,8 @@ ranges_of (MovesOut next room bytes does x) = (tt, ranges_of x)
 ranges_of (Feeds next piece used told none bytes does x) = (bytes, ranges_of x)
 ranges_of (Takes next channel handle answer does x) = (tt, ranges_of x)
 ranges_of (Settles next channel id answer none small does x) = (small, ranges_of x)
-ranges_of {p} (TopsUp {s} next place places answer none lacks does x) = (top_up_ranges place (lack p s.connection place), ranges_of x)
-ranges_of (Passes place places lacks x) = ranges_of x
+ranges_of {p} (TopsUp {s} next supply supplies answer none lacks does x) = (top_up_ranges supply (lack p s.connection supply), ranges_of x)
+ranges_of (Passes supply supplies lacks x) = ranges_of x
 ranges_of (Finishes next end none does x) = (tt, ranges_of x)
 
 fed_on : (xs ys : List Step) → fed (xs ++ ys) ≡ fed xs ++ fed ys

@@ -15,7 +15,7 @@ use Rattle.amqp_endpoint.specs.Connections.{ConnectionState, connection_begins, 
 use Rattle.amqp_endpoint.specs.Lines.{line_of}
 use Rattle.amqp_endpoint.specs.Replies.{joined, reply_on}
 use Rattle.amqp_endpoint.specs.Runs.{InSession, Answer, Refused, accepted_answer, end_between}
-use Rattle.amqp_serve.specs.Serving.{Place, WindowOf, CreditOf, lack, all_places, Stand, ToppingUp, Receiving, Settling, Starved, Over, stand_told, stand_taken, recorded_by}
+use Rattle.amqp_serve.specs.Serving.{Supply, WindowOf, CreditOf, lack, all_supplies, Stand, ToppingUp, Receiving, Settling, Starved, Over, stand_told, stand_taken, recorded_by}
 use Rattle.amqp_endpoint.specs.Steps.{acted_after, acted_outcome}
 
 -- A connection, with all that was written and all that was recorded until then.
@@ -48,37 +48,37 @@ answer_at s channel c = answered_by (call_fault s [] channel c) (accepted_answer
 
 -- Topping up. ---------------------------------------------------------------------------------------------------------
 
-abbrev pub place_channel : Place → ℕ
-place_channel (WindowOf channel) = channel
-place_channel (CreditOf channel handle) = channel
+abbrev pub supply_channel : Supply → ℕ
+supply_channel (WindowOf channel) = channel
+supply_channel (CreditOf channel handle) = channel
 
--- the call that gives a place so much
-abbrev pub call_for : Place → ℕ → session.Call
+-- the call that gives a supply so much
+abbrev pub call_for : Supply → ℕ → session.Call
 call_for (WindowOf channel) n = Widen n
 call_for (CreditOf channel handle) n = Grant handle n
 
-abbrev pub topped_by : ℕ → Made → Place → Made
-topped_by zero m place = m
-topped_by (suc n) m place = called m (place_channel place) (call_for place (suc n))
+abbrev pub topped_by : ℕ → Made → Supply → Made
+topped_by zero m supply = m
+topped_by (suc n) m supply = called m (supply_channel supply) (call_for supply (suc n))
 
--- a place is given what it lacks
-abbrev pub topped : Policy → Made → Place → Made
-topped p m place = topped_by (lack p m.connection place) m place
+-- a supply is given what it lacks
+abbrev pub topped : Policy → Made → Supply → Made
+topped p m supply = topped_by (lack p m.connection supply) m supply
 
--- these places, one after another
-abbrev pub all_topped : Policy → List Place → Made → Made
+-- these supplies, one after another
+abbrev pub all_topped : Policy → List Supply → Made → Made
 all_topped p [] m = m
-all_topped p (place ∷ places) m = all_topped p places (topped p m place)
+all_topped p (supply ∷ supplies) m = all_topped p supplies (topped p m supply)
 
--- all places of the connection
+-- all supplies of the connection
 abbrev pub topped_up : Policy → Made → Made
-topped_up p m = all_topped p (all_places m.connection.config) m
+topped_up p m = all_topped p (all_supplies m.connection.config) m
 
 -- What is done from a stand on, until the next piece is fed. ------------------------------------------------------------
 
 -- once a message was taken
 abbrev pub done_taken : Policy → Stand → Made → Made
-done_taken p (ToppingUp places) m = all_topped p places m
+done_taken p (ToppingUp supplies) m = all_topped p supplies m
 done_taken p (Receiving channel handle) m = m  -- no take leads there, nor to the last two
 done_taken p (Settling channel id) m = topped_up p (called m channel (Settle id p.outcome))
 done_taken p Starved m = m

@@ -29,9 +29,9 @@ use Rattle.amqp_endpoint.specs.Traces.{IsInRange, AreInRange, taken_by, moved_by
 -- What is lacking. ----------------------------------------------------------------------------------------------------
 
 -- what is topped up
-pub data Place : Type 0 where
-  WindowOf : ℕ → Place  -- the incoming window of the session on this channel [2.5.6]
-  CreditOf : ℕ → ℕ → Place  -- the credit of the link on this channel with this handle [2.6.7]
+pub data Supply : Type 0 where
+  WindowOf : ℕ → Supply  -- the incoming window of the session on this channel [2.5.6]
+  CreditOf : ℕ → ℕ → Supply  -- the credit of the link on this channel with this handle [2.6.7]
 
 -- Where at most half of the places that a session began with are left, it lacks the others.
 abbrev pub window_lack : ℕ → Slot SessionState → ℕ
@@ -45,30 +45,30 @@ credit_lack credit allowed Free = 0
 credit_lack credit allowed (Live l) = min (credit - l.link.credit) (allowed - l.link.credit - open_count l.link)
 credit_lack credit allowed Awaits = 0
 
-abbrev pub lack : Policy → ConnectionState → Place → ℕ
+abbrev pub lack : Policy → ConnectionState → Supply → ℕ
 lack p s (WindowOf channel) = window_lack s.config.window (slot_at s channel)
 lack p s (CreditOf channel handle) = credit_lack p.credit s.config.bounds.allowed (link_in handle (slot_at s channel))
 
--- the call that gives a place so much
-abbrev pub top_up_by : Place → ℕ → Call
+-- the call that gives a supply so much
+abbrev pub top_up_by : Supply → ℕ → Call
 top_up_by (WindowOf channel) n = InSession channel (Widen n)
 top_up_by (CreditOf channel handle) n = InSession channel (Grant handle n)
 
--- the places of a session: its window, and the credit of its links by rising handle
-abbrev pub session_places : ℕ → ℕ → List Place
-session_places handles channel = WindowOf channel ∷ tabulate 0 handles (λ handle. CreditOf channel handle)
+-- the supplies of a session: its window, and the credit of its links by rising handle
+abbrev pub session_supplies : ℕ → ℕ → List Supply
+session_supplies handles channel = WindowOf channel ∷ tabulate 0 handles (λ handle. CreditOf channel handle)
 
 -- of so many channels from this one on, by rising channel
-unfoldable pub all_places_from : ℕ → ℕ → ℕ → List Place
-all_places_from handles channel count = flat_map (λ k. session_places handles k) (tabulate channel count (λ k. k))
+unfoldable pub all_supplies_from : ℕ → ℕ → ℕ → List Supply
+all_supplies_from handles channel count = flat_map (λ k. session_supplies handles k) (tabulate channel count (λ k. k))
 
-unfoldable pub all_places : Configured → List Place
-all_places config = all_places_from (suc config.handle_max) 0 (channels config)
+unfoldable pub all_supplies : Configured → List Supply
+all_supplies config = all_supplies_from (suc config.handle_max) 0 (channels config)
 
 -- Where the server stands. --------------------------------------------------------------------------------------------
 
 pub data Stand : Type 0 where
-  ToppingUp : List Place → Stand  -- these places are yet to be topped up; where none is, the next piece is fed
+  ToppingUp : List Supply → Stand  -- these supplies are yet to be topped up; where none is, the next piece is fed
   Receiving : ℕ → ℕ → Stand  -- a message is ready on this channel, on the link with this handle
   Settling : ℕ → ℕ → Stand  -- the delivery on this channel with this id was handed up, and its sender has not settled it
   Starved : Stand  -- memory was refused
@@ -81,15 +81,15 @@ reading = ToppingUp []
 abbrev pub stand_told : Configured → Outcome → Stand
 stand_told config (outcome.Event (event.Ready channel handle)) = Receiving channel handle
 stand_told config outcome.NoMemory = Starved
-stand_told config _ = ToppingUp (all_places config)
+stand_told config _ = ToppingUp (all_supplies config)
 
 abbrev pub stand_handed : Configured → ℕ → Handed → Stand
-stand_handed config channel d = if d.settled then ToppingUp (all_places config) else Settling channel d.delivery_id
+stand_handed config channel d = if d.settled then ToppingUp (all_supplies config) else Settling channel d.delivery_id
 
 -- once a take had this answer
 abbrev pub stand_taken : Configured → ℕ → Answer → Stand
 stand_taken config channel (HandedUp d) = stand_handed config channel d
-stand_taken config channel _ = ToppingUp (all_places config)  -- refused
+stand_taken config channel _ = ToppingUp (all_supplies config)  -- refused
 
 -- Which call follows which. -------------------------------------------------------------------------------------------
 
@@ -115,16 +115,16 @@ pub data Serves : Policy → Stand → EndpointState → List Step → Stand →
       → Serves p (Receiving channel handle) s (record { call = InSession channel (Take handle); answer = answer } ∷ steps) b last
   -- nothing waits, and it is settled
   Settles : {p : Policy} {b : Stand} {s last : EndpointState} {steps : List Step} (next : EndpointState) (channel id : ℕ) (answer : Answer)
-      → s.unsent ≡ [] → id < 2 ^ 32 → Does s next (InSession channel (Settle id p.outcome)) answer → Serves p (ToppingUp (all_places next.connection.config)) next steps b last
+      → s.unsent ≡ [] → id < 2 ^ 32 → Does s next (InSession channel (Settle id p.outcome)) answer → Serves p (ToppingUp (all_supplies next.connection.config)) next steps b last
       → Serves p (Settling channel id) s (record { call = InSession channel (Settle id p.outcome); answer = answer } ∷ steps) b last
-  -- the first place lacks something, nothing waits, and the place is given what it lacks
-  TopsUp : {p : Policy} {b : Stand} {s last : EndpointState} {steps : List Step} (next : EndpointState) (place : Place) (places : List Place) (answer : Answer)
-      → s.unsent ≡ [] → 0 < lack p s.connection place → Does s next (top_up_by place (lack p s.connection place)) answer → Serves p (ToppingUp places) next steps b last
-      → Serves p (ToppingUp (place ∷ places)) s (record { call = top_up_by place (lack p s.connection place); answer = answer } ∷ steps) b last
+  -- the first supply lacks something, nothing waits, and the supply is given what it lacks
+  TopsUp : {p : Policy} {b : Stand} {s last : EndpointState} {steps : List Step} (next : EndpointState) (supply : Supply) (supplies : List Supply) (answer : Answer)
+      → s.unsent ≡ [] → 0 < lack p s.connection supply → Does s next (top_up_by supply (lack p s.connection supply)) answer → Serves p (ToppingUp supplies) next steps b last
+      → Serves p (ToppingUp (supply ∷ supplies)) s (record { call = top_up_by supply (lack p s.connection supply); answer = answer } ∷ steps) b last
   -- it lacks nothing
-  Passes : {p : Policy} {b : Stand} {s last : EndpointState} {steps : List Step} (place : Place) (places : List Place)
-      → lack p s.connection place ≡ 0 → Serves p (ToppingUp places) s steps b last
-      → Serves p (ToppingUp (place ∷ places)) s steps b last
+  Passes : {p : Policy} {b : Stand} {s last : EndpointState} {steps : List Step} (supply : Supply) (supplies : List Supply)
+      → lack p s.connection supply ≡ 0 → Serves p (ToppingUp supplies) s steps b last
+      → Serves p (ToppingUp (supply ∷ supplies)) s steps b last
   -- nothing waits, and the input ends
   Finishes : {p : Policy} {b : Stand} {s last : EndpointState} {steps : List Step} (next : EndpointState) (end : End)
       → s.unsent ≡ [] → Does s next Finish (Ended end) → Serves p Over next steps b last

@@ -7,7 +7,7 @@ ghost use Rattle.amqp_session.specs.Places.{tabulate};
 ghost use Rattle.amqp_endpoint.specs.Connections.{slot_at, is_dead};
 ghost use Rattle.amqp_endpoint.specs.Endpoints.{handed_in};
 ghost use Rattle.amqp_endpoint.specs.Takings.{link_in};
-ghost use Rattle.amqp_serve.specs.Serving.{Place, WindowOf, CreditOf, window_lack, credit_lack, session_places, all_places, Stand, ToppingUp, Receiving, reading, stand_told, record_of, record_head, IsPart, Works, Served, BrokeOff, IsServed, IsIdle, IsStarved};
+ghost use Rattle.amqp_serve.specs.Serving.{Supply, WindowOf, CreditOf, window_lack, credit_lack, session_supplies, all_supplies, Stand, ToppingUp, Receiving, reading, stand_told, record_of, record_head, IsPart, Works, Served, BrokeOff, IsServed, IsIdle, IsStarved};
 
 use amqp_endpoint::laws::{are_bytes, is_id};
 use amqp_endpoint::{End, Endpoint, Event, Outcome};
@@ -220,7 +220,7 @@ fn receive<A: Allocator + Copy, W: Write + Drop, S: Write + Drop>(
     ensures memory { result ≢ Err ServeFault.NoMemory }
     ensures write { (result ≡ Err ServeFault.Write) ↔ IsTrue (has_failed writer.new) }
     ensures sink { (result ≡ Err ServeFault.Sink) ↔ IsTrue (has_failed sink.new) }
-    ensures works { OnOk result (Works policy (Receiving channel handle) (ToppingUp (all_places endpoint.new.connection.config)) endpoint.old endpoint.new
+    ensures works { OnOk result (Works policy (Receiving channel handle) (ToppingUp (all_supplies endpoint.new.connection.config)) endpoint.old endpoint.new
         (W.contents (device_inner writer.old)) (W.contents (device_inner writer.new)) (S.contents (device_inner sink.old)) (S.contents (device_inner sink.new))) }
     ensures begun { IfErr result (λ e. BrokeOff policy e (Receiving channel handle) [] endpoint.old endpoint.new (W.contents (device_inner writer.old))
         (W.contents (device_inner writer.new)) (S.contents (device_inner sink.old)) (S.contents (device_inner sink.new))) }
@@ -391,9 +391,9 @@ fn top_up<A: Allocator + Copy, W: Write + Drop>(
     requires { ¬ (IsTrue (has_failed writer.old)) }
     ensures fault { OnErr result (result ≡ Err ServeFault.Write) }
     ensures failed { IsErr result ↔ IsTrue (has_failed writer.new) }
-    ensures works { OnOk result ((k : Option (List ℕ)) → Works policy (ToppingUp (all_places endpoint.old.connection.config)) reading endpoint.old endpoint.new
+    ensures works { OnOk result ((k : Option (List ℕ)) → Works policy (ToppingUp (all_supplies endpoint.old.connection.config)) reading endpoint.old endpoint.new
         (W.contents (device_inner writer.old)) (W.contents (device_inner writer.new)) k k) }
-    ensures begun { OnErr result ((k : Option (List ℕ)) → BrokeOff policy ServeFault.Write (ToppingUp (all_places endpoint.old.connection.config)) [] endpoint.old endpoint.new
+    ensures begun { OnErr result ((k : Option (List ℕ)) → BrokeOff policy ServeFault.Write (ToppingUp (all_supplies endpoint.old.connection.config)) [] endpoint.old endpoint.new
         (W.contents (device_inner writer.old)) (W.contents (device_inner writer.new)) k k) }
 {
     let channels = endpoint.config().channel_max() as u16 + 1;
@@ -417,9 +417,9 @@ fn top_up_session<A: Allocator + Copy, W: Write + Drop>(
     requires { ¬ (IsTrue (has_failed writer.old)) }
     ensures fault { OnErr result (result ≡ Err ServeFault.Write) }
     ensures failed { IsErr result ↔ IsTrue (has_failed writer.new) }
-    ensures works { OnOk result ((rest : List Place) (k : Option (List ℕ)) → Works policy (ToppingUp (session_places handles channel ++ rest)) (ToppingUp rest) endpoint.old
+    ensures works { OnOk result ((rest : List Supply) (k : Option (List ℕ)) → Works policy (ToppingUp (session_supplies handles channel ++ rest)) (ToppingUp rest) endpoint.old
         endpoint.new (W.contents (device_inner writer.old)) (W.contents (device_inner writer.new)) k k) }
-    ensures begun { OnErr result ((rest : List Place) (k : Option (List ℕ)) → BrokeOff policy ServeFault.Write (ToppingUp (session_places handles channel ++ rest)) [] endpoint.old
+    ensures begun { OnErr result ((rest : List Supply) (k : Option (List ℕ)) → BrokeOff policy ServeFault.Write (ToppingUp (session_supplies handles channel ++ rest)) [] endpoint.old
         endpoint.new (W.contents (device_inner writer.old)) (W.contents (device_inner writer.new)) k k) }
 {
     top_up_window(endpoint, writer, channel, policy)?;
@@ -439,9 +439,9 @@ fn top_up_window<A: Allocator + Copy, W: Write + Drop>(
     requires { ¬ (IsTrue (has_failed writer.old)) }
     ensures fault { OnErr result (result ≡ Err ServeFault.Write) }
     ensures failed { IsErr result ↔ IsTrue (has_failed writer.new) }
-    ensures works { OnOk result ((rest : List Place) (k : Option (List ℕ)) → Works policy (ToppingUp (WindowOf channel ∷ rest)) (ToppingUp rest) endpoint.old endpoint.new
+    ensures works { OnOk result ((rest : List Supply) (k : Option (List ℕ)) → Works policy (ToppingUp (WindowOf channel ∷ rest)) (ToppingUp rest) endpoint.old endpoint.new
         (W.contents (device_inner writer.old)) (W.contents (device_inner writer.new)) k k) }
-    ensures begun { OnErr result ((rest : List Place) (k : Option (List ℕ)) → BrokeOff policy ServeFault.Write (ToppingUp (WindowOf channel ∷ rest)) [] endpoint.old endpoint.new
+    ensures begun { OnErr result ((rest : List Supply) (k : Option (List ℕ)) → BrokeOff policy ServeFault.Write (ToppingUp (WindowOf channel ∷ rest)) [] endpoint.old endpoint.new
         (W.contents (device_inner writer.old)) (W.contents (device_inner writer.new)) k k) }
 {
     let more = missing_places(endpoint, channel);
@@ -463,9 +463,9 @@ fn top_up_credit<A: Allocator + Copy, W: Write + Drop>(
     requires { ¬ (IsTrue (has_failed writer.old)) }
     ensures fault { OnErr result (result ≡ Err ServeFault.Write) }
     ensures failed { IsErr result ↔ IsTrue (has_failed writer.new) }
-    ensures works { OnOk result ((rest : List Place) (k : Option (List ℕ)) → Works policy (ToppingUp (CreditOf channel handle ∷ rest)) (ToppingUp rest) endpoint.old endpoint.new
+    ensures works { OnOk result ((rest : List Supply) (k : Option (List ℕ)) → Works policy (ToppingUp (CreditOf channel handle ∷ rest)) (ToppingUp rest) endpoint.old endpoint.new
         (W.contents (device_inner writer.old)) (W.contents (device_inner writer.new)) k k) }
-    ensures begun { OnErr result ((rest : List Place) (k : Option (List ℕ)) → BrokeOff policy ServeFault.Write (ToppingUp (CreditOf channel handle ∷ rest)) [] endpoint.old endpoint.new
+    ensures begun { OnErr result ((rest : List Supply) (k : Option (List ℕ)) → BrokeOff policy ServeFault.Write (ToppingUp (CreditOf channel handle ∷ rest)) [] endpoint.old endpoint.new
         (W.contents (device_inner writer.old)) (W.contents (device_inner writer.new)) k k) }
 {
     let more = missing_credit(endpoint, channel, handle, policy.credit);

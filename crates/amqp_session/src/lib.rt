@@ -4,7 +4,7 @@
 //! the calls of the application: [`Session::widen`], [`Session::grant`], [`Session::drain`], [`Session::take`],
 //! [`Session::settle`] and [`Session::detach`]. `specs/Sessions.antt` has the state and what each event does to
 //! it, `specs/Faults.antt` and `specs/Calls.antt` which event a frame and a call are, or why they are refused.
-//! The tests stand in `session_tests`.
+//! The tests stand in `layer_rows`.
 #![tactic(auto)]
 
 mod done;

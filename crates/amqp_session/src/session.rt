@@ -84,7 +84,8 @@ impl<A: Allocator + Copy> Session<A> {
         ensures value { result ≡ session_bytes self.now }
         ensures most { result < 2 ^ 52 }
     {
-        self.state.held()
+        let Session { state } = self;
+        state.held()
     }
 
     /// The live link at a handle; `None` where none is.

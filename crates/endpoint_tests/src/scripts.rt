@@ -1,85 +1,9 @@
-//! Scripts: lines that are none, devices that fail, and each form of an answer that no other test shows.
+//! Scripts over devices that fail.
 
-use crate::bench::{CONFIG, answers};
 use amqp_frame::Device;
 use amqp_script::{ScriptFault, replay_script};
 use std::io::{self, Read, Write};
 use std::test::Fail;
-
-#[test]
-fn a_bad_line_is_named(rt: HostRuntime) -> Result<(), Fail> {
-    let alloc = rt.alloc();
-    let first: [&[u8]; 12] = [
-        b"",
-        b"\n",
-        b"held",
-        b"config r 511 0 1 4 10 100",
-        b"config r 512 256 1 4 10 100",
-        b"config r 512 0 256 4 10 100",
-        b"config r 512 0 1 1025 10 100",
-        b"config r 512 0 1 4 0 100",
-        b"config r 512 0 1 4 10 2147483648",
-        b"config  512 0 1 4 10 100",
-        b"config r 512 0 1 4 10 100 ",
-        b"config r\t 512 0 1 4 10 100",
-    ];
-    for script in first {
-        assert_eq!(rt;
-            answers(alloc, script).err(),
-            Some(ScriptFault::Line(1)),
-            "{script:?}"
-        );
-    }
-    let later: [&[u8]; 22] = [
-        b"",
-        b"feed ",
-        b"feed 0",
-        b"feed 0g",
-        b"feed 00 ",
-        b"feed  00",
-        b"grant 0 0",
-        b"grant 0 0 1 1",
-        b"grant 65536 0 1",
-        b"grant 0 4294967296 1",
-        b"grant 0 0 4294967296",
-        b"grant 0 0 +1",
-        b"grant 0 0 -1",
-        b"grant 0 0 ",
-        b"settle 0 0 settled",
-        b"settle 0 0",
-        b"take 0",
-        b"output",
-        b"held 1",
-        b"held\r",
-        b"Held",
-        b"held\xff",
-    ];
-    for line in later {
-        let mut script = Vec::from_slice(alloc, CONFIG.as_bytes())?;
-        script.extend_from_slice(b"feed 00\n")?;
-        script.extend_from_slice(line)?;
-        script.extend_from_slice(b"\nfeed 00\nnone\n")?;
-        assert_eq!(rt;
-            answers(alloc, &script).err(),
-            Some(ScriptFault::Line(3)),
-            "{script:?}"
-        );
-    }
-    Ok(())
-}
-
-/// The last line may lack its newline, a number may begin with zeros, and hex digits may be large.
-#[test]
-fn a_line_may_be_written_otherwise(rt: HostRuntime) -> Result<(), Fail> {
-    let script =
-        b"config ~!9 0512 00 255 01024 1073741824 2147483647\nfeed 414D515000010000\noutput 00000000008\nheld";
-    let printed = answers(rt.alloc(), script)?;
-    assert_eq!(rt;
-        str::from_utf8(&printed)?,
-        "used=8 More\noutput 414d515000010000\nheld 0\n"
-    );
-    Ok(())
-}
 
 /// Gives its bytes, and fails at the read of this number, from 0 on.
 #[derive(Drop)]

@@ -1,4 +1,4 @@
-//! Whole connections, over readers and writers in memory.
+//! Whole connections, over devices that fail, and what is written at once.
 
 use amqp_endpoint::{Config, End, Endpoint};
 use amqp_frame::Device;
@@ -117,54 +117,6 @@ fn serve_stream<R: Read + Drop, W: Write + Drop>(
         &mut Device::new(sink),
         policy,
     ))
-}
-
-#[test]
-fn a_connection_is_served(rt: HostRuntime) -> Result<(), Fail> {
-    for most in [1, 3, 50, 4096] {
-        let source = Source {
-            rest: STREAM,
-            most,
-            reads: 0,
-            failing: NEVER,
-        };
-        let mut writer = keeper(rt.alloc(), NEVER);
-        let mut sink = keeper(rt.alloc(), NEVER);
-        let end = serve_stream(rt.alloc(), source, &mut writer, &mut sink)?;
-        assert_eq!(rt; end, Ok(End::Closed), "{most}");
-        assert_eq!(rt; writer.bytes.as_slice(), WRITTEN, "{most}");
-        assert_eq!(rt; sink.bytes.as_slice(), RECORDS, "{most}");
-    }
-    Ok(())
-}
-
-#[test]
-fn a_cut_stream_ends_inside_or_between(rt: HostRuntime) -> Result<(), Fail> {
-    for len in 0..130 {
-        let source = Source {
-            rest: &STREAM[..len],
-            most: 4096,
-            reads: 0,
-            failing: NEVER,
-        };
-        let mut writer = keeper(rt.alloc(), NEVER);
-        let mut sink = keeper(rt.alloc(), NEVER);
-        let end = serve_stream(rt.alloc(), source, &mut writer, &mut sink)?;
-        let before = ENDS
-            .iter()
-            .copied()
-            .filter(|end| *end <= len)
-            .max()
-            .unwrap_or(0);
-        let wanted = match len.saturating_sub(before) {
-            0 => End::Between,
-            left => End::Inside(left),
-        };
-        assert_eq!(rt; end, Ok(wanted), "{len}");
-        assert!(rt; WRITTEN.starts_with(&writer.bytes), "{len}");
-        assert!(rt; RECORDS.starts_with(&sink.bytes), "{len}");
-    }
-    Ok(())
 }
 
 /// One device fails at one call: what was written begins what would be.

@@ -1,7 +1,7 @@
 //! What an endpoint shows of itself, and what `replay` answers.
 
 use amqp_endpoint::{Answer, Call, Config, Endpoint, Event, Outcome, replay};
-use std::alloc::{AllocError, Allocator};
+use std::alloc::Allocator;
 use std::test::Fail;
 
 /// The peer's header, open, begin and attach.
@@ -34,62 +34,6 @@ fn feed_all<A: Allocator + Copy>(endpoint: &mut Endpoint<A>, stream: &[u8]) -> O
         }
     }
     last
-}
-
-#[test]
-fn settings_have_their_ranges(rt: HostRuntime) -> Result<(), Fail> {
-    let alloc = rt.alloc();
-    let long =
-        "rrrrrrrrrrrrrrrrrrrrrrrrrrrrrrrrrrrrrrrrrrrrrrrrrrrrrrrrrrrrrrrrrrrrrrrrrrrrrrrrrrrrrrrrrrrrrrrrrrrrrrrrrrrrrrrrrrrrrrrrrrrrrrrr";
-    let mut longest = String::from_str(alloc, long)?;
-    longest.push_str(&long[1..])?;
-    let least = ("r", [512, 0, 0, 1, 1, 0]);
-    let most = (
-        longest.as_str(),
-        [1048576, 255, 255, 1024, 1 << 30, (1 << 31) - 1],
-    );
-    let makes = |(
-        name,
-        [
-            max_frame,
-            channel_max,
-            handle_max,
-            allowed,
-            max_message,
-            window,
-        ],
-    ): (&str, [u32; 6])| -> Result<bool, AllocError> {
-        let name = String::from_str(alloc, name)?;
-        Ok(Config::checked(
-            name,
-            max_frame,
-            channel_max,
-            handle_max,
-            allowed,
-            max_message,
-            window,
-        )
-        .is_some())
-    };
-    assert!(rt; makes(least)?);
-    assert!(rt; makes(most)?);
-    assert!(rt; !makes(("", least.1))?);
-    for (index, below) in [511, 0, 0, 0, 0, 0].into_iter().enumerate() {
-        let mut settings = least.1;
-        settings[index] = below;
-        assert_eq!(rt;
-            makes(("r", settings))?,
-            matches!(index, 1 | 2 | 5),
-            "{index}"
-        );
-        let mut settings = most.1;
-        settings[index] = settings[index].saturating_add(1);
-        assert!(rt; !makes(("r", settings))?, "{index}");
-    }
-    longest.push('r')?;
-    assert_eq!(rt; longest.len(), 256);
-    assert!(rt; !makes((&longest, least.1))?);
-    Ok(())
 }
 
 #[test]

@@ -36,6 +36,13 @@ impl<B: Allocator> TestHeap<B> {
         }
     }
 
+    /// Counts requests and their bytes anew, and refuses the request of this number from here on, as a new heap would.
+    /// What lives is counted on.
+    pub fn restart(&self, number: u64) {
+        self.counts.left.set(number);
+        self.counts.requested.set(0);
+    }
+
     /// Whether a request is still to be refused.
     pub fn is_waiting(&self) -> bool {
         self.counts.left.get() > 0

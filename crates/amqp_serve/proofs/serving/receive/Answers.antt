@@ -3,7 +3,7 @@ use Rattle.std.proofs.lemmas.Result.{err_from_is_err_and}
 use Rattle.amqp_frame.specs.Devices.{device_inner}
 use Rattle.amqp_serve.specs.declared.serving.ServeFault.TheVariants.{Write, Sink}
 use Rattle.amqp_endpoint.specs.Endpoints.{handed_in}
-use Rattle.amqp_serve.specs.Serving.{all_places, ToppingUp, Receiving, Settling, Works}
+use Rattle.amqp_serve.specs.Serving.{all_supplies, ToppingUp, Receiving, Settling, Works}
 use Rattle.amqp_serve.proofs.Servings.{if_err, works_on, works_broke}
 use Rattle.amqp_serve.proofs.ServingMessages.{take_refused, take_works, take_broke, settle_works}
 use Rattle.amqp_serve.proofs.serving.receive.Goals.{then-not-taken+in_ok-write_out, else-not-taken}
@@ -34,7 +34,7 @@ returns-in_err-write_out-clause-begun g c =
     let k1 = g.S.Write.contents (device_inner c.write_record.new.sink) in
     let unsettled : c.in-Ok.taken.settled ≡ false = c.if-not-taken.true in
     let open_ended : Works c.args.policy (Receiving c.args.channel c.args.handle) (Settling c.args.channel c.in-Ok.taken.delivery_id) s t w w k k1 =
-    subst (λ (b : Bool). Works c.args.policy (Receiving c.args.channel c.args.handle) (if b then ToppingUp (all_places t.connection.config) else Settling c.args.channel
+    subst (λ (b : Bool). Works c.args.policy (Receiving c.args.channel c.args.handle) (if b then ToppingUp (all_supplies t.connection.config) else Settling c.args.channel
     c.in-Ok.taken.delivery_id) s t w w k k1)
     unsettled (take_works c.args.policy s t c.args.channel c.args.handle w k k1 (handed_in c.in-Ok.taken) c.in-Ok.ensures c.in_ok-write_record.ensures.written) in
     let p = err_from_is_err_and c.from_residual-in_err-write_out.result c.from_residual-in_err-write_out.ensures.1 in
@@ -50,9 +50,9 @@ returns-clause-works g c =
     let k = g.S.Write.contents (device_inner c.args.sink.now) in
     let k1 = g.S.Write.contents (device_inner c.write_record.new.sink) in
     let standing : (b : Bool) → c.in-Ok.taken.settled ≡ b → Works c.args.policy (Receiving c.args.channel c.args.handle)
-    (if b then ToppingUp (all_places t.connection.config) else Settling c.args.channel c.in-Ok.taken.delivery_id) s t w w k k1 =
+    (if b then ToppingUp (all_supplies t.connection.config) else Settling c.args.channel c.in-Ok.taken.delivery_id) s t w w k k1 =
     λ b is. subst (λ (x : Bool). Works c.args.policy (Receiving c.args.channel c.args.handle)
-    (if x then ToppingUp (all_places t.connection.config) else Settling c.args.channel c.in-Ok.taken.delivery_id) s t w w k k1)
+    (if x then ToppingUp (all_supplies t.connection.config) else Settling c.args.channel c.in-Ok.taken.delivery_id) s t w w k k1)
     is (take_works c.args.policy s t c.args.channel c.args.handle w k k1 (handed_in c.in-Ok.taken) c.in-Ok.ensures c.in_ok-write_record.ensures.written) in
     elim c.if-not-taken.branch [
       | then-not-taken+in_ok-write_out b ↦

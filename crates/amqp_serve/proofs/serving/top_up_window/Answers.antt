@@ -3,7 +3,7 @@ use Rattle.amqp_frame.specs.Devices.{device_inner}
 use Rattle.amqp_endpoint.specs.Connections.{ConnectionState, slot_at}
 use Rattle.amqp_serve.specs.Serving.{WindowOf, ToppingUp, window_lack}
 use Rattle.amqp_serve.proofs.Servings.{works_on}
-use Rattle.amqp_serve.proofs.ServingTops.{window_topped, place_passed}
+use Rattle.amqp_serve.proofs.ServingTops.{window_topped, supply_passed}
 use Rattle.amqp_serve.proofs.serving.top_up_window.Goals as goal
 
 pub returns-in_ok-write_out-clause-works : goal.returns-in_ok-write_out-clause-works
@@ -17,5 +17,5 @@ returns-in_ok-write_out-clause-works g c = λ rest k.
 
 pub returns-else-more-gt0-clause-works : goal.returns-else-more-gt0-clause-works
 returns-else-more-gt0-clause-works g c = λ rest k.
-    place_passed c.args.policy (WindowOf c.args.channel) rest c.args.endpoint.now (g.W.Write.contents (device_inner c.args.writer.now)) k
+    supply_passed c.args.policy (WindowOf c.args.channel) rest c.args.endpoint.now (g.W.Write.contents (device_inner c.args.writer.now)) k
     (omega (arith, c.missing_places-more.ensures, c.if-more-gt0.false))

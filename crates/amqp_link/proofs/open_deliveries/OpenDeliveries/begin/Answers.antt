@@ -17,7 +17,7 @@ invariant_of-self-2 g c =
     let ok = c.in_ok-reserve-2.ensures.ok in
     let n = c.reserve-2.new.self.ok.0 in
     (begins_at c.self.inside.slab c.reserve.new.self c.insert_reserved.new.self _ _ _ _ c.insert_reserved.result c.args.delivery _ _ _ _ _
-    (ap (λ (o : OpenSet). o.unfinished) (c.self.view_is ∙ c.close_up.ensures) ∙ c.requires.none) c.self.invariant c.reserve.ensures.rest_kept c.reserve-2.ensures.items
+    (ap (λ (o : OpenSet). o.unfinished) c.self.view_is ∙ c.requires.none) c.self.invariant c.reserve.ensures.rest_kept c.reserve-2.ensures.items
     c.insert_reserved.ensures.was_vacant c.insert_reserved.ensures.updates c.insert_reserved.ensures.len
     (omega (arith, ok, n)) (ap (λ (n : ℕ). c.self.inside.bytes + n) c.bytes.ensures)).kept
 
@@ -26,7 +26,7 @@ returns-clause-ok g c =
     let ok = c.in_ok-reserve-2.ensures.ok in
     let n = c.reserve-2.new.self.ok.0 in
     (begins_at c.self.inside.slab c.reserve.new.self c.insert_reserved.new.self _ c.reserve-2.new.self.items _ _ c.insert_reserved.result c.args.delivery _ _ _ _ c.reserve-2.new.self.cap
-    (ap (λ (o : OpenSet). o.unfinished) (c.self.view_is ∙ c.close_up.ensures) ∙ c.requires.none) c.self.invariant c.reserve.ensures.rest_kept c.reserve-2.ensures.items
+    (ap (λ (o : OpenSet). o.unfinished) c.self.view_is ∙ c.requires.none) c.self.invariant c.reserve.ensures.rest_kept c.reserve-2.ensures.items
     c.insert_reserved.ensures.was_vacant c.insert_reserved.ensures.updates c.insert_reserved.ensures.len
     (omega (arith, ok, n)) (ap (λ (n : ℕ). c.self.inside.bytes + n) c.bytes.ensures)).is
-    ∙ ap (λ (o : OpenSet). record o { unfinished = Some (delivery_of c.args.delivery) }) (c.self.view_is ∙ c.close_up.ensures)
+    ∙ ap (λ (o : OpenSet). record o { unfinished = Some (delivery_of c.args.delivery) }) c.self.view_is

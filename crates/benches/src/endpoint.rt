@@ -1,0 +1,117 @@
+//! An endpoint: messages one after the other, from the bytes of a peer.
+
+mod delivery;
+mod stream;
+
+use crate::endpoint::delivery::Run;
+use crate::endpoint::stream::Block;
+use crate::measure::{Failure, Measured, Mode};
+pub use delivery::Stopped;
+use std::alloc::Global;
+use std::rt::Clock;
+use std::time::Instant;
+
+/// The longest frame of the peer.
+const MAX_FRAME: u32 = 65536;
+
+/// Messages that come one after the other, are handed up and settled, and how many do where the command line doesn't say.
+#[derive(Clone, Copy)]
+pub struct Case {
+    name: &'static str,
+    /// The bytes of a message.
+    message: u32,
+    /// How many bytes are fed at a time.
+    piece: u32,
+    /// The links on which they come in turn.
+    links: u8,
+    /// The deliveries on the first link that stay open, handed up and not settled.
+    open: u32,
+    rounds: u32,
+}
+
+impl Measured for Case {
+    const GROUP: &'static str = "endpoint";
+
+    fn name(&self) -> &'static str {
+        self.name
+    }
+
+    fn about(&self) -> &'static str {
+        match (self.links, self.open) {
+            (1, 0) => "messages of so many bytes, fed in pieces of 4096, or of so many `by`",
+            (1, _) => "messages of 100 bytes, while so many others are open",
+            _ => "messages of 100 bytes on so many links in turn",
+        }
+    }
+
+    /// It prints the messages that came, in blocks, and the bytes of one and of all. The time is that of a message.
+    fn run(&self, rt: &(impl Print + Clock), alloc: Global, mode: Mode) -> Result<(), Failure> {
+        let wanted = mode.rounds(self.rounds);
+        let mut block = Block::new(alloc, *self)?;
+        let mut run = Run::new(alloc, *self)?;
+        receive(&mut run, &mut block, self.piece, self.open)?;
+        let (before, moved) = (run.messages, run.moved);
+        let start = Instant::now(rt)?;
+        receive(&mut run, &mut block, self.piece, wanted)?;
+        let messages = run.messages.wrapping_sub(before);
+        let time = mode.time_of(rt, &start, u128::from(messages))?;
+        let moved = run.moved.wrapping_sub(moved);
+        let message = self.message;
+        println!(rt; "messages={messages} bytes={message} moved={moved}{time}")?;
+        Ok(())
+    }
+}
+
+/// One link, and nothing else open.
+const fn one_link(name: &'static str, message: u32, piece: u32, rounds: u32) -> Case {
+    Case {
+        name,
+        message,
+        piece,
+        links: 1,
+        open: 0,
+        rounds,
+    }
+}
+
+/// Every case, in the order in which they are measured.
+pub fn cases() -> [Case; 9] {
+    let small = one_link("100", 100, 4096, 1_000_000);
+    [
+        small,
+        one_link("100-by-65536", 100, 65536, 1_000_000),
+        one_link("10000", 10_000, 4096, 200_000),
+        one_link("10000-by-65536", 10_000, 65536, 200_000),
+        one_link("1000000", 1_000_000, 4096, 2_000),
+        one_link("1000000-by-65536", 1_000_000, 65536, 2_000),
+        Case {
+            name: "8-links",
+            links: 8,
+            ..small
+        },
+        Case {
+            name: "100-open",
+            open: 100,
+            ..small
+        },
+        Case {
+            name: "1000-open",
+            open: 1_000,
+            ..small
+        },
+    ]
+}
+
+/// Feeds blocks of messages until at least so many came.
+fn receive(run: &mut Run, block: &mut Block, piece: u32, messages: u32) -> Result<(), Failure> {
+    let first = run.messages;
+    for _ in 0..messages {
+        let came = run.messages.wrapping_sub(first);
+        if came >= messages {
+            break;
+        }
+        block.number(run.messages.wrapping_add(1 << 16));
+        run.feed(&block.bytes, piece as usize)?;
+    }
+    Ok(())
+}

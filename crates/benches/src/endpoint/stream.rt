@@ -1,0 +1,131 @@
+//! The bytes of a sender.
+
+use crate::endpoint::{Case, MAX_FRAME};
+use crate::frames::{attach, last, whole};
+use amqp_perform::{Begin, Open, Performative, Transfer, write_frame};
+use std::alloc::{AllocError, Global};
+
+/// No transfer without its payload is longer.
+const OVERHEAD: u32 = 64;
+
+/// Messages of one round, as their frames.
+#[derive(Drop)]
+pub struct Block {
+    pub bytes: Vec<u8>,
+    /// Where each message's delivery-id stands, in four bytes.
+    ids: Vec<usize>,
+}
+
+/// How many messages come in a block: about 64 kB.
+fn messages_of(case: Case) -> u32 {
+    (MAX_FRAME / case.message.max(1)).clamp(1, 256)
+}
+
+/// Appends a frame.
+fn push(
+    bytes: &mut Vec<u8>,
+    performative: &Performative<'_>,
+    payload: &[u8],
+) -> Result<(), AllocError> {
+    let start = bytes.len();
+    let room = payload.len().saturating_add(256);
+    bytes.resize(start.saturating_add(room), 0)?;
+    let (_, out) = bytes.as_mut_slice().split_at_mut(start);
+    let written = write_frame(0, performative, payload, out).unwrap_or(0);
+    bytes.truncate(start.saturating_add(written));
+    Ok(())
+}
+
+/// What a sender says before its messages.
+pub fn opening(alloc: Global, links: u8) -> Result<Vec<u8>, AllocError> {
+    let mut bytes = Vec::from_slice(alloc, b"AMQP\x00\x01\x00\x00")?;
+    let open = Performative::Open(Open {
+        container_id: "sender",
+        hostname: &[],
+        max_frame_size: MAX_FRAME,
+        channel_max: 0,
+        idle_time_out: &[],
+        outgoing_locales: &[],
+        incoming_locales: &[],
+        offered_capabilities: &[],
+        desired_capabilities: &[],
+        properties: &[],
+    });
+    let begin = Performative::Begin(Begin {
+        remote_channel: None,
+        next_outgoing_id: 0,
+        incoming_window: 100,
+        outgoing_window: 100,
+        handle_max: 255,
+        offered_capabilities: &[],
+        desired_capabilities: &[],
+        properties: &[],
+    });
+    push(&mut bytes, &open, &[])?;
+    push(&mut bytes, &begin, &[])?;
+    for handle in 0..links {
+        push(
+            &mut bytes,
+            &Performative::Attach(attach(handle as u32)),
+            &[],
+        )?;
+    }
+    Ok(bytes)
+}
+
+impl Block {
+    /// The messages of one round, on the links in turn.
+    pub fn new(alloc: Global, case: Case) -> Result<Block, AllocError> {
+        let payload = Vec::from_elem(alloc, 0x78, case.message as usize)?;
+        let mut block = Block {
+            bytes: Vec::new(alloc),
+            ids: Vec::new(alloc),
+        };
+        for index in 0..messages_of(case) {
+            let handle = index.checked_rem(case.links as u32).unwrap_or(0);
+            block.push_message(handle, &payload)?;
+        }
+        Ok(block)
+    }
+
+    /// Appends a message in frames that are as long as they may be.
+    fn push_message(&mut self, handle: u32, payload: &[u8]) -> Result<(), AllocError> {
+        let most = (MAX_FRAME - OVERHEAD) as usize;
+        // Behind the frame's header, the list's, the handle and the code of the id.
+        let behind = if handle == 0 { 16 } else { 17 };
+        self.ids.push(self.bytes.len().saturating_add(behind))?;
+        let mut rest = payload;
+        let mut transfer = head(handle);
+        for _ in 0..payload.len() {
+            transfer.more = rest.len() > most;
+            let (piece, behind) = rest.split_at(rest.len().min(most));
+            push(&mut self.bytes, &Performative::Transfer(transfer), piece)?;
+            if behind.is_empty() {
+                break;
+            }
+            rest = behind;
+            transfer = last(handle);
+        }
+        Ok(())
+    }
+
+    /// Gives the messages ids from this one on.
+    pub fn number(&mut self, first: u32) {
+        let mut id = first;
+        for place in &self.ids {
+            let mut at = *place;
+            for byte in id.to_be_bytes() {
+                if let Some(written) = self.bytes.get_mut(at) {
+                    *written = byte;
+                }
+                at = at.saturating_add(1);
+            }
+            id = id.wrapping_add(1);
+        }
+    }
+}
+
+/// The first frame of a delivery, with an id that is written in four bytes.
+fn head(handle: u32) -> Transfer<'static> {
+    whole(handle, u32::MAX)
+}

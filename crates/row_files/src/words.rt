@@ -1,0 +1,41 @@
+//! The words of a call.
+
+use crate::Miss;
+use std::alloc::Global;
+
+/// What stands in front of a mark and what behind it, without the spaces around them.
+pub fn cut(text: &str, mark: char) -> Result<(&str, &str), Miss> {
+    let (front, behind) = text.split_once(mark).ok_or("a word is missing")?;
+    Ok((front.trim(), behind.trim()))
+}
+
+/// The name of a call, and the words behind it.
+pub fn name_of(call: &str) -> (&str, &str) {
+    let (name, words) = call.split_once(' ').unwrap_or((call, ""));
+    (name, words.trim())
+}
+
+/// A number below 2^32: digits and nothing else.
+pub fn number(word: &str) -> Result<u32, Miss> {
+    if word.is_empty() || !word.bytes().all(|byte| byte.is_ascii_digit()) {
+        return Err(Miss::Unread("no number"));
+    }
+    word.parse::<u32>()
+        .map_err(|_| Miss::Unread("the number is too large"))
+}
+
+/// Two numbers, parted by a space.
+pub fn two_numbers(words: &str) -> Result<(u32, u32), Miss> {
+    let (first, second) = cut(words, ' ')?;
+    Ok((number(first)?, number(second)?))
+}
+
+/// The bytes that a hex text spells.
+pub fn bytes_of(alloc: Global, hex: &str) -> Result<Vec<u8>, Miss> {
+    hex::decode(alloc, hex).map_err(|_| Miss::Unread("no hex text"))
+}
+
+/// The hex text of bytes.
+pub fn hex_of(alloc: Global, bytes: &[u8]) -> Result<String, Miss> {
+    Ok(hex::encode(alloc, bytes)?)
+}
