@@ -117,14 +117,10 @@ fn write_piece<W: Write + Drop>(writer: &mut Device<W>, piece: &[u8]) -> Result<
     ensures read { result ≢ Err SendFault.Read }
     ensures write { (result ≡ Err SendFault.Write) ↔ IsTrue (has_failed writer.new) }
 {
-    let mut at = 0;
-    'rest: while at < piece.len() {
-        match writer.write(&piece[at..]) {
-            Ok(count) => at += count,
-            Err(_) => return Err(SendFault::Write),
-        }
+    match writer.write_all(piece) {
+        Ok(()) => Ok(()),
+        Err(_) => Err(SendFault::Write),
     }
-    Ok(())
 }
 
 /// Feeds what is read, and writes what is answered, until the fate of the message is told or the input ends.

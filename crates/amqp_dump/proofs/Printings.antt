@@ -224,11 +224,6 @@ none_begun left held all = (
   },
 )
 
--- what does not speak of the error holds at any
-pub on_err : {A E : Type 0} (r : Result A E) (P : Type 0) → P → OnErr r P
-on_err (Ok a) P p = tt
-on_err (Err e) P p = p
-
 -- what follows from an answer
 pub map_ok : {A E : Type 0} (r : Result A E) (P Q : A → Type 0) → ((a : A) → P a → Q a) → IfOk r P → IfOk r Q
 map_ok (Ok a) P Q f h = f a h

@@ -288,12 +288,8 @@ fn write_out<W: Write + Drop>(bytes: &[u8], writer: &mut Device<W>) -> Result<()
     ensures written { OnOk result (Appends (W.contents (device_inner writer.old)) (W.contents (device_inner writer.new)) bytes.now) }
     ensures begun { OnErr result ((written missing : List ℕ) × Appends (W.contents (device_inner writer.old)) (W.contents (device_inner writer.new)) written × (bytes.now ≡ written ++ missing)) }
 {
-    let mut at = 0;
-    while at < bytes.len() {
-        match writer.write(&bytes[at..]) {
-            Ok(count) => at += count,
-            Err(_) => return Err(DumpFault::Write),
-        }
+    match writer.write_all(bytes) {
+        Ok(()) => Ok(()),
+        Err(_) => Err(DumpFault::Write),
     }
-    Ok(())
 }

@@ -1,3 +1,4 @@
 pub mod Fronts
 pub mod Histories
 pub mod Readings
+pub mod Results

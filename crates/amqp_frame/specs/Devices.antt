@@ -1,5 +1,6 @@
 -- What a marked reader or writer shows.
-use Rattle.std.specs.Prelude.{ℕ, ◌+◌, Bool, if◌then◌else◌}
+use Rattle.std.specs.Prelude.{ℕ, ◌+◌, ◌++◌, ◌≡◌, Bool, List, Option, if◌then◌else◌}
+use Rattle.std.specs.Io.KnownBytes.{Appends}
 use Rattle.amqp_frame.specs.declared.device.Device.{Device}
 
 module _ {T : Type 0} where
@@ -26,3 +27,10 @@ module _ {T : Type 0} where
   -- a number that falls with each read into some room until the reader has ended
   abbrev pub reads_ahead : Device T → ℕ
   reads_ahead d = if d.ended then 0 else d.reads_left + 1
+
+-- a front of the bytes was put behind what was held
+pub record IsPart (held now : Option (List ℕ)) (bytes : List ℕ) : Type 0 where
+  pub front : List ℕ
+  pub behind : List ℕ
+  pub written : Appends held now front
+  pub is : bytes ≡ front ++ behind

@@ -1,7 +1,7 @@
 //! A reader or a writer that keeps its first failure.
 ghost use Rattle.std.specs.Prelude.{◌≡◌, ◌+◌, ◌-◌, ◌^◌, ◌<◌, ◌≤◌, ◌↔◌, true, false, length, take, IfOk, IsErr, IsTrue, MatchResult, Err, Ok, OnErr, OnOk};
-ghost use Rattle.std.specs.Io.KnownBytes.{IsAtEnd, Consumes, Keeps, WriteAppends};
-ghost use Rattle.amqp_frame.specs.Devices.{device_inner, has_failed, has_ended, is_flushed, reads_left, reads_ahead};
+ghost use Rattle.std.specs.Io.KnownBytes.{IsAtEnd, Appends, Consumes, Keeps, WriteAppends};
+ghost use Rattle.amqp_frame.specs.Devices.{device_inner, has_failed, has_ended, is_flushed, reads_left, reads_ahead, IsPart};
 
 use std::io::{self, ErrorKind, Read, Write};
 
@@ -32,6 +32,13 @@ impl<T> Device<T> {
             flushed: false,
             reads_left: u64::MAX,
         }
+    }
+
+    /// The reader or writer itself.
+    pub fn into_inner(self) -> T
+        ensures { result ≡ device_inner self }
+    {
+        self.inner
     }
 
     /// Whether a call failed.
@@ -154,6 +161,29 @@ impl<W: Write> Device<W> {
             }
             Err(error) => self.fail(error),
         }
+    }
+
+    /// Writes all of `buf`, in as many writes as that takes. The first of them that fails marks it, as
+    /// does one that takes nothing; none is asked behind that, and what was written is the front of
+    /// `buf`. Once marked it answers an error without asking the writer.
+    pub fn write_all(&mut self, buf: &[u8]) -> io::Result<()>
+        ensures marked { IsErr result ↔ IsTrue (has_failed self.new) }
+        ensures written { OnOk result (Appends (W.contents (device_inner self.old)) (W.contents (device_inner self.new)) buf.now) }
+        ensures begun { OnErr result (IsPart (W.contents (device_inner self.old)) (W.contents (device_inner self.new)) buf.now) }
+        ensures unflushed { 0 < length buf.now → OnOk result (is_flushed self.new ≡ false) }
+        ensures ended { has_ended self.new ≡ has_ended self.old }
+        ensures reads { reads_left self.new ≡ reads_left self.old }
+
+        // Where the writer is not asked nothing changes.
+        ensures still { IsTrue (has_failed self.old) → self.new ≡ self.old }
+        ensures empty { length buf.now ≡ 0 → self.new ≡ self.old }
+    {
+        self.unmarked()?;
+        let mut at = 0;
+        'rest: while at < buf.len() {
+            at += self.write(&buf[at..])?;
+        }
+        Ok(())
     }
 
     /// Flushes the writer, so that nothing of what it took waits in it. Its first error marks it. Once

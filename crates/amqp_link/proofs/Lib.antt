@@ -2,7 +2,6 @@ pub mod Groups
 pub mod Selections
 pub mod Settlements
 pub mod Transfers
-pub mod Writes
 pub mod Takes
 pub mod Steps
 pub mod Counts

@@ -1,7 +1,9 @@
 //! A message that was handed up.
-ghost use Rattle.std.specs.Prelude.{◌≡◌, ◌<◌, ◌++◌, ℕ, List, length, take, drop, IfOk, OnOk, OnErr, IsTrue, ◌↔◌, []};
+ghost use Rattle.std.specs.Prelude.{◌≡◌, ◌<◌, ◌++◌, ℕ, List, length, drop, IfOk, IsErr, OnOk, OnErr, IsTrue, ◌↔◌, []};
 ghost use Rattle.std.specs.Io.KnownBytes.{Appends};
+ghost use Rattle.amqp_frame.specs.Devices.{device_inner, has_failed, IsPart};
 
+use amqp_frame::Device;
 use std::alloc::{AllocError, Allocator, Global};
 use std::io::{self, Write};
 use std::marker::Model;
@@ -60,20 +62,14 @@ impl<A: Allocator + Copy> Message<A> {
         Vec::from_slice(alloc, self.bytes.as_slice())
     }
 
-    /// Writes its bytes. Where the writer fails, is interrupted, or takes none of some bytes, it is an
-    /// error, and the bytes that were written are the first of them.
-    pub fn write_to<W: Write>(&self, writer: &mut W) -> io::Result<()>
-        ensures ok { OnOk result (Appends (W.contents writer.old) (W.contents writer.new) self.now) }
-        ensures err { OnErr result ((n : ℕ) × Appends (W.contents writer.old) (W.contents writer.new) (take n self.now)) }
+    /// Writes its bytes. It is an error where the writer is marked, and that is where a write of it failed, was
+    /// interrupted, or took none of some bytes; the writer is asked no more, and what was written is a front of them.
+    pub fn write_to<W: Write>(&self, writer: &mut Device<W>) -> io::Result<()>
+        ensures marked { IsErr result ↔ IsTrue (has_failed writer.new) }
+        ensures ok { OnOk result (Appends (W.contents (device_inner writer.old)) (W.contents (device_inner writer.new)) self.now) }
+        ensures err { OnErr result (IsPart (W.contents (device_inner writer.old)) (W.contents (device_inner writer.new)) self.now) }
+        ensures still { IsTrue (has_failed writer.old) → writer.new ≡ writer.old }
     {
-        let bytes = self.bytes.as_slice();
-        let mut at = 0;
-        while at < bytes.len() {
-            match writer.write(&bytes[at..])? {
-                0 => return Err(io::Error::from(io::ErrorKind::WriteZero)),
-                n => at += n,
-            }
-        }
-        Ok(())
+        writer.write_all(self.bytes.as_slice())
     }
 }

@@ -164,12 +164,8 @@ fn write_out<W: Write + Drop>(bytes: &[u8], writer: &mut Device<W>) -> Result<()
     ensures write { (result ≡ Err ScriptFault.Write) ↔ IsTrue (has_failed writer.new) }
     ensures line { (n : ℕ) → result ≢ Err (ScriptFault.Line n) }
 {
-    let mut at = 0;
-    while at < bytes.len() {
-        match writer.write(&bytes[at..]) {
-            Ok(count) => at += count,
-            Err(_) => return Err(ScriptFault::Write),
-        }
+    match writer.write_all(bytes) {
+        Ok(()) => Ok(()),
+        Err(_) => Err(ScriptFault::Write),
     }
-    Ok(())
 }

@@ -8,7 +8,8 @@ use Rattle.amqp_serve.specs.declared.serving.Policy.{Policy}
 use Rattle.amqp_serve.specs.declared.serving.ServeFault.TheVariants as fault
 use Rattle.amqp_endpoint.specs.Endpoints.{accepted_by}
 use Rattle.amqp_endpoint.specs.Runs.{Refused, Handed, HandedUp, InSession, CallDone}
-use Rattle.amqp_serve.specs.Serving.{all_supplies, ToppingUp, Receiving, Settling, stand_handed, Rests, Takes, Settles, record_of, IsPart, BrokeOff, Works}
+use Rattle.amqp_serve.specs.Serving.{all_supplies, ToppingUp, Receiving, Settling, stand_handed, Rests, Takes, Settles, record_of, BrokeOff, Works}
+use Rattle.amqp_frame.specs.Devices.{IsPart}
 use Rattle.amqp_endpoint.specs.Steps.{EndpointState}
 use Rattle.amqp_serve.proofs.Servings.{works_one}
 use Rattle.amqp_serve.proofs.ServingTops.{call_keeps, accepted_silent}

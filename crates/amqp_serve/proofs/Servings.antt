@@ -1,10 +1,10 @@
 -- Serving that goes on, or breaks off.
-use Rattle.std.proofs.Common.{◌≡◌, ℕ, ◌≤◌, arith, List, [], ◌∷◌, ◌++◌, Option, length, ◌-◌, take, drop, refl, sym, ap, subst, ◌∙◌, append_assoc, append-nil, length-drop, length-append, ◌+◌, map}
+use Rattle.std.proofs.Common.{◌≡◌, ℕ, ◌≤◌, arith, List, [], ◌∷◌, ◌++◌, Option, length, take, drop, refl, sym, ap, subst, ◌∙◌, append_assoc, append-nil, length-drop, length-append, ◌+◌, map}
 use Rattle.std.proofs.Common.{Result, Ok, Err, OnOk, OnErr, IfErr}
 use Rattle.std.proofs.KnownBytes.{Appends-nil, Appends-trans, Appends-kept}
 use Rattle.std.proofs.lemmas.Grind.{flat_map-append}
 use Rattle.std.proofs.lemmas.List.{length-take-le, take-append-le, take_all, take-append-drop}
-use Rattle.std.proofs.Math.Seq.{take-length, take-add, take-append_seam}
+use Rattle.std.proofs.Math.Seq.{take-add, take-append_seam}
 use Rattle.std.specs.Io.KnownBytes.{Keeps, Appends}
 use Rattle.amqp_frame.specs.Splits.{SplitterState, IsUnchanged}
 use Rattle.amqp_serve.specs.declared.serving.Policy.{Policy}
@@ -12,7 +12,8 @@ use Rattle.amqp_serve.specs.declared.serving.ServeFault.{ServeFault}
 use Rattle.amqp_serve.specs.declared.serving.ServeFault.TheVariants as fault
 use Rattle.amqp_endpoint.specs.Runs.{Output, MovedOut, Does, Run}
 use Rattle.amqp_serve.specs.Serving.{Stand, Starved, Step, Serves, Rests, MovesOut, Feeds, Takes, Settles, TopsUp, Passes, Finishes, Supply, WindowOf, CreditOf, lack, top_up_by, recorded_by, fed}
-use Rattle.amqp_serve.specs.Serving.{moved, recorded, Served, IsLeft, BrokeOff, Works, IsPart}
+use Rattle.amqp_serve.specs.Serving.{moved, recorded, Served, IsLeft, BrokeOff, Works}
+use Rattle.amqp_frame.specs.Devices.{IsPart}
 use Rattle.amqp_endpoint.specs.Steps.{EndpointState}
 use Rattle.amqp_endpoint.specs.Traces.{IsInRange, AreInRange, moved_by, taken_by}
 
@@ -252,11 +253,6 @@ moved_broke p a s t n w w1 k is part = record {
   sink = Appends-nil k;
   left = (record { before = []; outputs = record { call = Output n; answer = MovedOut (take n s.unsent) } ∷ []; split = refl; each = refl; more = part.front; all = refl }, refl);
 }
-
--- what holds where there is a fault holds at a fault
-pub on_err : {X E : Type 0} (r : Result X E) (F : Type 0) → F → OnErr r F
-on_err (Ok x) F f = tt
-on_err (Err e) F f = f
 
 -- nothing was moved out
 pub moved_none : (s t : EndpointState) (n : ℕ) → t ≡ record s { unsent = drop n s.unsent } → n ≡ 0 → t ≡ s

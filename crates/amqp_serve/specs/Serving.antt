@@ -154,13 +154,6 @@ moved steps = flat_map (λ x. moved_by x.answer) steps
 abbrev pub recorded : List Step → List ℕ
 recorded steps = flat_map (λ x. recorded_by x.call x.answer) steps
 
--- a beginning of the bytes was put behind what was held
-pub record IsPart (held now : Option (List ℕ)) (bytes : List ℕ) : Type 0 where
-  pub front : List ℕ
-  pub behind : List ℕ
-  pub written : Appends held now front
-  pub is : bytes ≡ front ++ behind
-
 -- From one stand to another these bytes were fed; what was moved out stands behind what the writer held, and the records behind what the sink held.
 pub record Served (p : Policy) (a b : Stand) (bytes : List ℕ) (old new : EndpointState) (held now kept keeps : Option (List ℕ)) : Type 0 where
   pub steps : List Step

@@ -1,13 +1,13 @@
 //! A whole connection, over a reader, a writer and a sink.
 ghost use Rattle.std.specs.Prelude.{◌≡◌, ◌≢◌, ◌↔◌, ℕ, ◌+◌, ◌<◌, ◌≤◌, ◌++◌, ◌∷◌, [], List, Option, length, take, true, false, suc, Err, IsErr, IsTrue, OnErr, OnOk, IfOk, IfErr};
 ghost use Rattle.std.specs.Io.KnownBytes.{Keeps, Appends, Consumes};
-ghost use Rattle.amqp_frame.specs.Devices.{device_inner, has_failed, has_ended, is_flushed};
+ghost use Rattle.amqp_frame.specs.Devices.{device_inner, has_failed, has_ended, is_flushed, IsPart};
 ghost use Rattle.amqp_frame.specs.Splits.{IsOver};
 ghost use Rattle.amqp_session.specs.Places.{tabulate};
 ghost use Rattle.amqp_endpoint.specs.Connections.{slot_at, is_dead};
 ghost use Rattle.amqp_endpoint.specs.Endpoints.{handed_in};
 ghost use Rattle.amqp_endpoint.specs.Takings.{link_in};
-ghost use Rattle.amqp_serve.specs.Serving.{Supply, WindowOf, CreditOf, window_lack, credit_lack, session_supplies, all_supplies, Stand, ToppingUp, Receiving, reading, stand_told, record_of, record_head, IsPart, Works, Served, BrokeOff, IsServed, IsIdle, IsStarved};
+ghost use Rattle.amqp_serve.specs.Serving.{Supply, WindowOf, CreditOf, window_lack, credit_lack, session_supplies, all_supplies, Stand, ToppingUp, Receiving, reading, stand_told, record_of, record_head, Works, Served, BrokeOff, IsServed, IsIdle, IsStarved};
 
 use amqp_endpoint::laws::{are_bytes, is_id};
 use amqp_endpoint::{End, Endpoint, Event, Outcome};
@@ -372,14 +372,10 @@ fn write_all<W: Write + Drop>(
     ensures written { OnOk result (Appends (W.contents (device_inner device.old)) (W.contents (device_inner device.new)) piece.now) }
     ensures begun { OnErr result (IsPart (W.contents (device_inner device.old)) (W.contents (device_inner device.new)) piece.now) }
 {
-    let mut at = 0;
-    'rest: while at < piece.len() {
-        match device.write(&piece[at..]) {
-            Ok(count) => at += count,
-            Err(_) => return Err(fault),
-        }
+    match device.write_all(piece) {
+        Ok(()) => Ok(()),
+        Err(_) => Err(fault),
     }
-    Ok(())
 }
 
 /// Tops up the windows and the credit of all sessions and their links, by rising channel and handle.

@@ -2,6 +2,7 @@
 
 use crate::Failure;
 use amqp_endpoint::{Config, End, Endpoint, Event, Outcome};
+use amqp_link::Message;
 use amqp_perform::Outcome as Settlement;
 use std::alloc::{AllocError, Global};
 use std::fmt::{self, Display, Formatter};
@@ -112,13 +113,27 @@ impl Received {
             return Err(Failure::Stuck);
         };
         self.messages = self.messages.saturating_add(1);
-        taken.message.write_to(&mut self.bytes)?;
+        self.keep(&taken.message)?;
         let settled = endpoint.settle(channel, taken.delivery_id, Settlement::Accepted);
         if settled.is_err() {
             return Err(Failure::Stuck);
         }
         // In mode second the delivery is open until its sender settles it.
         let _ = endpoint.grant(channel, handle, 1);
+        Ok(())
+    }
+
+    /// Keeps the bytes of a message, piece by piece.
+    fn keep(&mut self, message: &Message) -> Result<(), AllocError> {
+        let mut at = 0;
+        for _ in 0..message.len() {
+            let piece = message.piece(at);
+            if piece.is_empty() {
+                break;
+            }
+            self.bytes.extend_from_slice(piece)?;
+            at = piece.len().saturating_add(at);
+        }
         Ok(())
     }
 

@@ -2,6 +2,7 @@
 
 use crate::paced::PacedWriter;
 use crate::words::{told, two_words};
+use amqp_frame::Device;
 use amqp_link::{Message, Taken};
 use row_files::words::{name_of, number};
 use row_files::{Heap, Miss};
@@ -69,13 +70,15 @@ pub fn written<A: Allocator + Copy>(
 ) -> Result<String, Miss> {
     let (most, failing) = name_of(words);
     if most == "whole" {
-        let mut bytes = Vec::new(alloc);
-        let answer = told_answer(alloc, message.write_to(&mut bytes))?;
-        let bytes = told(alloc, bytes.as_slice())?;
+        let mut writer = Device::new(Vec::new(alloc));
+        let answer = told_answer(alloc, message.write_to(&mut writer))?;
+        let bytes = told(alloc, writer.into_inner().as_slice())?;
         return Ok(format!(in alloc; "{answer} {bytes}")?);
     }
-    let mut writer = PacedWriter::new(alloc, number(most)? as usize, failure_of(failing)?);
+    let paced = PacedWriter::new(alloc, number(most)? as usize, failure_of(failing)?);
+    let mut writer = Device::new(paced);
     let answer = told_answer(alloc, message.write_to(&mut writer))?;
+    let writer = writer.into_inner();
     let (calls, kept) = (writer.calls(), told(alloc, writer.kept())?);
     Ok(format!(in alloc; "{answer} calls={calls} {kept}")?)
 }

@@ -1,5 +1,6 @@
 use Rattle.amqp_frame.specs.Devices.{device_inner, has_ended}
-use Rattle.amqp_dump.proofs.Printings.{on_err, none_begun}
+use Rattle.amqp_frame.proofs.Results.{on_err}
+use Rattle.amqp_dump.proofs.Printings.{none_begun}
 use Rattle.amqp_dump.proofs.printer.dump.Goals as goal
 
 pub returns-in_err-scanner-clause-begun : goal.returns-in_err-scanner-clause-begun

@@ -7,7 +7,8 @@ use Rattle.amqp_dump.specs.declared.printer.DumpFault.TheVariants.{Read, TooLong
 use Rattle.amqp_dump.specs.Printing.{IsDump, BeginsDump, Dumps, BreaksOff}
 use Rattle.amqp_dump.specs.Steps.{taken_by}
 use Rattle.amqp_dump.proofs.Tellings.{told_length}
-use Rattle.amqp_dump.proofs.Printings.{on_err, map_ok, map_err, none_printed, shows, begun_on, begun_weak, dump_weak, whole_dump}
+use Rattle.amqp_frame.proofs.Results.{on_err}
+use Rattle.amqp_dump.proofs.Printings.{map_ok, map_err, none_printed, shows, begun_on, begun_weak, dump_weak, whole_dump}
 use Rattle.amqp_dump.proofs.printer.print_all.Goals as goal
 
 pub loop-reader-init : goal.loop-reader-init

@@ -2,7 +2,8 @@ use Rattle.std.proofs.Common.{ℕ, List, Ok, string_bytes, subst, ap, ◌∙◌}
 use Rattle.amqp_frame.specs.Devices.{device_inner}
 use Rattle.amqp_dump.specs.Entries.{entry_of}
 use Rattle.amqp_dump.specs.Printing.{Prints}
-use Rattle.amqp_dump.proofs.Printings.{on_err, end_began, end_fault, end_dump, KeepsOrPrints}
+use Rattle.amqp_frame.proofs.Results.{on_err}
+use Rattle.amqp_dump.proofs.Printings.{end_began, end_fault, end_dump, KeepsOrPrints}
 use Rattle.amqp_dump.proofs.printer.print_end.Goals as goal
 
 pub returns-in_err-print_unit-in-Some-clause-begun : goal.returns-in_err-print_unit-in-Some-clause-begun

@@ -5,7 +5,8 @@ use Rattle.amqp_frame.specs.Devices.{device_inner}
 use Rattle.amqp_dump.specs.declared.scanned.Scanned.{Scanned}
 use Rattle.amqp_dump.specs.Entries.{entry_of, is_fault}
 use Rattle.amqp_dump.specs.Steps.{IsReadyBehind}
-use Rattle.amqp_dump.proofs.Printings.{on_err, Goes, goes_none, printed_piece, printed_more, printed_fault, all_printed, began, began_unit, began_part}
+use Rattle.amqp_frame.proofs.Results.{on_err}
+use Rattle.amqp_dump.proofs.Printings.{Goes, goes_none, printed_piece, printed_more, printed_fault, all_printed, began, began_unit, began_part}
 use Rattle.amqp_dump.proofs.printer.print_piece.Goals as goal
 
 pub returns-in_err-item-clause-begun : goal.returns-in_err-item-clause-begun

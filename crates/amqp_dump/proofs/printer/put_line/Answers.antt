@@ -1,7 +1,8 @@
 use Rattle.std.proofs.Common.{ℕ, ◌++◌, List, inr, string_bytes, sym, ap, append_assoc, append-nil, ◌∙◌}
 use Rattle.std.proofs.KnownBytes.{Appends-trans}
 use Rattle.amqp_frame.specs.Devices.{device_inner}
-use Rattle.amqp_dump.proofs.Printings.{on_err, map_ok, map_err}
+use Rattle.amqp_frame.proofs.Results.{on_err}
+use Rattle.amqp_dump.proofs.Printings.{map_ok, map_err}
 use Rattle.amqp_dump.proofs.printer.put_line.Goals as goal
 
 pub returns-in_err-write_lines-clause-begun : goal.returns-in_err-write_lines-clause-begun

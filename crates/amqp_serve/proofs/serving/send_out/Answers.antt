@@ -1,5 +1,6 @@
 use Rattle.amqp_frame.specs.Devices.{device_inner}
-use Rattle.amqp_serve.proofs.Servings.{on_ok, on_err, works_flushed, flush_broke}
+use Rattle.amqp_frame.proofs.Results.{on_err}
+use Rattle.amqp_serve.proofs.Servings.{on_ok, works_flushed, flush_broke}
 use Rattle.amqp_serve.proofs.serving.send_out.Goals as goal
 
 pub returns-clause-works : goal.returns-clause-works

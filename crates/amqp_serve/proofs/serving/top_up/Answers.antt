@@ -6,7 +6,8 @@ use Rattle.amqp_session.specs.Sessions.{SessionState}
 use Rattle.amqp_endpoint.specs.Configs.{Configured}
 use Rattle.amqp_endpoint.specs.Connections.{slot_at}
 use Rattle.amqp_serve.specs.Serving.{Supply, session_supplies, all_supplies_from, all_supplies, ToppingUp, Works, BrokeOff}
-use Rattle.amqp_serve.proofs.Servings.{on_err, works_on, works_broke, works_none}
+use Rattle.amqp_frame.proofs.Results.{on_err}
+use Rattle.amqp_serve.proofs.Servings.{works_on, works_broke, works_none}
 use Rattle.amqp_serve.proofs.ServingTops.{all_from, places_step, places_none, session_passed, none_live}
 use Rattle.amqp_serve.proofs.serving.top_up.Goals.{then-is_some+in_ok-top_up_session, else-is_some}
 use Rattle.amqp_serve.proofs.serving.top_up.Goals as goal

@@ -4,7 +4,8 @@ use Rattle.amqp_frame.specs.Devices.{device_inner}
 use Rattle.amqp_session.specs.Places.{tabulate}
 use Rattle.amqp_serve.specs.declared.serving.ServeFault.TheVariants.{Write}
 use Rattle.amqp_serve.specs.Serving.{Supply, CreditOf, session_supplies, ToppingUp, Works, BrokeOff}
-use Rattle.amqp_serve.proofs.Servings.{on_err, works_on, works_broke}
+use Rattle.amqp_frame.proofs.Results.{on_err}
+use Rattle.amqp_serve.proofs.Servings.{works_on, works_broke}
 use Rattle.amqp_serve.proofs.ServingTops.{tabulate_step, tabulate_none, tabulate_all}
 use Rattle.amqp_serve.proofs.serving.top_up_session.Goals as goal
 

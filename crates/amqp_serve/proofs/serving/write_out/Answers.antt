@@ -2,11 +2,13 @@ use Rattle.std.proofs.Common.{◌≡◌, ℕ, List, [], Option, take, refl, sym,
 use Rattle.std.proofs.lemmas.Grind.{common_steps}
 use Rattle.std.specs.Io.KnownBytes.{Appends}
 use Rattle.amqp_frame.specs.Devices.{device_inner}
-use Rattle.amqp_serve.specs.Serving.{IsPart, Works, BrokeOff, Stand}
+use Rattle.amqp_serve.specs.Serving.{Works, BrokeOff, Stand}
+use Rattle.amqp_frame.specs.Devices.{IsPart}
+use Rattle.amqp_frame.proofs.Results.{on_err}
 use Rattle.amqp_serve.specs.declared.serving.Policy.{Policy}
 use Rattle.amqp_serve.specs.declared.serving.ServeFault.TheVariants.{Write}
 use Rattle.amqp_endpoint.specs.Steps.{EndpointState}
-use Rattle.amqp_serve.proofs.Servings.{on_err, front_is, works_none, works_on, works_broke, works_moved, moved_broke, moved_none}
+use Rattle.amqp_serve.proofs.Servings.{front_is, works_none, works_on, works_broke, works_moved, moved_broke, moved_none}
 use Rattle.amqp_serve.proofs.serving.write_out.Goals as goal
 
 pub pieces-init : goal.pieces-init

@@ -5,8 +5,10 @@ use Rattle.std.proofs.lemmas.List.{take_all, take-append-drop}
 use Rattle.std.specs.Io.KnownBytes.{Appends}
 use Rattle.amqp_frame.specs.Devices.{device_inner}
 use Rattle.amqp_endpoint.specs.Endpoints.{handed_in}
-use Rattle.amqp_serve.specs.Serving.{IsPart, record_head}
-use Rattle.amqp_serve.proofs.Servings.{on_err, front_of_first, part_more, part_on, longer_by, longer_take}
+use Rattle.amqp_serve.specs.Serving.{record_head}
+use Rattle.amqp_frame.specs.Devices.{IsPart}
+use Rattle.amqp_frame.proofs.Results.{on_err}
+use Rattle.amqp_serve.proofs.Servings.{front_of_first, part_more, part_on, longer_by, longer_take}
 use Rattle.amqp_serve.proofs.serving.write_record.Goals as goal
 
 -- the head, and as much of the message as was put behind it
