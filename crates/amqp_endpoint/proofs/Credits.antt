@@ -131,7 +131,8 @@ event_most law config h e channel handle =
 
 -- One entry of the history. ---------------------------------------------------------------------------------------------
 
-unit_none : (channel handle : ℕ) (s : event.ConnectionState) (l : Line) → granted_on channel handle (event_on s l) ≡ 0
+-- no unit grants
+pub unit_none : (channel handle : ℕ) (s : event.ConnectionState) (l : Line) → granted_on channel handle (event_on s l) ≡ 0
 unit_none channel handle s (line.SessionFrame place live f) =
     ap (λ (n : ℕ). if nat_eq place channel then n else 0) (of_frame (λ e. granted_at handle e) 0 (frames_none handle) live f) ∙ same_either (nat_eq place channel) 0
 unit_none channel handle s _ = refl
@@ -140,7 +141,8 @@ either_most : (b : Bool) (m n : ℕ) → m ≤ n → (if b then m else 0) ≤ (i
 either_most true m n l = l
 either_most false m n l = omega arith
 
-slot_most : (channel handle place : ℕ) (x : Slot SessionState) (c : asks.Call) → granted_on channel handle (calls.slot_event place x c) ≤ granted_to channel handle (Called place c)
+-- a call grants what it asks for at most
+pub slot_most : (channel handle place : ℕ) (x : Slot SessionState) (c : asks.Call) → granted_on channel handle (calls.slot_event place x c) ≤ granted_to channel handle (Called place c)
 slot_most channel handle place Free c = omega arith
 slot_most channel handle place (Live s) c = either_most (nat_eq place channel) (granted_at handle (call_event s c)) (granted_by handle c) (call_most handle s c)
 slot_most channel handle place Waits c = omega arith

@@ -16,8 +16,14 @@ pub mod LinkLives
 pub mod Takings
 pub mod Windows
 pub mod Messages
+pub mod EachLife
+pub mod OneHistory
 pub mod Ready
 pub mod Credits
 pub mod Failures
 pub mod Grants
+pub mod Uses
+pub mod Next
+pub mod Untold
+pub mod Settling
 pub mod Lent

@@ -1,4 +1,4 @@
--- The link that lives at a handle after one event: it begins by the event, or lived before it.
+-- What lives at a place after one event: it begins by the event, or lived before it.
 use Rattle.std.proofs.Common.{arith, ◌≡◌, ℕ, ◌⊎◌, inl, inr, Bool, true, false, List, [], ◌∷◌, refl, sym, ap, subst, Option, Some, None}
 use Rattle.std.specs.Prelude.{if◌then◌else◌, ◌&&◌, nat_eq}
 use Rattle.amqp_link.specs.Links.{LinkEvent}
@@ -14,69 +14,67 @@ use Rattle.amqp_endpoint.specs.Connections as event
 use Rattle.amqp_endpoint.specs.Connections.{ConnectionEvent, happens}
 use Rattle.amqp_endpoint.specs.Takings.{attaches_at, attaches_on, part_in}
 
-abbrev Links : Type 0
-Links = Slot (Life Attached LinkEvent)
-
 abbrev Sessions : Type 0
 Sessions = Slot (Life SessionTerms SessionEvent)
 
 -- a part with this event more, if there is one
-abbrev pub more : Option LinkEvent → List LinkEvent → List LinkEvent
+abbrev pub more : {E : Type 0} → Option E → List E → List E
 more None h = h
 more (Some x) h = x ∷ h
 
--- A link lives after an event, with this part: it begins by the event, or its part goes on from before it, by this event of its own or by none.
-abbrev pub Went : Bool → Option LinkEvent → Links → Attached → List LinkEvent → Type 0
-Went starts x before a h = ((starts ≡ true) × (h ≡ [])) ⊎ ((starts ≡ false) × (past : List LinkEvent) × (before ≡ Live (a, past)) × (h ≡ more x past))
+-- What lives after an event, with this part: it begins by the event, or its part goes on from before it, by this event of its own or by none.
+abbrev pub Went : {B E : Type 0} → Bool → Option E → Slot (Life B E) → B → List E → Type 0
+Went {B} {E} starts x before a h = ((starts ≡ true) × (h ≡ [])) ⊎ ((starts ≡ false) × (past : List E) × (before ≡ Live (a, past)) × (h ≡ more x past))
 
--- One event at one handle. ----------------------------------------------------------------------------------------------
+-- One event at one place. -----------------------------------------------------------------------------------------------
 
--- a link begins there
-abbrev begins_there : ℕ → Happens Attached LinkEvent → Bool
+-- a life begins there
+abbrev pub begins_there : {B E : Type 0} → ℕ → Happens B E → Bool
 begins_there k (Begins place a) = nat_eq place k
 begins_there k x = false
 
--- the event by which the link there goes on
-abbrev pub goes_there : ℕ → Happens Attached LinkEvent → Option LinkEvent
+-- the event by which the life there goes on
+abbrev pub goes_there : {B E : Type 0} → ℕ → Happens B E → Option E
 goes_there k (GoesOn place e) = if nat_eq place k then Some e else None
 goes_there k (AllGoOn e) = Some e
 goes_there k x = None
 
-stays_at : (a : Attached) (before : Links) (h : List LinkEvent) → before ≡ Live (a, h) → Went false None before a h
-stays_at a before h e = inr (refl, h, e, refl)
+module _ {B E : Type 0} where
+  stays_at : (a : B) (before : Slot (Life B E)) (h : List E) → before ≡ Live (a, h) → Went false None before a h
+  stays_at a before h e = inr (refl, h, e, refl)
 
-begins_at : (b : Bool) (a a0 : Attached) (before : Links) (h : List LinkEvent) → (if b then Live (a0, []) else before) ≡ Live (a, h) → Went b None before a h
-begins_at true a a0 before h e = inl (refl, sym (ap (λ (x : Life Attached LinkEvent). x.1) (same_live (a0, []) (a, h) e)))
-begins_at false a a0 before h e = stays_at a before h e
+  begins_at : (b : Bool) (a a0 : B) (before : Slot (Life B E)) (h : List E) → (if b then Live (a0, []) else before) ≡ Live (a, h) → Went b None before a h
+  begins_at true a a0 before h e = inl (refl, sym (ap (λ (x : Life B E). x.1) (same_live (a0, []) (a, h) e)))
+  begins_at false a a0 before h e = stays_at a before h e
 
-goes_on : (x : LinkEvent) (a : Attached) (before : Links) (h : List LinkEvent) → slot_map (λ l. lived_on l x) before ≡ Live (a, h) → Went false (Some x) before a h
-goes_on x a Free h e = absurd (grind (arith, e))
-goes_on x a (Live l) h e =
-    let same = same_live (l.0, x ∷ l.1) (a, h) e in
-    inr (refl, l.1, ap (λ (y : Attached). Live (y, l.1)) (ap (λ (y : Life Attached LinkEvent). y.0) same), sym (ap (λ (y : Life Attached LinkEvent). y.1) same))
-goes_on x a Waits h e = absurd (grind (arith, e))
+  goes_on : (x : E) (a : B) (before : Slot (Life B E)) (h : List E) → slot_map (λ l. lived_on l x) before ≡ Live (a, h) → Went false (Some x) before a h
+  goes_on x a Free h e = absurd (grind (arith, e))
+  goes_on x a (Live l) h e =
+      let same = same_live (l.0, x ∷ l.1) (a, h) e in
+      inr (refl, l.1, ap (λ (y : B). Live (y, l.1)) (ap (λ (y : Life B E). y.0) same), sym (ap (λ (y : Life B E). y.1) same))
+  goes_on x a Waits h e = absurd (grind (arith, e))
 
-goes_at : (b : Bool) (x : LinkEvent) (a : Attached) (before : Links) (h : List LinkEvent) → (if b then slot_map (λ l. lived_on l x) before else before) ≡ Live (a, h) →
-    Went false (if b then Some x else None) before a h
-goes_at true x a before h e = goes_on x a before h e
-goes_at false x a before h e = stays_at a before h e
+  goes_at : (b : Bool) (x : E) (a : B) (before : Slot (Life B E)) (h : List E) → (if b then slot_map (λ l. lived_on l x) before else before) ≡ Live (a, h) →
+      Went false (if b then Some x else None) before a h
+  goes_at true x a before h e = goes_on x a before h e
+  goes_at false x a before h e = stays_at a before h e
 
-leaves_at : (b : Bool) (a : Attached) (before : Links) (h : List LinkEvent) → (if b then Waits else before) ≡ Live (a, h) → Went false None before a h
-leaves_at true a before h e = absurd (grind (arith, e))
-leaves_at false a before h e = stays_at a before h e
+  leaves_at : (b : Bool) (a : B) (before : Slot (Life B E)) (h : List E) → (if b then Waits else before) ≡ Live (a, h) → Went false None before a h
+  leaves_at true a before h e = absurd (grind (arith, e))
+  leaves_at false a before h e = stays_at a before h e
 
-gone_at : (b : Bool) (a : Attached) (before : Links) (h : List LinkEvent) → (if b then Free else before) ≡ Live (a, h) → Went false None before a h
-gone_at true a before h e = absurd (grind (arith, e))
-gone_at false a before h e = stays_at a before h e
+  gone_at : (b : Bool) (a : B) (before : Slot (Life B E)) (h : List E) → (if b then Free else before) ≡ Live (a, h) → Went false None before a h
+  gone_at true a before h e = absurd (grind (arith, e))
+  gone_at false a before h e = stays_at a before h e
 
-went : (k : ℕ) (x : Happens Attached LinkEvent) (a : Attached) (before : Links) (h : List LinkEvent) → life_after k x before ≡ Live (a, h) → Went (begins_there k x) (goes_there k x) before a h
-went k Nothing a before h e = stays_at a before h e
-went k (Begins place a0) a before h e = begins_at (nat_eq place k) a a0 before h e
-went k (GoesOn place x) a before h e = goes_at (nat_eq place k) x a before h e
-went k (AllGoOn x) a before h e = goes_on x a before h e
-went k (Leaves place) a before h e = leaves_at (nat_eq place k) a before h e
-went k (Gone place) a before h e = gone_at (nat_eq place k) a before h e
-went k AllGone a before h e = gone_at true a before h e
+  pub went : (k : ℕ) (x : Happens B E) (a : B) (before : Slot (Life B E)) (h : List E) → life_after k x before ≡ Live (a, h) → Went (begins_there k x) (goes_there k x) before a h
+  went k Nothing a before h e = stays_at a before h e
+  went k (Begins place a0) a before h e = begins_at (nat_eq place k) a a0 before h e
+  went k (GoesOn place x) a before h e = goes_at (nat_eq place k) x a before h e
+  went k (AllGoOn x) a before h e = goes_on x a before h e
+  went k (Leaves place) a before h e = leaves_at (nat_eq place k) a before h e
+  went k (Gone place) a before h e = gone_at (nat_eq place k) a before h e
+  went k AllGone a before h e = gone_at true a before h e
 
 -- One event of the connection. ------------------------------------------------------------------------------------------
 

@@ -152,6 +152,13 @@ OpenSelected = (terms : Terms) (h : List LinkEvent) → open_count (link.state_o
 allowed_in : (a b : Bounds) → a ≡ b → a.allowed ≡ b.allowed
 allowed_in a b e = ap (λ (x : Bounds). x.allowed) e
 
+-- what a link hands up are the first of its whole deliveries
+pub first_of : (a : Attached) (past : List LinkEvent) (taken : List Handed) → link.Sound a.terms past → taken ≡ map handed_of (handed_up past) →
+    map content_of taken ≡ map content (take (length taken) (wholes past))
+first_of a past taken sound all =
+    let long : length taken ≡ length (handed_up past) = ap (λ (x : List Handed). length x) all ∙ length-map (handed_up past) handed_of in
+    ap (λ (x : List Handed). map content_of x) all ∙ same_content (handed_up past) ∙ sound.front ∙ ap (λ (n : ℕ). map content (take n (wholes past))) (sym long)
+
 has_part : OpenSelected → (config : Configured) (part : Slot (Life Attached LinkEvent)) (a : Attached) (past : List LinkEvent) (granted : ℕ) (taken : List Handed) (l : LiveLink) →
     part ≡ Live (a, past)
     → l ≡ lived.live_state a past → link.Sound a.terms past → link.grants past ≡ granted →
@@ -168,7 +175,7 @@ has_part select config part a past granted taken l stands is sound grants bounds
       past = past;
       stands = stands;
       is = is;
-      first = ap (λ (x : List Handed). map content_of x) all ∙ same_content (handed_up past) ∙ sound.front ∙ ap (λ (n : ℕ). map content (take n (wholes past))) (sym long);
+      first = first_of a past taken sound all;
       stood = all ∙ ap (λ (x : List Delivery). map handed_of x) sound.stood;
       ready = ap (λ (x : LiveLink). x.link.ready) is ∙ ap (λ (n : ℕ). map (shown a.terms past) (drop n (wholes past))) (sym long);
       credit = ap (λ (x : LiveLink). x.link.credit + link.heads past + link.advances a.terms past) is ∙ spent ∙ grants;

@@ -30,7 +30,8 @@ replay_on f v config xs i d before after a mid last l e r does =
     subst (λ (calls : List Call). IsReplay config calls (map v after) last) (sym (map_more f xs i d l))
     (subst (λ (answers : List Answer). IsReplay config (map f (take i xs) ++ f (get_or xs i d) ∷ []) answers last) (sym given) more)
 
-ranges_more : (calls : List Call) (c : Call) → AreInRange calls → IsInRange c → AreInRange (calls ++ c ∷ [])
+-- one call more is in range
+pub ranges_more : (calls : List Call) (c : Call) → AreInRange calls → IsInRange c → AreInRange (calls ++ c ∷ [])
 ranges_more [] c all one = (one, tt)
 ranges_more (x ∷ calls) c all one = (all.0, ranges_more calls c all.1 one)
 

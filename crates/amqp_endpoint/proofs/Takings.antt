@@ -1,5 +1,5 @@
 -- What was handed up of each link, life by life: what its own history says.
-use Rattle.std.proofs.Common.{arith, ◌≡◌, ℕ, suc, ◌<◌, inl, inr, Bool, true, false, List, [], ◌∷◌, ◌++◌, map, refl, sym, ap, ◌∙◌, Option, Some, None}
+use Rattle.std.proofs.Common.{arith, ◌≡◌, ℕ, suc, ◌<◌, inl, inr, Bool, true, false, List, [], ◌∷◌, ◌++◌, map, refl, sym, ap, ◌∙◌, subst, Option, Some, None}
 use Rattle.std.specs.Prelude.{if◌then◌else◌, ◌&&◌, nat_eq, filter, option_map, slice_get, unwrap_or}
 use Rattle.std.proofs.lemmas.Bool.{eqb-true, eq-eqb}
 use Rattle.std.proofs.lemmas.Bool.Decides.{eqb_tells}
@@ -8,14 +8,20 @@ use Rattle.std.proofs.lemmas.List.Elements.{filter-append}
 use Rattle.amqp_link.specs.Links.{LinkEvent, Transferred, FlowStated, Delivery}
 use Rattle.amqp_link.specs.Histories.{followed_by, handed_up_by, handed_up}
 use Rattle.amqp_session.specs.declared.slot.Slot.{Slot}
-use Rattle.amqp_session.specs.declared.slot.Slot.TheVariants.{Free, Live}
+use Rattle.amqp_session.specs.declared.slot.Slot.TheVariants.{Free, Live, Waits}
+use Rattle.amqp_session.specs.declared.terms.SessionTerms.{SessionTerms}
+use Rattle.amqp_session.specs.Histories as lived
+use Rattle.amqp_session.specs.Places.{GoesOn, Life, slot_map, lived_on, life_after, life_state, states}
+use Rattle.amqp_session.proofs.Places.{got}
+use Rattle.amqp_session.proofs.Tables.{same_live}
 use Rattle.amqp_session.specs.Sessions as of_session
 use Rattle.amqp_session.specs.Sessions.{Attached, LiveLink, SessionState, SessionEvent, SessionMay}
+use Rattle.amqp_endpoint.specs.Configs.{Configured}
 use Rattle.amqp_endpoint.specs.Connections as event
 use Rattle.amqp_endpoint.specs.Connections.{ConnectionState, ConnectionEvent, ConnectionMay, slot_at, happens}
-use Rattle.amqp_endpoint.specs.Histories.{part}
+use Rattle.amqp_endpoint.specs.Histories.{part, state_of}
 use Rattle.amqp_endpoint.specs.Runs.{Handed, handed_of}
-use Rattle.amqp_endpoint.specs.Takings.{Taking, attaches_on, lives, handed_up_in, taking_on, takings, is_of, taken_in, link_part, link_in, link_at}
+use Rattle.amqp_endpoint.specs.Takings.{Taking, attaches_at, attaches_on, lives, handed_up_in, taking_on, takings, is_of, taken_in, part_in, link_part, link_in, link_at}
 use Rattle.amqp_endpoint.proofs.LinkLives.{more, Went, goes_there, event_at, went_on}
 
 -- What one event hands up. ----------------------------------------------------------------------------------------------
@@ -25,7 +31,7 @@ nothing_either true o e = e
 nothing_either false o e = refl
 
 -- what is handed up at this handle
-abbrev at_handle : ℕ → Option (ℕ × Delivery) → Option Delivery
+abbrev pub at_handle : ℕ → Option (ℕ × Delivery) → Option Delivery
 at_handle handle None = None
 at_handle handle (Some x) = if nat_eq x.0 handle then Some x.1 else None
 
@@ -53,7 +59,7 @@ given_there handle (of_session.LinkFlowCame place next_id count) = quiet_given (
 given_there handle e = refl
 
 -- what it hands up at a handle of the session on a channel
-abbrev given_at : ℕ → ℕ → ConnectionEvent → Option Delivery
+abbrev pub given_at : ℕ → ℕ → ConnectionEvent → Option Delivery
 given_at channel handle (event.InSession place e) = if nat_eq place channel then at_handle handle (handed_up_in e) else None
 given_at channel handle e = None
 
@@ -68,7 +74,8 @@ more_handed (Some x) h = refl
 
 -- What is taken. --------------------------------------------------------------------------------------------------------
 
-abbrev messages : Option Delivery → List Handed
+-- the message of a delivery that was handed up
+abbrev pub messages : Option Delivery → List Handed
 messages None = []
 messages (Some d) = handed_of d ∷ []
 
@@ -91,7 +98,8 @@ tested true false of_life now d same = sym (none_picked now [] refl)
 tested false at_place of_life now d same = sym (none_picked now [] refl)
 
 module _ (channel handle n : ℕ) where
-  of_these : List Taking → List Handed
+  -- those of one life
+  unfoldable pub of_these : List Taking → List Handed
   of_these ts = map (λ t. t.handed) (filter (is_of channel handle n) ts)
 
   these_more : (ts us : List Taking) → of_these (ts ++ us) ≡ of_these ts ++ of_these us
@@ -113,7 +121,8 @@ module _ (channel handle n : ℕ) where
   not_handed : (b : Bool) (ts : List Taking) → of_these ts ≡ of_these ts ++ (if b then [] else [])
   not_handed b ts = sym (ap (λ (x : List Handed). of_these ts ++ x) (none_picked b [] refl) ∙ append-nil (of_these ts))
 
-  taken_more : (e : ConnectionEvent) (h : List ConnectionEvent) →
+  -- one event more
+  pub taken_more : (e : ConnectionEvent) (h : List ConnectionEvent) →
       of_these (takings (e ∷ h)) ≡ of_these (takings h) ++ (if nat_eq (lives channel handle h) n then messages (given_at channel handle e) else [])
   taken_more (event.InSession place e) h = by_handed place h (takings h) (handed_up_in e)
   taken_more event.HeaderCame h = not_handed (nat_eq (lives channel handle h) n) (takings h)
@@ -136,7 +145,8 @@ module _ (channel handle n : ℕ) where
 
 -- What is kept true. ----------------------------------------------------------------------------------------------------
 
-below_not : (a b : ℕ) → a < b → nat_eq a b ≡ false
+-- a lower number is another
+pub below_not : (a b : ℕ) → a < b → nat_eq a b ≡ false
 below_not a b l =
     elim (eqb_tells a b) [
       | inl same ↦ absurd (omega (arith, same.1, l))
@@ -153,7 +163,8 @@ module _ (channel handle : ℕ) where
     pub later : (n : ℕ) → lives channel handle h < n → of_these channel handle n (takings h) ≡ []
     pub now : (a : Attached) (past : List LinkEvent) → link_part channel handle h ≡ Live (a, past) → of_these channel handle (lives channel handle h) (takings h) ≡ map handed_of (handed_up past)
 
-  life_more : (starts : Bool) (n m : ℕ) → (if starts then suc m else m) < n → m < n
+  -- a life that is to come was to come before
+  pub life_more : (starts : Bool) (n m : ℕ) → (if starts then suc m else m) < n → m < n
   life_more true n m l = omega (arith, l)
   life_more false n m l = l
 
@@ -250,3 +261,66 @@ still_taken s h e channel handle life may none =
     (no_messages (nat_eq (lives channel handle h) life) (given_at channel handle e)
     (λ same. none_given s channel handle e may (λ l at. none l at (eqb-true (lives channel handle h) life same))))
     ∙ append-nil (of_these channel handle life (takings h))
+
+-- Where a link hands something up it lives on. ------------------------------------------------------------------------------
+
+chosen : {T : Type 0} (b : Bool) (o : Option T) (t : T) → (if b then o else None) ≡ Some t → (b ≡ true) × (o ≡ Some t)
+chosen true o t e = (refl, e)
+chosen false o t e = absurd (grind (arith, e))
+
+life_of : {B E T : Type 0} (state : B → List E → T) (x : Slot (Life B E)) (t : T) → life_state state x ≡ Live t → (y : Life B E) × (x ≡ Live y) × (t ≡ state y.0 y.1)
+life_of state Free t e = absurd (grind (arith, e))
+life_of state (Live y) t e = (y, refl, sym (same_live (state y.0 y.1) t e))
+life_of state Waits t e = absurd (grind (arith, e))
+
+-- what lives in a table has a life
+life_at : {B E T : Type 0} (state : B → List E → T) (n : ℕ) (lives_at : ℕ → Slot (Life B E)) (k : ℕ) (t : T) → slice_get (states state n lives_at) k ≡ Some (Live t) →
+    (y : Life B E) × (lives_at k ≡ Live y) × (t ≡ state y.0 y.1)
+life_at state n lives_at k t e = life_of state (lives_at k) t (got n (λ j. life_state state (lives_at j)) k (Live t) e).1
+
+goes_here : {B E : Type 0} (k place : ℕ) (e : E) (s : Slot (Life B E)) (y : Life B E) → nat_eq place k ≡ true → s ≡ Live y → life_after k (GoesOn place e) s ≡ Live (lived_on y e)
+goes_here {B} {E} k place e s y same is =
+    ap (λ (b : Bool). if b then slot_map (λ l. lived_on l e) s else s) same ∙ ap (λ (x : Slot (Life B E)). slot_map (λ l. lived_on l e) x) is
+
+-- the event of a session that hands a delivery up is its link's, which lives on
+gives_in : (terms : SessionTerms) (h : List SessionEvent) (handle : ℕ) (e : SessionEvent) (d : Delivery) → SessionMay (lived.state_of terms h) e → at_handle handle (handed_up_in e) ≡ Some d →
+    ((y : Life Attached LinkEvent) × (lived.part handle (e ∷ h) ≡ Live y)) × (attaches_at handle e ≡ false)
+gives_in terms h handle (of_session.Called place x) d may given =
+    let here = (chosen (nat_eq place handle) (handed_up_by x) d (at_place handle place (handed_up_by x) ∙ given)).0 in
+    let l = life_at lived.live_state (of_session.handles terms) (λ k. lived.part k h) place may.2.0 may.2.1 in
+    let at : lived.part handle h ≡ Live l.0 = ap (λ (k : ℕ). lived.part k h) (sym (eqb-true place handle here)) ∙ l.1 in
+    ((lived_on l.0 x, goes_here handle place x (lived.part handle h) l.0 here at), refl)
+gives_in terms h handle e d may given = absurd (grind (arith, given))
+
+and_false : (b : Bool) (c : Bool) → c ≡ false → (b && c) ≡ false
+and_false true c e = e
+and_false false c e = refl
+
+-- the same of a connection
+pub gives_there : (config : Configured) (h : List ConnectionEvent) (channel handle : ℕ) (e : ConnectionEvent) (d : Delivery) → ConnectionMay (state_of config h) e → given_at channel handle e ≡ Some d →
+    ((y : Life Attached LinkEvent) × (link_part channel handle (e ∷ h) ≡ Live y)) × (attaches_on channel handle e ≡ false)
+gives_there config h channel handle (event.InSession place e) d may given =
+    let c = chosen (nat_eq place channel) (at_handle handle (handed_up_in e)) d given in
+    let s = life_at lived.state_of (event.channels config) (λ k. part k h) place may.2.0 may.2.1 in
+    let at : part channel h ≡ Live s.0 = ap (λ (k : ℕ). part k h) (sym (eqb-true place channel c.0)) ∙ s.1 in
+    let may_there = subst (λ (t : SessionState). SessionMay t e) s.2 may.2.2 in
+    let l = gives_in s.0.0 s.0.1 handle e d may_there c.1 in
+    let after : part channel (event.InSession place e ∷ h) ≡ Live (lived_on s.0 e) = goes_here channel place e (part channel h) s.0 c.0 at in
+    ((l.0.0, ap (λ (x : Slot (Life SessionTerms SessionEvent)). part_in handle x) after ∙ l.0.1), and_false (nat_eq place channel) (attaches_at handle e) l.1)
+gives_there config h channel handle e d may given = absurd (grind (arith, given))
+
+-- an event behind which the link of a life does not live hands nothing up in it
+pub ended_taken : (config : Configured) (h : List ConnectionEvent) (e : ConnectionEvent) (channel handle life : ℕ) → ConnectionMay (state_of config h) e →
+    ((y : Life Attached LinkEvent) → link_part channel handle (e ∷ h) ≡ Live y → lives channel handle (e ∷ h) ≡ life → ⊥) → taken_in channel handle life (e ∷ h) ≡ taken_in channel handle life h
+unfolding of_these
+ended_taken config h e channel handle life may none =
+    taken_more channel handle life e h
+    ∙ ap (λ (l : List Handed). of_these channel handle life (takings h) ++ l)
+    (no_messages (nat_eq (lives channel handle h) life) (given_at channel handle e) (λ same. nothing (given_at channel handle e) refl (eqb-true (lives channel handle h) life same)))
+    ∙ append-nil (of_these channel handle life (takings h))
+  where
+    nothing : (o : Option Delivery) → given_at channel handle e ≡ o → lives channel handle h ≡ life → o ≡ None
+    nothing None is same = refl
+    nothing (Some d) is same =
+        let g = gives_there config h channel handle e d may is in
+        absurd (none g.0.0 g.0.1 (ap (λ (b : Bool). if b then suc (lives channel handle h) else lives channel handle h) g.1 ∙ same))

@@ -30,6 +30,7 @@ use Rattle.amqp_endpoint.specs.Configs.{Configured, IsConfigured}
 use Rattle.amqp_endpoint.specs.Connections as event
 use Rattle.amqp_endpoint.specs.Connections.{ConnectionState, ConnectionEvent, connection_after, ConnectionMay, is_dead, is_open, is_unopened}
 use Rattle.amqp_endpoint.specs.Connections.{is_closing, is_end, slot_at, connection_ready}
+use Rattle.amqp_endpoint.specs.Histories as of_connection
 use Rattle.amqp_endpoint.specs.Histories.{phase_of, state_of, Sound}
 use Rattle.amqp_endpoint.specs.Lines.{line_of, event_on, told_on}
 use Rattle.amqp_endpoint.specs.Replies.{joined, reply_on}
@@ -38,7 +39,7 @@ use Rattle.amqp_endpoint.specs.Runs.{handed, link_handed, session_answer, accept
 use Rattle.amqp_endpoint.specs.Runs.{Run, IsStart, Happened, Acted, Called, Closed, Beat, Over, units_of, events, written}
 use Rattle.amqp_endpoint.specs.Steps.{EndpointState, IsTaken, IsKept, IsActed, Acts, Comes, FeedDone, may_act, told_outcome, acted_after}
 use Rattle.amqp_endpoint.specs.Traces.{IsInRange, AreInRange, taken_by, moved_by, Told, Done, Ends, event_in, told_by, all_taken, heard, has_finished, event_told, tellings, IsTraced}
-use Rattle.amqp_endpoint.proofs.Steps.{ConnectionBegins, ConnectionGoesOn}
+use Rattle.amqp_endpoint.proofs.Steps.{ConnectionBegins, ConnectionGoesOn, all_sound}
 
 -- what is owed of units and calls
 abbrev pub UnitsAccepted : Type 0
@@ -75,7 +76,8 @@ either_of : (a b : Bool) → b ≡ true → (a || b) ≡ true
 either_of true b e = refl
 either_of false b e = e
 
-ended_in : (config : Configured) (h : List Happened) → has_finished h ≡ true → list_any is_end (events config h) ≡ true
+-- behind the end of the input the connection has ended
+pub ended_in : (config : Configured) (h : List Happened) → has_finished h ≡ true → list_any is_end (events config h) ≡ true
 ended_in config [] o = absurd (grind (arith, o))
 ended_in config (Acted u ∷ h) o = either_of (is_end (event_on (state_of config (events config h)) (line_of (state_of config (events config h)) u))) (list_any is_end (events config h))
     (ended_in config h o)
@@ -114,6 +116,7 @@ stays config took moved after told h old new x u o c =
     let t = x.traced in
     record {
       traced = record {
+        accepted = t.accepted;
         state = c ∙ t.state;
         sound = t.sound;
         rest = t.rest;
@@ -137,13 +140,14 @@ more_written : (all moved before : List ℕ) (bytes added after : List ℕ) → 
 more_written all moved before bytes added after a b c =
     ap (λ (w : List ℕ). w ++ bytes) a ∙ append_assoc moved before bytes ∙ ap (λ (w : List ℕ). moved ++ (before ++ w)) b ∙ ap (λ (w : List ℕ). moved ++ w) (sym c)
 
-module _ (goes_on : ConnectionGoesOn) (config : Configured) (narrow : config.window < 2 ^ 31) where
-  next_state : (h : List ConnectionEvent) (old new : ConnectionState) (f : ConnectionState → ConnectionEvent) → old ≡ state_of config h → Sound config h →
-      ConnectionMay (state_of config h) (f (state_of config h)) →
-      new ≡ connection_after old (f old) → (new ≡ state_of config (f (state_of config h) ∷ h)) × Sound config (f (state_of config h) ∷ h)
-  next_state h old new f e sound may n =
+module _ (begins : ConnectionBegins) (goes_on : ConnectionGoesOn) (config : Configured) (narrow : config.window < 2 ^ 31) where
+  next_state : (h : List ConnectionEvent) (old new : ConnectionState) (f : ConnectionState → ConnectionEvent) → old ≡ state_of config h → Sound config h → of_connection.Accepted config h →
+      ConnectionMay (state_of config h) (f (state_of config h)) → new ≡ connection_after old (f old) →
+      (new ≡ state_of config (f (state_of config h) ∷ h)) × Sound config (f (state_of config h) ∷ h) × of_connection.Accepted config (f (state_of config h) ∷ h)
+  next_state h old new f e sound all may n =
       let law = goes_on config h (f (state_of config h)) narrow sound may in
-      (n ∙ ap (λ (s : ConnectionState). connection_after s (f s)) e ∙ law.0, law.1)
+      let so_far = subst (λ (s : ConnectionState). ConnectionMay s (f (state_of config h))) (sym (all_sound begins goes_on config h narrow all).0) may in
+      (n ∙ ap (λ (s : ConnectionState). connection_after s (f s)) e ∙ law.0, law.1, (all, so_far))
 
   called : CallsAccepted → (took moved : List ℕ) (told : List Told) (h : List Happened) (old new : EndpointState) (channel : ℕ) (c : session.Call) → IsAt config took moved told h old →
       IsCallInRange c →
@@ -154,9 +158,10 @@ module _ (goes_on : ConnectionGoesOn) (config : Configured) (narrow : config.win
       let past = events config h in
       let answered = λ (s : ConnectionState). Done (InSession channel c) (accepted_answer (slot_at s channel) c) ∷ [] in
       let may = accepted config past old.unsent channel c t.sound range (subst (λ (s : ConnectionState). call_fault s old.unsent channel c ≡ None) t.state none) in
-      let next = next_state past old.connection new.connection (λ s. call_event s channel c) t.state t.sound may w.connection in
+      let next = next_state past old.connection new.connection (λ s. call_event s channel c) t.state t.sound t.accepted may w.connection in
       record {
         traced = record {
+          accepted = next.2;
           state = next.0;
           sound = next.1;
           rest = t.rest;
@@ -178,10 +183,11 @@ module _ (goes_on : ConnectionGoesOn) (config : Configured) (narrow : config.win
   closed took moved told h old new x wide w =
       let t = x.traced in
       let answered = λ (s : ConnectionState). Done Close (Dropped (connection_ready s)) ∷ [] in
-      let next = next_state (events config h) old.connection new.connection (λ s. event.CloseAsked) t.state t.sound
+      let next = next_state (events config h) old.connection new.connection (λ s. event.CloseAsked) t.state t.sound t.accepted
       (subst (λ (s : ConnectionState). is_open s.phase ≡ true) t.state wide, tt, tt) w.connection in
       record {
         traced = record {
+          accepted = next.2;
           state = next.0;
           sound = next.1;
           rest = t.rest;
@@ -201,9 +207,10 @@ module _ (goes_on : ConnectionGoesOn) (config : Configured) (narrow : config.win
       IsAt config took moved (told ++ Ends ∷ []) (Over ∷ h) new
   finished took moved told h old new x f =
       let t = x.traced in
-      let next = next_state (events config h) old.connection new.connection (λ s. event.Finished) t.state t.sound (tt, tt, tt) f.connection in
+      let next = next_state (events config h) old.connection new.connection (λ s. event.Finished) t.state t.sound t.accepted (tt, tt, tt) f.connection in
       record {
         traced = record {
+          accepted = next.2;
           state = next.0;
           sound = next.1;
           rest = t.rest;
@@ -225,6 +232,7 @@ beat config took moved told h old new x b =
     let t = x.traced in
     record {
       traced = record {
+        accepted = t.accepted;
         state = b.connection ∙ t.state;
         sound = t.sound;
         rest = t.rest;
@@ -323,6 +331,7 @@ grows config took moved told h old between piece used x live bytes g =
     let first = take used piece in
     record {
       traced = record {
+        accepted = t.accepted;
         state = t.state;
         sound = t.sound;
         rest = t.rest ++ first;
@@ -346,7 +355,7 @@ told_in s None = silent (is_dead s.phase)
     silent true = refl
     silent false = refl
 
-module _ (goes_on : ConnectionGoesOn) (accepted : UnitsAccepted) (config : Configured) (narrow : config.window < 2 ^ 31) where
+module _ (begins : ConnectionBegins) (goes_on : ConnectionGoesOn) (accepted : UnitsAccepted) (config : Configured) (narrow : config.window < 2 ^ 31) where
   -- the unit that waits is acted upon
   acted : (took moved : List ℕ) (told : List Told) (h : List Happened) (old new : EndpointState) (u : StreamUnit) (answer : Outcome) → IsAt config took moved told h old →
       is_dead old.connection.phase ≡ false → Waits old.input u → IsActed old new u answer → IsAt config took moved (told ++ event_in answer) (Acted u ∷ h) new
@@ -356,12 +365,13 @@ module _ (goes_on : ConnectionGoesOn) (accepted : UnitsAccepted) (config : Confi
       let live = not_over config took moved told h old x alive in
       let bytes = subst (λ (v : List ℕ). AreBytes v) w.whole x.each in
       let may = accepted config past u t.sound (subst (λ (c : ConnectionState). is_dead c.phase ≡ false) t.state alive) bytes in
-      let next = next_state goes_on config narrow past old.connection new.connection (λ s. event_on s (line_of s u)) t.state t.sound may a.connection in
+      let next = next_state begins goes_on config narrow past old.connection new.connection (λ s. event_on s (line_of s u)) t.state t.sound t.accepted may a.connection in
       let rest : t.rest ≡ bytes_of u = sym (t.buffer ∙ here (has_finished h) t.rest live) ∙ w.whole in
       let is : IsUnit config.max_frame (due_behind due.Header (units_of h)) u =
       subst (λ (m : ℕ). IsUnit m (due_behind due.Header (units_of h)) u) t.limit (subst (λ (d : Stage). IsUnit old.input.limit d u) (t.stage live) w.is) in
       record {
         traced = record {
+          accepted = next.2;
           state = next.0;
           sound = next.1;
           rest = [];
@@ -500,6 +510,7 @@ pub record Follows (config : Configured) (took moved : List ℕ) (told : List To
   pub traced : IsTraced config (took ++ all_taken asked answers) (moved ++ flat_map moved_by answers) (told ++ heard asked answers) history last
   pub pasts : ℕ → List Happened
   pub first : pasts 0 ≡ h
+  pub end : pasts (length asked) ≡ history
   pub each : (n : ℕ) → Moment config took moved told s asked answers last history (pasts n) n
   pub grows : (n : ℕ) → (added : List Happened) × (length added ≤ 1) × (pasts (suc n) ≡ added ++ pasts n)
 
@@ -512,6 +523,7 @@ no_calls config took moved told h s last x e = record {
   traced = subst (λ (v : EndpointState). IsTraced config (took ++ []) (moved ++ []) (told ++ []) h v) (sym e) (same_at config took moved told h s x).traced;
   pasts = λ n. h;
   first = refl;
+  end = refl;
   each = still;
   grows = λ n. ([], omega arith, refl);
 }
@@ -548,6 +560,7 @@ one_call config took moved told h s next c a asked answers last x d one more r =
   traced = joined_call config took moved told more.history last c a asked answers more.traced;
   pasts = pasts_from h more.pasts;
   first = refl;
+  end = more.end;
   each = moments;
   grows = steps;
 }
@@ -579,7 +592,7 @@ one_call config took moved told h s next c a asked answers last x d one more r =
     steps zero = (one.later, one.few, more.first ∙ one.grown)
     steps (suc n) = more.grows n
 
-module _ (goes_on : ConnectionGoesOn) (units : UnitsAccepted) (calls : CallsAccepted) (config : Configured) (narrow : config.window < 2 ^ 31) (least : 8 ≤ config.max_frame) where
+module _ (begins : ConnectionBegins) (goes_on : ConnectionGoesOn) (units : UnitsAccepted) (calls : CallsAccepted) (config : Configured) (narrow : config.window < 2 ^ 31) (least : 8 ≤ config.max_frame) where
   in_session : (took moved : List ℕ) (told : List Told) (h : List Happened) (old new : EndpointState) (channel : ℕ) (c : session.Call) (a : Answer) → IsAt config took moved told h old →
       IsCallInRange c →
       (call_fault old.connection old.unsent channel c ≡ None) × IsWritten old new (call_event old.connection channel c) (joined (call_spoken old.connection channel c))
@@ -588,7 +601,7 @@ module _ (goes_on : ConnectionGoesOn) (units : UnitsAccepted) (calls : CallsAcce
       let answer = accepted_answer (slot_at old.connection channel) c in
       subst (λ (v : Answer). Leads config (took ++ []) (moved ++ moved_by v) (told ++ Done (InSession channel c) v ∷ []) h new) (sym d.2)
       (tells_leads config took moved (told ++ Done (InSession channel c) answer ∷ []) h (Called channel c) new answer (answer_still (slot_at old.connection channel) c)
-      (called goes_on config narrow calls took moved told h old new channel c x range d.0 d.1))
+      (called begins goes_on config narrow calls took moved told h old new channel c x range d.0 d.1))
 
   closes : (took moved : List ℕ) (told : List Told) (h : List Happened) (old new : EndpointState) (a : Answer) → IsAt config took moved told h old →
       (open_call_fault old.connection old.unsent ≡ None) × IsWritten old new event.CloseAsked (joined close_call_spoken) × (a ≡ Dropped (connection_ready old.connection)) →
@@ -597,7 +610,7 @@ module _ (goes_on : ConnectionGoesOn) (units : UnitsAccepted) (calls : CallsAcce
       let answer = Dropped (connection_ready old.connection) in
       subst (λ (v : Answer). Leads config (took ++ []) (moved ++ moved_by v) (told ++ Done Close v ∷ []) h new) (sym d.2)
       (tells_leads config took moved (told ++ Done Close answer ∷ []) h Closed new answer refl
-      (closed goes_on config narrow took moved told h old new x (open_where old.connection.phase (full_fault old.unsent) d.0) d.1))
+      (closed begins goes_on config narrow took moved told h old new x (open_where old.connection.phase (full_fault old.unsent) d.0) d.1))
 
   beats : (took moved : List ℕ) (told : List Told) (h : List Happened) (old new : EndpointState) (a : Answer) → IsAt config took moved told h old →
       (open_call_fault old.connection old.unsent ≡ None) × IsBeat old new × (a ≡ Accepted) → Leads config (took ++ []) (moved ++ moved_by a) (told ++ Done Heartbeat a ∷ []) h new
@@ -627,7 +640,7 @@ module _ (goes_on : ConnectionGoesOn) (units : UnitsAccepted) (calls : CallsAcce
       Leads config (took ++ taken_by call a) (moved ++ moved_by a) (told ++ told_by call a) h new
   does took moved told h old new (Feed piece) (Fed used o) x range d =
       subst (λ (v : List ℕ). Leads config (took ++ take used piece) v (told ++ event_in o) h new) (sym (append-nil moved))
-      (feeds goes_on units config narrow took moved told h (is_dead old.connection.phase) old new piece used o least x refl range d)
+      (feeds begins goes_on units config narrow took moved told h (is_dead old.connection.phase) old new piece used o least x refl range d)
   does took moved told h old new (InSession channel c) (Refused f) x range d = kept_leads took moved told h old new x d.1
   does took moved told h old new (InSession channel c) (Fed n o) x range d = in_session took moved told h old new channel c (Fed n o) x range d
   does took moved told h old new (InSession channel c) Accepted x range d = in_session took moved told h old new channel c Accepted x range d
@@ -655,7 +668,7 @@ module _ (goes_on : ConnectionGoesOn) (units : UnitsAccepted) (calls : CallsAcce
   does took moved told h old new (Output room) (MovedOut bytes) x range d = outputs took moved told h old new room bytes x d
   does took moved told h old new Held (Holds n) x range d = kept_leads took moved told h old new x d.0
   does took moved told h old new Finish (Ended e) x range d =
-      tells_leads config took moved (told ++ Ends ∷ []) h Over new (Ended e) refl (finished goes_on config narrow took moved told h old new x d.0)
+      tells_leads config took moved (told ++ Ends ∷ []) h Over new (Ended e) refl (finished begins goes_on config narrow took moved told h old new x d.0)
   does took moved told h old new call a x range d = absurd d
 
   -- all calls, one after another
@@ -673,6 +686,7 @@ module _ (goes_on : ConnectionGoesOn) (units : UnitsAccepted) (calls : CallsAcce
 starts : ConnectionBegins → (config : Configured) (s : EndpointState) → IsStart config s → IsAt config [] [] [] [] s
 starts begins config s start = record {
   traced = record {
+    accepted = tt;
     state = start.connection ∙ (begins config).0;
     sound = (begins config).1;
     rest = [];
@@ -693,4 +707,4 @@ pub traces : ConnectionBegins → ConnectionGoesOn → UnitsAccepted → CallsAc
     IsConfigured config.container_id config.max_frame config.window → AreInRange calls → IsStart config start → Run start calls answers last →
     Follows config [] [] [] [] start calls answers last
 traces begins goes_on units accepted config calls answers start last within range new run =
-    all_calls goes_on units accepted config within.most_window (omega (arith, within.some_frame)) [] [] [] [] start calls answers last (starts begins config start new) range run
+    all_calls begins goes_on units accepted config within.most_window (omega (arith, within.some_frame)) [] [] [] [] start calls answers last (starts begins config start new) range run

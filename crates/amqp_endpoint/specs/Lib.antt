@@ -17,5 +17,6 @@ pub mod Takings
 pub mod Windows
 pub mod Credits
 pub mod Traces
+pub mod Uses
 pub mod Lending
 pub mod ConnectionLending

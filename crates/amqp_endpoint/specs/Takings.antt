@@ -1,5 +1,5 @@
 -- What was handed up over the history of a connection, and of which link: each attach at a handle of the sessions on a channel begins the next life there (AMQP 1.0, part 2, 2.6.2 and 2.6.14).
-use Rattle.std.specs.Prelude.{◌≡◌, ℕ, suc, ◌+◌, ◌%◌, ◌^◌, ◌≤◌, Bool, false, not, ◌&&◌, nat_eq, if◌then◌else◌, List, [], ◌∷◌, length, take, drop, map, filter, Option, None, option_map}
+use Rattle.std.specs.Prelude.{◌≡◌, ℕ, suc, ◌+◌, ◌%◌, ◌^◌, ◌≤◌, Bool, true, false, not, ◌&&◌, nat_eq, if◌then◌else◌, List, [], ◌∷◌, length, take, drop, map, filter, Option, None, option_map}
 use Rattle.amqp_link.specs.Links.{LinkEvent, Delivery, open_count}
 use Rattle.amqp_link.specs.Histories as link
 use Rattle.amqp_link.specs.Histories.{followed_by, handed_up_by, wholes, Content, content, shown}
@@ -72,9 +72,21 @@ part_in handle Free = Free
 part_in handle (Live l) = session.part handle l.1
 part_in handle Waits = Free
 
+-- what lives now, if it is sought, else what lived before
+abbrev pub lived_or : {T : Type 0} → Bool → Slot T → Slot T → Slot T
+lived_or true (Live x) before = Live x
+lived_or true Free before = before
+lived_or true Waits before = before
+lived_or false now before = before
+
 -- The part of the history that the link now at a handle of the session now on a channel has: what it attached with and its events, newest first.
 abbrev pub link_part : ℕ → ℕ → List ConnectionEvent → Slot (Life Attached LinkEvent)
 link_part channel handle h = part_in handle (part channel h)
+
+-- The same of the link of this life, when it last lived.
+abbrev pub last_part : ℕ → ℕ → ℕ → List ConnectionEvent → Slot (Life Attached LinkEvent)
+last_part channel handle life [] = Free
+last_part channel handle life (e ∷ h) = lived_or (nat_eq (lives channel handle (e ∷ h)) life) (link_part channel handle (e ∷ h)) (last_part channel handle life h)
 
 abbrev pub link_in : ℕ → Slot SessionState → Slot LiveLink
 link_in handle Free = Free
@@ -88,6 +100,16 @@ link_at s channel handle = link_in handle (slot_at s channel)
 -- what of a message that was handed up never changes once its delivery is whole
 abbrev pub content_of : Handed → Content
 content_of d = record { delivery_id = d.delivery_id; delivery_tag = d.delivery_tag; message_format = d.message_format; message = d.message }
+
+-- the events of a part
+abbrev pub past_in : Slot (Life Attached LinkEvent) → List LinkEvent
+past_in Free = []
+past_in (Live x) = x.1
+past_in Waits = []
+
+-- Messages are the first of the whole deliveries of a part, in order, each once, none skipped.
+abbrev pub AreFirst : Slot (Life Attached LinkEvent) → List Handed → Type 0
+AreFirst part taken = map content_of taken ≡ map content (take (length taken) (wholes (past_in part)))
 
 -- A link that lives, which has this part of the history, and to which so much was granted and of which these messages were taken in its life: it is what that part gives.
 pub record HasItsPart (config : Configured) (part : Slot (Life Attached LinkEvent)) (granted : ℕ) (taken : List Handed) (l : LiveLink) : Type 0 where

@@ -19,12 +19,13 @@ use Rattle.amqp_endpoint.specs.Configs.{Configured}
 use Rattle.amqp_endpoint.specs.Credits.{granted_since}
 use Rattle.amqp_endpoint.specs.Connections.{ConnectionState, slot_at, connection_ready}
 use Rattle.amqp_endpoint.specs.Held.{HoldsWithin}
+use Rattle.amqp_endpoint.specs.Histories as of_connection
 use Rattle.amqp_endpoint.specs.Histories.{part, state_of, Sound}
 use Rattle.amqp_endpoint.specs.Lines.{line_of, told_on}
 use Rattle.amqp_endpoint.specs.Runs.{Call, Feed, InSession, Close, Heartbeat, Finish, Handed, Answer, Fed, Accepted, Dropped, HandedUp, Refused, MovedOut, accepted_answer}
 use Rattle.amqp_endpoint.specs.Runs.{Happened, Acted, Called, Closed, Beat, Over, events, written, units_of, Run, IsStart}
 use Rattle.amqp_endpoint.specs.Steps.{EndpointState}
-use Rattle.amqp_endpoint.specs.Takings.{Taking, lives, takings, taken_in, link_part, link_at, HasItsPart}
+use Rattle.amqp_endpoint.specs.Takings.{Taking, lives, takings, taken_in, link_part, last_part, link_at, AreFirst, HasItsPart}
 use Rattle.amqp_endpoint.specs.Windows.{HasItsWindow}
 
 -- What is asked of calls. -------------------------------------------------------------------------------------------
@@ -128,6 +129,8 @@ placed t = (t.channel, t.handle, t.handed)
 
 -- An endpoint after some calls, of which these bytes were taken, these moved out, and this told, with its history, newest first.
 pub record IsTraced (config : Configured) (took moved : List ℕ) (told : List Told) (h : List Happened) (s : EndpointState) : Type 0 where
+  -- each event of the history was one that could come
+  pub accepted : of_connection.Accepted config (events config h)
   -- every field of the connection is what selections over the whole history give
   pub state : s.connection ≡ state_of config (events config h)
   pub sound : Sound config (events config h)
@@ -160,6 +163,8 @@ pub record HasHistory (config : Configured) (calls : List Call) (answers : List 
   pub links : (channel handle : ℕ) (l : LiveLink) → link_at last.connection channel handle ≡ Live l →
       HasItsPart config (link_part channel handle (events config history)) (granted_since channel handle (events config history))
       (taken_in channel handle (lives channel handle (events config history)) (events config history)) l
+  -- of each life of a link, ended or not, the messages that were taken are the first of its whole deliveries, in order, each once, none skipped
+  pub each_life : (channel handle life : ℕ) → AreFirst (last_part channel handle life (events config history)) (taken_in channel handle life (events config history))
 
 -- So many of the calls are made: where the endpoint stands then, the run goes on to its end, and there is a history, behind what happened later in the whole one.
 pub record HasMoment (config : Configured) (start : EndpointState) (calls : List Call) (answers : List Answer) (last : EndpointState) (whole : List Happened) (n : ℕ) : Type 0 where
@@ -170,7 +175,8 @@ pub record HasMoment (config : Configured) (start : EndpointState) (calls : List
   pub later : List Happened
   pub grown : whole ≡ later ++ past.history
 
--- A whole run of a new endpoint: it has a history at its end, the history after each of its calls is where that one had come to, and each call adds one thing to it at most.
+-- A whole run of a new endpoint: it has a history at its end, the history after each of its calls is where that one had come to, and each call adds one thing to it at most. Law
+-- `runs_have_one_history`: it has no other.
 pub record IsWholeRun (config : Configured) (calls : List Call) (answers : List Answer) (last : EndpointState) : Type 0 where
   pub start : EndpointState
   pub new : IsStart config start
@@ -179,3 +185,6 @@ pub record IsWholeRun (config : Configured) (calls : List Call) (answers : List 
   pub each : (n : ℕ) → n ≤ length calls → HasMoment config start calls answers last past.history n
   pub grows : (n : ℕ) (before : n ≤ length calls) (after : suc n ≤ length calls) →
       (added : List Happened) × (length added ≤ 1) × ((each (suc n) after).past.history ≡ added ++ (each n before).past.history)
+  -- at first nothing has happened, and behind the last call all of it
+  pub empty : (none : 0 ≤ length calls) → (each 0 none).past.history ≡ []
+  pub whole : (all : length calls ≤ length calls) → (each (length calls) all).past.history ≡ past.history

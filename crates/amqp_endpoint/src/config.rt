@@ -64,7 +64,7 @@ impl<A: Allocator + Copy> Config<A> {
     }
 
     /// A law: its settings are within their ranges.
-    pub(crate) fn is_within(&self)
+    pub fn is_within(&self)
         ensures { IsConfigured self.now.container_id self.now.max_frame self.now.window }
     {
         let _ = &self.container_id;

@@ -129,6 +129,7 @@ impl<A: Allocator + Copy> Endpoint<A> {
         ensures count { result ≡ min (length out.old) (length self.old.unsent) }
         ensures read { out.new ≡ take result self.old.unsent ++ drop result out.old }
         ensures new { self.new ≡ record self.old { unsent = drop result self.old.unsent } }
+        ensures moved { IsMoved self.old self.new (length out.old) (take (length out.old) self.old.unsent) }
     {
         self.out.read_into(out)
     }

@@ -1,34 +1,38 @@
 //! What holds of a connection and its history, whoever keeps it. The calls do nothing: their contracts are the laws.
-ghost use Rattle.std.specs.Prelude.{◌≡◌, ℕ, ◌+◌, ◌*◌, ◌^◌, ◌<◌, ◌≤◌, ◌↔◌, Bool, false, List, ◌∷◌, ◌++◌, [], length, map, sum_by, slice_index, Option, Some, None};
+ghost use Rattle.std.specs.Prelude.{◌≡◌, ℕ, ◌+◌, ◌*◌, ◌^◌, ◌<◌, ◌≤◌, ◌↔◌, Bool, true, false, List, ◌∷◌, ◌++◌, [], length, map, sum_by, slice_index, Option, Some, None};
 ghost use Rattle.amqp_frame.specs.Units.{StreamUnit, bytes_of};
-ghost use Rattle.amqp_link.specs.Histories.{handed_up};
-ghost use Rattle.amqp_link.specs.Links.{LinkEvent};
+ghost use Rattle.amqp_link.specs.Histories.{grants, handed_up};
+ghost use Rattle.amqp_link.specs.Links.{LinkEvent, open_count};
+ghost use Rattle.amqp_perform.specs.declared.outcome.Outcome.{Outcome as Fate};
 ghost use Rattle.amqp_perform.specs.declared.performative.Performative.{Performative};
 ghost use Rattle.amqp_perform.specs.Performatives.{type_of, performative_cells};
 ghost use Rattle.amqp_session.specs.declared.slot.Slot.TheVariants.{Live};
-ghost use Rattle.amqp_session.specs.Calls.{Call, Grant, Take};
+ghost use Rattle.amqp_session.specs.Calls.{Call, Grant, Settle, Take, Widen};
 ghost use Rattle.amqp_session.specs.Laws.{IsCallInRange};
-ghost use Rattle.amqp_session.specs.Sessions.{Attached, LiveLink};
+ghost use Rattle.amqp_session.specs.Sessions.{Attached, LiveLink, SessionState};
 ghost use Rattle.amqp_endpoint.specs.declared.fault.CallFault.TheVariants as refused;
-ghost use Rattle.amqp_endpoint.specs.Calls.{reply_room, call_fault, call_event, call_spoken};
+ghost use Rattle.amqp_endpoint.specs.Calls.{reply_room, call_fault, call_event, call_spoken, has_room};
 ghost use Rattle.amqp_endpoint.specs.Configs.{Configured, IsConfigured};
 ghost use Rattle.amqp_endpoint.specs.Connections as connection;
-ghost use Rattle.amqp_endpoint.specs.Connections.{ConnectionState, ConnectionEvent, connection_after, connection_bytes, ConnectionMay, is_dead};
+ghost use Rattle.amqp_endpoint.specs.Connections.{ConnectionState, ConnectionEvent, connection_after, connection_bytes, ConnectionMay, is_dead, is_open, slot_at};
 ghost use Rattle.amqp_endpoint.specs.Credits.{credit_on, granted_to};
 ghost use Rattle.amqp_endpoint.specs.Fields.{read_in, read_of};
-ghost use Rattle.amqp_endpoint.specs.Held.{session_count, link_count, link_most, session_parts, session_part_bytes};
+ghost use Rattle.amqp_endpoint.specs.Held.{held, session_count, link_count, link_most, session_parts, session_part_bytes};
 ghost use Rattle.amqp_endpoint.specs.Lengths.{said_most};
 ghost use Rattle.amqp_perform.specs.Said.{Said, said_frame};
 ghost use Rattle.amqp_endpoint.specs.Histories.{phase_of, state_of, Sound, after_all, Accepted};
 ghost use Rattle.amqp_endpoint.specs.Lines.{line_of, event_on, fault_on, told_on};
 ghost use Rattle.amqp_endpoint.specs.Replies.{joined, reply_on};
 ghost use Rattle.amqp_endpoint.specs.Runs as runs;
-ghost use Rattle.amqp_endpoint.specs.Runs.{Answer, Run, IsStart, handed_of};
+ghost use Rattle.amqp_endpoint.specs.Runs.{Answer, Does, Run, IsStart, handed_of};
 ghost use Rattle.std.specs.List.{flat_map};
 ghost use Rattle.amqp_endpoint.specs.declared.event.End.{End};
-ghost use Rattle.amqp_endpoint.specs.Steps.{EndpointState};
-ghost use Rattle.amqp_endpoint.specs.Takings.{lives, taken_in, link_at, link_part, HasNoneReady};
-ghost use Rattle.amqp_endpoint.specs.Traces.{AreInRange, IsWholeRun, failure_in, heard, message_in};
+ghost use Rattle.amqp_endpoint.specs.declared.event.Event.TheVariants as told;
+ghost use Rattle.amqp_endpoint.specs.declared.event.Outcome.TheVariants as outcome;
+ghost use Rattle.amqp_endpoint.specs.Steps.{EndpointState, IsFed};
+ghost use Rattle.amqp_endpoint.specs.Takings.{lives, taken_in, link_at, link_part, last_part, past_in, HasNoneReady};
+ghost use Rattle.amqp_endpoint.specs.Traces.{IsInRange, AreInRange, IsWholeRun, failure_in, told_by};
+ghost use Rattle.amqp_endpoint.specs.Uses.{granted_over, messages_over, most_held, IsUsed};
 
 use amqp_link::laws::open_deliveries_are_selected;
 use amqp_perform::laws as performatives;
@@ -120,8 +124,9 @@ pub fn failures_are_the_faults()
 /// Every list of calls of a new endpoint has a history: its connection is what the selections over the whole history
 /// give, the bytes that the feeds took are its units and the rest, all that it wrote was moved out or stands in the
 /// output, and what was told is the events of its units and the answers to its calls [2.2 to 2.7]. The bytes that it holds
-/// are counted and bounded, and of each link that lives the messages taken are the first of its whole deliveries. It is
-/// one history that grows with the calls: the same holds after each of them, of what had happened by then.
+/// are counted and bounded, and of each life of a link, ended or not, the messages taken are the first of its whole
+/// deliveries. It is one history that grows with the calls: the same holds after each of them, of what had happened by
+/// then.
 pub fn runs_have_a_history()
     ensures { (config : Configured) (calls : List runs.Call) (answers : List Answer) (start last : EndpointState) → IsConfigured config.container_id config.max_frame config.window → AreInRange calls → IsStart config start → Run start calls answers last → IsWholeRun config calls answers last }
 {
@@ -134,6 +139,14 @@ pub fn runs_have_a_history()
     held_is_counted();
     held_is_bounded();
     open_deliveries_are_selected();
+}
+
+/// Two histories of one run are the same: the calls and their answers say all that happened.
+pub fn runs_have_one_history()
+    ensures { (config : Configured) (calls : List runs.Call) (answers : List Answer) (last other : EndpointState) → IsConfigured config.container_id config.max_frame config.window → (a : IsWholeRun config calls answers last) → (b : IsWholeRun config calls answers other) → a.past.history ≡ b.past.history }
+{
+    connection_begins();
+    connection_goes_on();
 }
 
 /// What was handed up in the life of a link, over the history of a whole connection, is what the part that this link
@@ -157,6 +170,42 @@ pub fn credit_rises_by_grants()
     ensures most { (config : Configured) (h : List runs.Happened) (x : runs.Happened) (channel handle : ℕ) → credit_on (state_of config (runs.events config (x ∷ h))) channel handle ≤ credit_on (state_of config (runs.events config h)) channel handle + granted_to channel handle x }
 {
     session::credit_rises_by_grants();
+}
+
+/// What an application knows of its endpoint without a list of its calls. A new endpoint granted nothing and gave no
+/// message; each call adds the credit that it granted and the message that it took, if it was accepted [2.6.7, 2.6.14].
+pub fn uses_are_counted()
+    ensures begins { (config : Configured) (s : EndpointState) (channel handle : ℕ) → IsStart config s → IsUsed config channel handle 0 0 s }
+    ensures goes_on { (config : Configured) (channel handle granted messages : ℕ) (old new : EndpointState) (c : runs.Call) (a : Answer) → IsUsed config channel handle granted messages old → IsInRange c → Does old new c a → IsUsed config channel handle (granted + granted_over channel handle (told_by c a)) (messages + messages_over channel handle (told_by c a)) new }
+{}
+
+/// After any calls of a new endpoint it is of the configuration that it began with, and holds no more than any endpoint of
+/// that. No more messages were taken of a link than credit was granted to it: over all links that followed one another at
+/// a handle, and in the life of each of them [2.6.7].
+pub fn uses_are_bounded()
+    ensures config { (config : Configured) (channel handle granted messages : ℕ) (s : EndpointState) → IsConfigured config.container_id config.max_frame config.window → IsUsed config channel handle granted messages s → s.connection.config ≡ config }
+    ensures held { (config : Configured) (channel handle granted messages : ℕ) (s : EndpointState) → IsConfigured config.container_id config.max_frame config.window → IsUsed config channel handle granted messages s → held s ≤ most_held config }
+    ensures messages { (config : Configured) (channel handle granted messages : ℕ) (s : EndpointState) → IsConfigured config.container_id config.max_frame config.window → IsUsed config channel handle granted messages s → messages ≤ granted }
+    ensures life { (config : Configured) (h : List ConnectionEvent) (channel handle life : ℕ) → config.window < 2 ^ 31 → Accepted config h → length (taken_in channel handle life h) ≤ grants (past_in (last_part channel handle life h)) }
+{
+    connection_begins();
+    connection_goes_on();
+    runs_have_a_history();
+}
+
+/// What an application asks behind what it was told is accepted: a take directly behind `Ready`; what became of a delivery,
+/// directly behind its take, where its sender hasn't settled it; credit for a link that lives, within what it is allowed
+/// beside its credit and its open deliveries; places for a session that lives, below 2^31 in all. A call that writes needs
+/// room in the output [2.5.6, 2.6.7, 2.6.12, 2.6.14].
+pub fn what_follows_is_accepted()
+    ensures take { (old new : EndpointState) (piece : List ℕ) (used channel handle : ℕ) → 8 ≤ old.input.limit → IsFed old new piece used (outcome.Event (told.Ready channel handle)) → call_fault new.connection new.unsent channel (Take handle) ≡ None }
+    ensures settle { (config : Configured) (place at granted messages : ℕ) (old new : EndpointState) (channel handle : ℕ) (d : runs.Handed) (fate : Fate) → IsConfigured config.container_id config.max_frame config.window → IsUsed config place at granted messages old → Does old new (runs.InSession channel (Take handle)) (runs.HandedUp d) → d.settled ≡ false → has_room new.unsent ≡ true → call_fault new.connection new.unsent channel (Settle d.delivery_id fate) ≡ None }
+    ensures grant { (s : ConnectionState) (unsent : List ℕ) (channel handle n : ℕ) (l : LiveLink) → is_open s.phase ≡ true → link_at s channel handle ≡ Live l → has_room unsent ≡ true → l.link.credit + open_count l.link + n ≤ l.link.terms.bounds.allowed → call_fault s unsent channel (Grant handle n) ≡ None }
+    ensures widen { (s : ConnectionState) (unsent : List ℕ) (channel n : ℕ) (t : SessionState) → is_open s.phase ≡ true → slot_at s channel ≡ Live t → has_room unsent ≡ true → t.window + n < 2 ^ 31 → call_fault s unsent channel (Widen n) ≡ None }
+{
+    connection_begins();
+    connection_goes_on();
+    runs_have_a_history();
 }
 
 /// Each byte of a piece in hand is a byte.
