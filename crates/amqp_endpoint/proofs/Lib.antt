@@ -24,6 +24,7 @@ pub mod Failures
 pub mod Grants
 pub mod Uses
 pub mod Next
+pub mod Living
 pub mod Untold
-pub mod Settling
+pub mod Follows
 pub mod Lent

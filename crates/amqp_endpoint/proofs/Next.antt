@@ -326,19 +326,19 @@ told_is s (Some x) e is = grind (arith, is)
 
 -- a take directly behind Ready is accepted
 pub take_accepted : (old new : EndpointState) (piece : List ℕ) (used channel handle : ℕ) → 8 ≤ old.input.limit → IsFed old new piece used (outcome.Event (told.Ready channel handle)) →
-    call_fault new.connection new.unsent channel (Take handle) ≡ None
-take_accepted old new piece used channel handle least fed = by (is_dead old.connection.phase) refl fed
+    (unsent : List ℕ) → call_fault new.connection unsent channel (Take handle) ≡ None
+take_accepted old new piece used channel handle least fed unsent = by (is_dead old.connection.phase) refl fed
   where
     acts : (s : EndpointState) (u : StreamUnit) (may : Bool) → is_dead s.connection.phase ≡ false → Acts s new u may (outcome.Event (told.Ready channel handle)) →
-        call_fault new.connection new.unsent channel (Take handle) ≡ None
+        call_fault new.connection unsent channel (Take handle) ≡ None
     acts s u false alive a = absurd (grind (arith, a.1))
     acts s u true alive (inl a) =
-        ap (λ (c : ConnectionState). call_fault c new.unsent channel (Take handle)) a.connection
-        ∙ behind s.connection u channel handle alive (told_is (acted_after s.connection u) (told_on s.connection (line_of s.connection u)) (told.Ready channel handle) a.told) new.unsent
+        ap (λ (c : ConnectionState). call_fault c unsent channel (Take handle)) a.connection
+        ∙ behind s.connection u channel handle alive (told_is (acted_after s.connection u) (told_on s.connection (line_of s.connection u)) (told.Ready channel handle) a.told) unsent
     acts s u true alive (inr a) = absurd (grind (arith, a.1))
 
     by : (dead : Bool) → is_dead old.connection.phase ≡ dead → FeedDone dead old new piece used (outcome.Event (told.Ready channel handle)) →
-        call_fault new.connection new.unsent channel (Take handle) ≡ None
+        call_fault new.connection unsent channel (Take handle) ≡ None
     by true is f = absurd (grind (arith, f.2))
     by false alive f =
         elim (waits_or_not f.between (subst (λ (m : ℕ). 8 ≤ m) (sym f.taken.limit) least)) [

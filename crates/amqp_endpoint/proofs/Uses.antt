@@ -29,7 +29,7 @@ use Rattle.amqp_endpoint.specs.Runs.{Call, Answer, Does, Run, IsStart, Handed, h
 use Rattle.amqp_endpoint.specs.Steps.{EndpointState}
 use Rattle.amqp_endpoint.specs.Takings.{Taking, lives, attaches_on, handed_up_in, taking_on, takings, taken_in, link_part, last_part, lived_or, past_in}
 use Rattle.amqp_endpoint.specs.Traces.{IsInRange, AreInRange, told_by, heard, event_told, told_of, tellings, message_in, placed, IsWholeRun}
-use Rattle.amqp_endpoint.specs.Uses.{granted_told, is_from, granted_over, messages_over, most_held, IsUsed}
+use Rattle.amqp_endpoint.specs.Uses.{granted_told, is_from, granted_over, messages_over, held_by_any, IsUsed}
 use Rattle.amqp_endpoint.proofs.Credits.{unit_none, slot_most}
 use Rattle.amqp_endpoint.proofs.EachLife.{of_each_life}
 use Rattle.amqp_endpoint.proofs.Grants.{grants_of_life}
@@ -265,7 +265,7 @@ most_more : (config : Configured) (a b m n : ℕ) → a ≤ b → m ≤ n → he
 most_more config a b m n l k = omega (arith, mul-le-mul_right (link_most config) k, l)
 
 -- a whole run's endpoint holds no more than any of its configuration
-pub held_within : (config : Configured) (calls : List Call) (answers : List Answer) (last : EndpointState) → IsWholeRun config calls answers last → held last ≤ most_held config
+pub held_within : (config : Configured) (calls : List Call) (answers : List Answer) (last : EndpointState) → IsWholeRun config calls answers last → held last ≤ held_by_any config
 held_within config calls answers last r =
     let w = r.past.within in
     let sessions = session_count last.connection in
@@ -283,8 +283,10 @@ heard_more s (x ∷ calls) (y ∷ answers) mid c a r =
     ap (λ v. told_by x y ++ v) (heard_more r.0 calls answers mid c a r.2) ∙ sym (append_assoc (told_by x y) (heard calls answers) (told_by c a))
 
 -- a new endpoint was not used
-pub use_begins : (config : Configured) (s : EndpointState) (channel handle : ℕ) → IsStart config s → IsUsed config channel handle 0 0 s
-use_begins config s channel handle new = record {
+pub use_begins : (config : Configured) (s : EndpointState) (channel handle : ℕ) → IsConfigured config.container_id config.max_frame config.window → IsStart config s →
+    IsUsed config channel handle 0 0 s
+use_begins config s channel handle within new = record {
+  within = within;
   calls = [];
   answers = [];
   range = tt;
@@ -302,6 +304,7 @@ use_goes_on config channel handle granted taken old new c a u range does =
     let both = ap (filter (is_from channel handle)) (flat_map-append message_in told (told_by c a)) ∙ filter-append (is_from channel handle) (flat_map message_in told) (flat_map message_in (told_by c a)) in
     let count = ap length both ∙ length-append (filter (is_from channel handle) (flat_map message_in told)) (filter (is_from channel handle) (flat_map message_in (told_by c a))) in
     record {
+      within = u.within;
       calls = u.calls ++ c ∷ [];
       answers = u.answers ++ a ∷ [];
       range = ranges_more u.calls c u.range range;
@@ -317,19 +320,18 @@ abbrev pub RunsAreWhole : Type 0
 RunsAreWhole = (config : Configured) (calls : List Call) (answers : List Answer) (start last : EndpointState) → IsConfigured config.container_id config.max_frame config.window → AreInRange calls →
     IsStart config start → Run start calls answers last → IsWholeRun config calls answers last
 
-module _ (law : RunsAreWhole) (config : Configured) (channel handle granted taken : ℕ) (s : EndpointState) (within : IsConfigured config.container_id config.max_frame config.window)
-    (u : IsUsed config channel handle granted taken s) where
+module _ (law : RunsAreWhole) (config : Configured) (channel handle granted taken : ℕ) (s : EndpointState) (u : IsUsed config channel handle granted taken s) where
   pub whole_run : IsWholeRun config u.calls u.answers s
-  whole_run = law config u.calls u.answers u.replay.start s within u.range u.replay.new u.replay.run
+  whole_run = law config u.calls u.answers u.replay.start s u.within u.range u.replay.new u.replay.run
 
   -- it is of the configuration that it began with
   pub use_config : s.connection.config ≡ config
   use_config = ap (λ (c : ConnectionState). c.config) whole_run.past.traced.state
 
   -- it holds no more than any of that
-  pub use_held : held s ≤ most_held config
+  pub use_held : held s ≤ held_by_any config
   use_held = held_within config u.calls u.answers s whole_run
 
   -- no more messages were taken than were granted
   pub use_within : ConnectionBegins → ConnectionGoesOn → taken ≤ granted
-  use_within begins goes_on = omega (arith, u.credit, u.taken, run_within channel handle begins goes_on config within.most_window u.calls u.answers s whole_run)
+  use_within begins goes_on = omega (arith, u.credit, u.taken, run_within channel handle begins goes_on config u.within.most_window u.calls u.answers s whole_run)

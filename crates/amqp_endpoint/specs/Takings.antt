@@ -118,7 +118,7 @@ pub record HasItsPart (config : Configured) (part : Slot (Life Attached LinkEven
   pub stands : part ≡ Live (attached, past)
   pub is : l ≡ session.live_state attached past
   -- the messages that were taken are the first of its whole deliveries, in order, each once, none skipped
-  pub first : map content_of taken ≡ map content (take (length taken) (wholes past))
+  pub first : AreFirst (Live (attached, past)) taken
   -- each was settled or not as it stood when it was taken
   pub stood : taken ≡ map handed_of (link.given attached.terms past)
   -- those that are ready to be taken are the other whole ones

@@ -1,8 +1,10 @@
 -- What an application knows of its endpoint by the calls that it made, without a list of them: with which configuration it began, how much credit it granted a link, and how many messages it got of it
 -- (AMQP 1.0, part 2, sections 2.6.7 and 2.6.14).
-use Rattle.std.specs.Prelude.{◌≡◌, ℕ, suc, ◌*◌, Bool, ◌&&◌, nat_eq, if◌then◌else◌, List, length, filter, sum_by}
+use Rattle.std.specs.Prelude.{◌≡◌, ℕ, suc, ◌*◌, Bool, true, ◌&&◌, nat_eq, if◌then◌else◌, List, None, length, filter, sum_by}
 use Rattle.std.specs.List.{flat_map}
-use Rattle.amqp_endpoint.specs.Configs.{Configured}
+use Rattle.amqp_session.specs.Calls as session
+use Rattle.amqp_endpoint.specs.Calls.{call_fault, has_room, writes}
+use Rattle.amqp_endpoint.specs.Configs.{Configured, IsConfigured}
 use Rattle.amqp_endpoint.specs.Connections.{channels}
 use Rattle.amqp_endpoint.specs.Credits.{granted_by}
 use Rattle.amqp_endpoint.specs.Endpoints.{IsReplay}
@@ -20,22 +22,29 @@ granted_told channel handle t = 0
 abbrev pub is_from : ℕ → ℕ → ℕ × ℕ × Handed → Bool
 is_from channel handle x = nat_eq x.0 channel && nat_eq x.1 handle
 
--- the credit that what was told gives that link, and the messages of it, one after the other of the links that were there
+-- the credit that was granted there by what was told, over all links that followed one another at that handle
 abbrev pub granted_over : ℕ → ℕ → List Told → ℕ
 granted_over channel handle told = sum_by (granted_told channel handle) told
 
+-- and how many messages were taken there
 abbrev pub messages_over : ℕ → ℕ → List Told → ℕ
 messages_over channel handle told = length (filter (is_from channel handle) (flat_map message_in told))
 
 -- the most that any endpoint of a configuration holds: a session on each channel, and a link at each handle of it
-abbrev pub most_held : Configured → ℕ
-most_held config = held_most config (channels config) (channels config * suc config.handle_max)
+abbrev pub held_by_any : Configured → ℕ
+held_by_any config = held_most config (channels config) (channels config * suc config.handle_max)
 
--- An endpoint to which a new one of this configuration came by some calls. These granted so much to the link at a handle of the session on a channel, and took so many messages of it.
+-- An endpoint to which a new one of this configuration came by some calls. These granted so much to the links that followed one another at a handle of the sessions on a channel, and took so many
+-- messages of them.
 pub record IsUsed (config : Configured) (channel handle granted messages : ℕ) (s : EndpointState) : Type 0 where
+  pub within : IsConfigured config.container_id config.max_frame config.window
   pub calls : List Call
   pub answers : List Answer
   pub range : AreInRange calls
   pub replay : IsReplay config calls answers s
   pub credit : granted ≡ granted_over channel handle (heard calls answers)
   pub taken : messages ≡ messages_over channel handle (heard calls answers)
+
+-- a call for the session on a channel is accepted, whatever waits to be sent, if there is room where it writes
+abbrev pub IsAccepted : EndpointState → ℕ → session.Call → Type 0
+IsAccepted s channel c = (unsent : List ℕ) → (writes c ≡ true → has_room unsent ≡ true) → call_fault s.connection unsent channel c ≡ None

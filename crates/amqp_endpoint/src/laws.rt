@@ -11,10 +11,10 @@ ghost use Rattle.amqp_session.specs.Calls.{Call, Grant, Settle, Take, Widen};
 ghost use Rattle.amqp_session.specs.Laws.{IsCallInRange};
 ghost use Rattle.amqp_session.specs.Sessions.{Attached, LiveLink, SessionState};
 ghost use Rattle.amqp_endpoint.specs.declared.fault.CallFault.TheVariants as refused;
-ghost use Rattle.amqp_endpoint.specs.Calls.{reply_room, call_fault, call_event, call_spoken, has_room};
+ghost use Rattle.amqp_endpoint.specs.Calls.{reply_room, call_fault, call_event, call_spoken};
 ghost use Rattle.amqp_endpoint.specs.Configs.{Configured, IsConfigured};
 ghost use Rattle.amqp_endpoint.specs.Connections as connection;
-ghost use Rattle.amqp_endpoint.specs.Connections.{ConnectionState, ConnectionEvent, connection_after, connection_bytes, ConnectionMay, is_dead, is_open, slot_at};
+ghost use Rattle.amqp_endpoint.specs.Connections.{ConnectionState, ConnectionEvent, connection_after, connection_bytes, ConnectionMay, is_dead, slot_at};
 ghost use Rattle.amqp_endpoint.specs.Credits.{credit_on, granted_to};
 ghost use Rattle.amqp_endpoint.specs.Fields.{read_in, read_of};
 ghost use Rattle.amqp_endpoint.specs.Held.{held, session_count, link_count, link_most, session_parts, session_part_bytes};
@@ -32,7 +32,7 @@ ghost use Rattle.amqp_endpoint.specs.declared.event.Outcome.TheVariants as outco
 ghost use Rattle.amqp_endpoint.specs.Steps.{EndpointState, IsFed};
 ghost use Rattle.amqp_endpoint.specs.Takings.{lives, taken_in, link_at, link_part, last_part, past_in, HasNoneReady};
 ghost use Rattle.amqp_endpoint.specs.Traces.{IsInRange, AreInRange, IsWholeRun, failure_in, told_by};
-ghost use Rattle.amqp_endpoint.specs.Uses.{granted_over, messages_over, most_held, IsUsed};
+ghost use Rattle.amqp_endpoint.specs.Uses.{granted_over, messages_over, held_by_any, IsUsed, IsAccepted};
 
 use amqp_link::laws::open_deliveries_are_selected;
 use amqp_perform::laws as performatives;
@@ -151,11 +151,16 @@ pub fn runs_have_one_history()
 
 /// What was handed up in the life of a link, over the history of a whole connection, is what the part that this link
 /// has of the history hands up. Links follow one another at a handle: each attach there begins the next life [2.6.2]. In
-/// a life that has ended, or is to come, nothing more is handed up.
+/// a life that has ended, or is to come, nothing more is handed up. No more is in any life than credit was granted in it
+/// [2.6.7].
 pub fn each_life_has_its_own_messages()
     ensures stays { (config : Configured) (h : List ConnectionEvent) (e : ConnectionEvent) (channel handle life : ℕ) → ConnectionMay (state_of config h) e → ((l : LiveLink) → link_at (state_of config h) channel handle ≡ Live l → lives channel handle h ≡ life → ⊥) → taken_in channel handle life (e ∷ h) ≡ taken_in channel handle life h }
     ensures part { (channel handle : ℕ) (h : List ConnectionEvent) (a : Attached) (past : List LinkEvent) → link_part channel handle h ≡ Live (a, past) → taken_in channel handle (lives channel handle h) h ≡ map handed_of (handed_up past) }
-{}
+    ensures within { (config : Configured) (h : List ConnectionEvent) (channel handle life : ℕ) → config.window < 2 ^ 31 → Accepted config h → length (taken_in channel handle life h) ≤ grants (past_in (last_part channel handle life h)) }
+{
+    connection_begins();
+    connection_goes_on();
+}
 
 /// A take is refused with `NothingReady` exactly where its link lives and no delivery of it is ready: each whole one
 /// was taken [2.6.14].
@@ -175,18 +180,17 @@ pub fn credit_rises_by_grants()
 /// What an application knows of its endpoint without a list of its calls. A new endpoint granted nothing and gave no
 /// message; each call adds the credit that it granted and the message that it took, if it was accepted [2.6.7, 2.6.14].
 pub fn uses_are_counted()
-    ensures begins { (config : Configured) (s : EndpointState) (channel handle : ℕ) → IsStart config s → IsUsed config channel handle 0 0 s }
+    ensures begins { (config : Configured) (s : EndpointState) (channel handle : ℕ) → IsConfigured config.container_id config.max_frame config.window → IsStart config s → IsUsed config channel handle 0 0 s }
     ensures goes_on { (config : Configured) (channel handle granted messages : ℕ) (old new : EndpointState) (c : runs.Call) (a : Answer) → IsUsed config channel handle granted messages old → IsInRange c → Does old new c a → IsUsed config channel handle (granted + granted_over channel handle (told_by c a)) (messages + messages_over channel handle (told_by c a)) new }
 {}
 
 /// After any calls of a new endpoint it is of the configuration that it began with, and holds no more than any endpoint of
-/// that. No more messages were taken of a link than credit was granted to it: over all links that followed one another at
-/// a handle, and in the life of each of them [2.6.7].
+/// that. No more messages were taken of the links that followed one another at a handle than credit was granted to them
+/// [2.6.7].
 pub fn uses_are_bounded()
-    ensures config { (config : Configured) (channel handle granted messages : ℕ) (s : EndpointState) → IsConfigured config.container_id config.max_frame config.window → IsUsed config channel handle granted messages s → s.connection.config ≡ config }
-    ensures held { (config : Configured) (channel handle granted messages : ℕ) (s : EndpointState) → IsConfigured config.container_id config.max_frame config.window → IsUsed config channel handle granted messages s → held s ≤ most_held config }
-    ensures messages { (config : Configured) (channel handle granted messages : ℕ) (s : EndpointState) → IsConfigured config.container_id config.max_frame config.window → IsUsed config channel handle granted messages s → messages ≤ granted }
-    ensures life { (config : Configured) (h : List ConnectionEvent) (channel handle life : ℕ) → config.window < 2 ^ 31 → Accepted config h → length (taken_in channel handle life h) ≤ grants (past_in (last_part channel handle life h)) }
+    ensures config { (config : Configured) (channel handle granted messages : ℕ) (s : EndpointState) → IsUsed config channel handle granted messages s → s.connection.config ≡ config }
+    ensures held { (config : Configured) (channel handle granted messages : ℕ) (s : EndpointState) → IsUsed config channel handle granted messages s → held s ≤ held_by_any config }
+    ensures messages { (config : Configured) (channel handle granted messages : ℕ) (s : EndpointState) → IsUsed config channel handle granted messages s → messages ≤ granted }
 {
     connection_begins();
     connection_goes_on();
@@ -194,14 +198,14 @@ pub fn uses_are_bounded()
 }
 
 /// What an application asks behind what it was told is accepted: a take directly behind `Ready`; what became of a delivery,
-/// directly behind its take, where its sender hasn't settled it; credit for a link that lives, within what it is allowed
+/// directly behind its take, where its sender hasn't settled it; credit for a link that lives, within what links are allowed
 /// beside its credit and its open deliveries; places for a session that lives, below 2^31 in all. A call that writes needs
 /// room in the output [2.5.6, 2.6.7, 2.6.12, 2.6.14].
 pub fn what_follows_is_accepted()
-    ensures take { (old new : EndpointState) (piece : List ℕ) (used channel handle : ℕ) → 8 ≤ old.input.limit → IsFed old new piece used (outcome.Event (told.Ready channel handle)) → call_fault new.connection new.unsent channel (Take handle) ≡ None }
-    ensures settle { (config : Configured) (place at granted messages : ℕ) (old new : EndpointState) (channel handle : ℕ) (d : runs.Handed) (fate : Fate) → IsConfigured config.container_id config.max_frame config.window → IsUsed config place at granted messages old → Does old new (runs.InSession channel (Take handle)) (runs.HandedUp d) → d.settled ≡ false → has_room new.unsent ≡ true → call_fault new.connection new.unsent channel (Settle d.delivery_id fate) ≡ None }
-    ensures grant { (s : ConnectionState) (unsent : List ℕ) (channel handle n : ℕ) (l : LiveLink) → is_open s.phase ≡ true → link_at s channel handle ≡ Live l → has_room unsent ≡ true → l.link.credit + open_count l.link + n ≤ l.link.terms.bounds.allowed → call_fault s unsent channel (Grant handle n) ≡ None }
-    ensures widen { (s : ConnectionState) (unsent : List ℕ) (channel n : ℕ) (t : SessionState) → is_open s.phase ≡ true → slot_at s channel ≡ Live t → has_room unsent ≡ true → t.window + n < 2 ^ 31 → call_fault s unsent channel (Widen n) ≡ None }
+    ensures take { (config : Configured) (of_channel of_handle granted messages : ℕ) (old new : EndpointState) (piece : List ℕ) (used channel handle : ℕ) → IsUsed config of_channel of_handle granted messages old → IsFed old new piece used (outcome.Event (told.Ready channel handle)) → IsAccepted new channel (Take handle) }
+    ensures settle { (config : Configured) (of_channel of_handle granted messages : ℕ) (old new : EndpointState) (channel handle : ℕ) (d : runs.Handed) (fate : Fate) → IsUsed config of_channel of_handle granted messages old → Does old new (runs.InSession channel (Take handle)) (runs.HandedUp d) → d.settled ≡ false → IsAccepted new channel (Settle d.delivery_id fate) }
+    ensures grant { (config : Configured) (of_channel of_handle granted messages : ℕ) (s : EndpointState) (channel handle n : ℕ) (l : LiveLink) → IsUsed config of_channel of_handle granted messages s → link_at s.connection channel handle ≡ Live l → l.link.credit + open_count l.link + n ≤ config.bounds.allowed → IsAccepted s channel (Grant handle n) }
+    ensures widen { (config : Configured) (of_channel of_handle granted messages : ℕ) (s : EndpointState) (channel n : ℕ) (t : SessionState) → IsUsed config of_channel of_handle granted messages s → slot_at s.connection channel ≡ Live t → t.window + n < 2 ^ 31 → IsAccepted s channel (Widen n) }
 {
     connection_begins();
     connection_goes_on();

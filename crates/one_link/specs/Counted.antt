@@ -1,6 +1,5 @@
 -- What a receiver of one link knows of its endpoint.
-use Rattle.std.specs.Prelude.{ℕ, ◌≤◌}
-use Rattle.amqp_endpoint.specs.Configs.{Configured, IsConfigured}
+use Rattle.std.specs.Prelude.{◌≡◌, ℕ, ◌≤◌}
 use Rattle.amqp_endpoint.specs.Steps.{EndpointState}
 use Rattle.amqp_endpoint.specs.Uses.{IsUsed}
 
@@ -10,9 +9,12 @@ pub record ReceiverState : Type 0 where
   pub credit : ℕ
   pub got : ℕ
 
--- Its endpoint was a new one of some configuration; since then its calls granted so much to the link, and took so many messages of it. No more was granted than the credit.
+-- Its endpoint was a new one; since then its calls granted so much at handle 0 of the session on channel 0, and took so many messages there. No more was granted than the credit.
 pub record IsCounted (endpoint : EndpointState) (credit granted got : ℕ) : Type 0 where
-  pub config : Configured
-  pub within : IsConfigured config.container_id config.max_frame config.window
-  pub used : IsUsed config 0 0 granted got endpoint
+  pub used : IsUsed endpoint.connection.config 0 0 granted got endpoint
   pub most : granted ≤ credit
+
+-- neither its credit nor its configuration has changed
+pub record IsStill (old new : ReceiverState) : Type 0 where
+  pub credit : new.credit ≡ old.credit
+  pub config : new.endpoint.connection.config ≡ old.endpoint.connection.config

@@ -1,14 +1,23 @@
 //! The receiver.
-ghost use Rattle.std.specs.Prelude.{◌≡◌, ◌≤◌, ◌+◌, length, IfOk, IfSome};
-ghost use Rattle.amqp_endpoint.specs.Uses.{most_held};
+ghost use Rattle.std.specs.Prelude.{◌≡◌, ◌≤◌, ◌+◌, ◌++◌, ◌↔◌, length, take, drop, min, IfOk, IsSome, MatchOption};
+ghost use Rattle.amqp_endpoint.specs.declared.event.Event.{Event};
+ghost use Rattle.amqp_endpoint.specs.declared.event.Outcome.{Outcome};
+ghost use Rattle.amqp_endpoint.specs.Connections.{is_dead};
+ghost use Rattle.amqp_endpoint.specs.Held.{held};
+ghost use Rattle.amqp_endpoint.specs.Uses.{held_by_any, IsAccepted};
+ghost use Rattle.amqp_session.specs.Calls.{Take};
+ghost use Rattle.one_link.specs.Counted.{IsStill};
 
-use amqp_endpoint::laws::{are_bytes, uses_are_bounded, uses_are_counted};
+use amqp_endpoint::laws::{
+    are_bytes, is_id, uses_are_bounded, uses_are_counted, what_follows_is_accepted,
+};
 use amqp_endpoint::{Config, Endpoint, Event, Fed, Outcome};
 use amqp_link::Taken;
+use amqp_perform::Outcome as Settlement;
 use std::alloc::{AllocError, Allocator, Global};
 use std::marker::Model;
 
-/// A receiver that grants the first link of the first session its credit, once.
+/// A receiver that grants the link at handle 0 of the session on channel 0 its credit, once; a later link there gets none.
 #[derive(Drop)]
 pub struct Receiver<A: Allocator + Copy = Global> {
     endpoint: Endpoint<A>,
@@ -28,13 +37,16 @@ impl<A: Allocator + Copy> Model for Receiver<A> {
 }
 
 impl<A: Allocator + Copy> Receiver<A> {
-    /// A receiver that grants so much credit. An error where memory for its endpoint is refused.
+    /// A receiver that grants so much credit, or what a link is allowed where that is less [2.6.7]. An error where memory for
+    /// its endpoint is refused.
     pub fn new(alloc: A, config: Config<A>, credit: u32) -> Result<Self, AllocError>
-        ensures credit { IfOk result (λ r. r.credit ≡ credit) }
+        ensures config { IfOk result (λ r. r.endpoint.connection.config ≡ config) }
+        ensures credit { IfOk result (λ r. r.credit ≡ min credit config.bounds.allowed) }
         ensures got { IfOk result (λ r. r.got ≡ 0) }
     {
         uses_are_counted();
         config.is_within();
+        let credit = credit.min(config.bounds().allowed());
         let endpoint = Endpoint::new(alloc, config)?;
         Ok(Receiver {
             endpoint,
@@ -44,47 +56,83 @@ impl<A: Allocator + Copy> Receiver<A> {
         })
     }
 
-    /// Takes bytes of the peer, up to the end of a frame at most, and answers how many, and the message that they
-    /// completed.
-    pub fn feed(&mut self, piece: &[u8]) -> (usize, Option<Taken<A>>)
-        ensures { self.new.credit ≡ self.old.credit }
+    /// Takes bytes of the peer, up to the end of the header or of a frame at most [2.2, 2.3.1]. Answers what that came to, as
+    /// [`Endpoint::feed`] does, and the message that it completed [2.6.14]. That is settled as accepted, unless its sender
+    /// settled it or the output has no room for it [2.6.12]. The credit is granted once the link is there and the output has
+    /// room [2.6.7].
+    pub fn feed(&mut self, piece: &[u8]) -> (Fed, Option<Taken<A>>)
+        ensures used { result.0.used ≤ length piece.now }
+        ensures ready { (result.0.outcome ≡ Outcome.Event (Event.Ready 0 0)) ↔ IsSome result.1 }
+        ensures got { MatchOption result.1 (self.new.got ≡ self.old.got) (λ _. self.new.got ≡ self.old.got + 1) }
+        ensures still { IsStill self.old self.new }
     {
         let fed = self.feed_front(piece);
         let taken = match fed.outcome {
-            Outcome::Event(
-                Event::Attached {
-                    channel: 0,
-                    handle: 0,
-                },
-            ) => {
-                self.grant_once();
-                None
-            }
             Outcome::Event(
                 Event::Ready {
                     channel: 0,
                     handle: 0,
                 },
-            ) => self.take(),
+            ) => Some(self.take()),
             _ => None,
         };
-        (fed.used, taken)
+        self.grant_once();
+        (fed, taken)
     }
 
     fn feed_front(&mut self, piece: &[u8]) -> Fed
-        ensures { self.new.credit ≡ self.old.credit }
+        ensures used { result.used ≤ length piece.now }
+        ensures ready { result.outcome ≡ Outcome.Event (Event.Ready 0 0) → IsAccepted self.new.endpoint 0 (Take 0) }
+        ensures got { self.new.got ≡ self.old.got }
+        ensures still { IsStill self.old self.new }
     {
         uses_are_counted();
+        uses_are_bounded();
+        what_follows_is_accepted();
         are_bytes(piece);
         self.endpoint.feed(piece)
     }
 
-    /// Grants the credit, where it was not granted before.
-    fn grant_once(&mut self)
-        ensures { self.new.credit ≡ self.old.credit }
+    /// Takes the message that is ready, and settles it.
+    fn take(&mut self) -> Taken<A>
+        requires { IsAccepted self.old.endpoint 0 (Take 0) }
+        ensures got { self.new.got ≡ self.old.got + 1 }
+        ensures still { IsStill self.old self.new }
     {
         uses_are_counted();
-        if self.granted == 0 {
+        uses_are_bounded();
+        match self.endpoint.take(0, 0) {
+            Ok(taken) => {
+                self.got += 1;
+                self.settle(&taken);
+                taken
+            }
+            Err(_) => unreachable!(),
+        }
+    }
+
+    /// Settles a message that was taken, unless its sender did.
+    fn settle(&mut self, taken: &Taken<A>)
+        ensures got { self.new.got ≡ self.old.got }
+        ensures still { IsStill self.old self.new }
+    {
+        uses_are_counted();
+        uses_are_bounded();
+        is_id(taken.delivery_id);
+        if !taken.settled {
+            let id = taken.delivery_id;
+            let _ = self.endpoint.settle(0, id, Settlement::Accepted);
+        }
+    }
+
+    /// Grants the credit, where it was not granted before. It is refused until the link is there, and while the output is full.
+    fn grant_once(&mut self)
+        ensures got { self.new.got ≡ self.old.got }
+        ensures still { IsStill self.old self.new }
+    {
+        uses_are_counted();
+        uses_are_bounded();
+        if self.granted == 0 && self.credit > 0 {
             match self.endpoint.grant(0, 0, self.credit) {
                 Ok(()) => self.granted = self.credit,
                 Err(_) => {}
@@ -92,28 +140,15 @@ impl<A: Allocator + Copy> Receiver<A> {
         }
     }
 
-    /// Takes the message that is ready.
-    fn take(&mut self) -> Option<Taken<A>>
-        ensures credit { self.new.credit ≡ self.old.credit }
-        ensures counted { IfSome result (λ _. self.new.got ≡ self.old.got + 1) }
+    /// Moves the first bytes that wait to be sent into `out`, as many as it holds, and answers how many.
+    pub fn output(&mut self, out: &mut [u8]) -> usize
+        ensures count { result ≡ min (length out.old) (length self.old.endpoint.unsent) }
+        ensures read { out.new ≡ take result self.old.endpoint.unsent ++ drop result out.old }
+        ensures got { self.new.got ≡ self.old.got }
+        ensures still { IsStill self.old self.new }
     {
         uses_are_counted();
         uses_are_bounded();
-        match self.endpoint.take(0, 0) {
-            Ok(taken) => {
-                self.got += 1;
-                Some(taken)
-            }
-            Err(_) => None,
-        }
-    }
-
-    /// Moves the first bytes that wait to be sent into `out`, as many as it holds, and answers how many.
-    pub fn output(&mut self, out: &mut [u8]) -> usize
-        ensures credit { self.new.credit ≡ self.old.credit }
-        ensures bound { result ≤ length out.new }
-    {
-        uses_are_counted();
         self.endpoint.output(out)
     }
 
@@ -128,9 +163,17 @@ impl<A: Allocator + Copy> Receiver<A> {
 
     /// How many bytes its endpoint holds: no more than any endpoint of its configuration.
     pub fn held(&self) -> u64
-        ensures { result ≤ most_held self.now.endpoint.connection.config }
+        ensures value { result ≡ held self.now.endpoint }
+        ensures most { result ≤ held_by_any self.now.endpoint.connection.config }
     {
         uses_are_bounded();
         self.endpoint.held()
+    }
+
+    /// Whether the connection is over: no more bytes are used.
+    pub fn is_over(&self) -> bool
+        ensures { result ≡ is_dead self.now.endpoint.connection.phase }
+    {
+        self.endpoint.is_over()
     }
 }

@@ -18,8 +18,8 @@ fn gets_what_it_granted(rt: HostRuntime) -> Result<(), Fail> {
     let mut receiver = Receiver::new(rt.alloc(), config, 1)?;
     let (mut rest, mut room, mut moved) = (SENT, [0; 64], 0);
     for _ in 0..SENT.len() {
-        let (used, taken) = receiver.feed(rest);
-        rest = rest.get(used..).unwrap_or(&[]);
+        let (fed, taken) = receiver.feed(rest);
+        rest = &rest[fed.used..];
         if let Some(taken) = taken {
             assert_eq!(rt; taken.message.piece(0), b"x".as_slice());
         }
@@ -30,7 +30,7 @@ fn gets_what_it_granted(rt: HostRuntime) -> Result<(), Fail> {
     }
     assert!(rt; rest.is_empty());
     assert_eq!(rt; receiver.got(), 1);
-    // the header, the replies to open, begin and attach, the flow of one credit, and the detach with its error
-    assert_eq!(rt; moved, 8 + 26 + 23 + 34 + 23 + 57);
+    // the header, the replies to open, begin and attach, the flow of one credit, a disposition, and the detach with its error
+    assert_eq!(rt; moved, 8 + 26 + 23 + 34 + 23 + 22 + 57);
     Ok(())
 }

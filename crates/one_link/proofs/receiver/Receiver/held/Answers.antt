@@ -1,12 +1,14 @@
-use Rattle.std.proofs.Common.{arith, ap, ◌∙◌, sym}
-use Rattle.amqp_endpoint.specs.Uses.{most_held}
+use Rattle.std.proofs.Common.{arith, ap}
+use Rattle.amqp_endpoint.specs.Uses.{held_by_any}
 use Rattle.one_link.specs.Counted.{ReceiverState}
 use Rattle.one_link.proofs.receiver.Receiver.held.Goals as goal
 
-pub returns : goal.returns
-returns g c =
-    let x = c.self.invariant in
+pub returns-clause-most : goal.returns-clause-most
+returns-clause-most g c =
     let r = c.self.inside in
-    let of = c.uses_are_bounded.ensures.config x.config 0 0 r.granted r.got r.endpoint x.within x.used in
-    let same = ap most_held (sym of ∙ ap (λ (s : ReceiverState). s.endpoint.connection.config) c.self.view_is) in
-    omega (arith, c.held.ensures, c.uses_are_bounded.ensures.held x.config 0 0 r.granted r.got r.endpoint x.within x.used, same)
+    omega (
+      arith,
+      c.held.ensures,
+      c.uses_are_bounded.ensures.held r.endpoint.connection.config 0 0 r.granted r.got r.endpoint c.self.invariant.used,
+      ap (λ (s : ReceiverState). held_by_any s.endpoint.connection.config) c.self.view_is,
+    )

@@ -1,5 +1,5 @@
--- What was just taken may be settled.
-use Rattle.std.proofs.Common.{arith, ◌≡◌, ℕ, zero, suc, ◌+◌, ◌^◌, ◌≤◌, Bool, true, false, cond, List, [], ◌∷◌, ◌++◌, find, refl, sym, ap, ◌∙◌, subst, Option, Some, None}
+-- What an application asks behind what it was told is accepted, of an endpoint that was used.
+use Rattle.std.proofs.Common.{arith, ◌≡◌, ℕ, zero, suc, ◌+◌, ◌^◌, ◌<◌, ◌≤◌, Bool, true, false, cond, List, [], ◌∷◌, ◌++◌, find, refl, sym, ap, ◌∙◌, subst, Option, Some, None}
 use Rattle.std.specs.Prelude.{if◌then◌else◌, slice_get, nat_lt}
 use Rattle.std.specs.List.{AllByRecursion, list_any, count_by}
 use Rattle.std.proofs.lemmas.Bool.{eq-eqb, or_parts}
@@ -9,16 +9,13 @@ use Rattle.amqp_link.specs.declared.settlement.Standing.{Standing}
 use Rattle.amqp_link.specs.declared.settlement.Standing.TheVariants.{Untaken, Told, Awaiting}
 use Rattle.amqp_link.specs.Histories as link
 use Rattle.amqp_link.specs.Laws.{id_count}
-use Rattle.amqp_link.specs.Links.{Delivery, LinkState, HandedUp, open_set, untaken, has_id, standing_at, standing_of, left_open, first_ready}
+use Rattle.amqp_link.specs.Links.{Delivery, LinkState, HandedUp, open_set, untaken, has_id, standing_at, standing_of, left_open, first_ready, open_count}
 use Rattle.amqp_perform.specs.declared.modes.ReceiverSettleMode.{ReceiverSettleMode}
 use Rattle.amqp_perform.specs.declared.outcome.Outcome.{Outcome}
 use Rattle.amqp_session.specs.declared.slot.Slot.{Slot}
 use Rattle.amqp_session.specs.declared.slot.Slot.TheVariants.{Free, Live, Waits}
-use Rattle.amqp_session.specs.declared.terms.SessionTerms.{SessionTerms}
-use Rattle.amqp_session.specs.Calls.{Take, Settle, take_event, first_taken, slot_standing, or_later, standing_in, standing_fault}
+use Rattle.amqp_session.specs.Calls.{Take, Settle, Grant, Widen, take_event, first_taken, slot_standing, or_later, standing_in, standing_fault}
 use Rattle.amqp_session.specs.Faults.{or_else}
-use Rattle.amqp_session.specs.Places.{Life, IfLive}
-use Rattle.amqp_session.specs.Histories as lived
 use Rattle.amqp_session.specs.Sessions as one
 use Rattle.amqp_session.specs.Sessions.{LiveLink, SessionState, SessionEvent, Called, live_begins, live_after, session_begins, session_after, slot_count, table_count, IsApart}
 use Rattle.amqp_session.proofs.Ids.{table_cons}
@@ -26,16 +23,20 @@ use Rattle.amqp_session.proofs.Standings.{count_cons, slot_within, parts_count, 
 use Rattle.amqp_session.proofs.Tables.{found}
 use Rattle.amqp_endpoint.specs.declared.fault.CallFault.{CallFault}
 use Rattle.amqp_endpoint.specs.Calls.{call_fault, call_event, slot_event, at_session, of_option, full_fault, has_room}
-use Rattle.amqp_endpoint.specs.Configs.{Configured, IsConfigured}
+use Rattle.amqp_endpoint.specs.Configs.{Configured}
 use Rattle.amqp_endpoint.specs.Connections as event
-use Rattle.amqp_endpoint.specs.Connections.{ConnectionState, ConnectionEvent, connection_after, slot_at, channels}
-use Rattle.amqp_endpoint.specs.Histories.{part, state_of, IsSoundPart, Sound}
+use Rattle.amqp_endpoint.specs.Connections.{ConnectionState, ConnectionEvent, connection_after, slot_at, is_open}
+use Rattle.amqp_endpoint.specs.declared.event.Event.TheVariants as told
+use Rattle.amqp_endpoint.specs.declared.event.Outcome.TheVariants as outcome
+use Rattle.amqp_endpoint.specs.Takings.{link_in, link_at}
+use Rattle.amqp_link.specs.declared.terms.LinkBounds.{LinkBounds}
+use Rattle.amqp_endpoint.specs.Histories.{state_of, Sound}
 use Rattle.amqp_endpoint.specs.Runs.{Handed, handed_of, handed, link_handed, accepted_answer, InSession, HandedUp as Given, Does, events}
-use Rattle.amqp_endpoint.specs.Steps.{EndpointState}
-use Rattle.amqp_endpoint.specs.Uses.{IsUsed, granted_over, messages_over}
+use Rattle.amqp_endpoint.specs.Steps.{EndpointState, IsFed}
+use Rattle.amqp_endpoint.specs.Uses.{IsUsed, IsAccepted, granted_over, messages_over}
 use Rattle.amqp_endpoint.specs.Traces.{told_by}
-use Rattle.amqp_endpoint.proofs.Messages.{has_life}
-use Rattle.amqp_endpoint.proofs.Next.{goes_on_there, with_room}
+use Rattle.amqp_endpoint.proofs.Living.{wide_here, apart_here, bounds_here}
+use Rattle.amqp_endpoint.proofs.Next.{goes_on_there, with_room, take_accepted, grant_accepted, widen_accepted}
 use Rattle.amqp_endpoint.proofs.Steps.{ConnectionBegins, ConnectionGoesOn, all_sound}
 use Rattle.amqp_endpoint.proofs.Untold.{IsUntold, ConnectionUntold, all_untold, untold_at}
 use Rattle.amqp_endpoint.proofs.Uses.{RunsAreWhole, whole_run, use_goes_on}
@@ -76,13 +77,6 @@ stands_in id mode (s ∷ slots) (suc k) l few get stands =
     ap (λ (x : Standing). or_later x (standing_in id slots)) none ∙ stands_in id mode slots k l (omega (arith, few, table_cons id s slots)) get stands
 
 -- What was taken. -----------------------------------------------------------------------------------------------------------
-
--- ids are apart in a session that lives
-apart_at : (config : Configured) (h : List ConnectionEvent) (channel : ℕ) (s : SessionState) → Sound config h → slot_at (state_of config h) channel ≡ Live s → IsApart s
-apart_at config h channel s sound here =
-    let x = has_life lived.state_of (channels config) (λ k. part k h) channel s here in
-    let well = subst (λ (p : Slot (Life SessionTerms SessionEvent)). IfLive (λ life. IsSoundPart config life.0 life.1) p) x.stands (sound.sessions channel x.below) in
-    subst IsApart (sym x.is) well.session.apart
 
 -- the link, its session and the delivery that a take hands up
 record Took (s : ConnectionState) (channel handle : ℕ) (d : Handed) : Type 0 where
@@ -129,14 +123,13 @@ left_there d unsettled = ap (λ (b : Bool). if b then [] else record d { message
 
 -- a settle directly behind the take of an unsettled delivery is accepted, where there is room for what it writes
 pub settle_accepted : ConnectionBegins → ConnectionGoesOn → RunsAreWhole → (config : Configured) (place at granted messages : ℕ) (old new : EndpointState) (channel handle : ℕ) (d : Handed)
-    (outcome : Outcome) → IsConfigured config.container_id config.max_frame config.window → IsUsed config place at granted messages old → Does old new (InSession channel (Take handle)) (Given d) →
-    d.settled ≡ false → has_room new.unsent ≡ true → call_fault new.connection new.unsent channel (Settle d.delivery_id outcome) ≡ None
-settle_accepted begins goes_on law config place at granted messages old new channel handle d outcome within u does unsettled room =
-    ap (λ (c : ConnectionState). call_fault c new.unsent channel (Settle d.delivery_id outcome)) is
-    ∙ ap (λ (o : Option CallFault). or_else o (or_else (at_session (slot_at after channel) (Settle d.delivery_id outcome)) (full_fault new.unsent))) (none_before _ _ does.0)
-    ∙ ap (λ (y : Slot SessionState). or_else (at_session y (Settle d.delivery_id outcome)) (full_fault new.unsent)) session
-    ∙ ap (λ (x : Standing). or_else (of_option (standing_fault x)) (full_fault new.unsent)) stands
-    ∙ with_room new.unsent room
+    (outcome : Outcome) → IsUsed config place at granted messages old → Does old new (InSession channel (Take handle)) (Given d) → d.settled ≡ false → IsAccepted new channel (Settle d.delivery_id outcome)
+settle_accepted begins goes_on law config place at granted messages old new channel handle d outcome u does unsettled = λ unsent room.
+    ap (λ (c : ConnectionState). call_fault c unsent channel (Settle d.delivery_id outcome)) is
+    ∙ ap (λ (o : Option CallFault). or_else o (or_else (at_session (slot_at after channel) (Settle d.delivery_id outcome)) (full_fault unsent))) (none_before _ _ does.0)
+    ∙ ap (λ (y : Slot SessionState). or_else (at_session y (Settle d.delivery_id outcome)) (full_fault unsent)) session
+    ∙ ap (λ (x : Standing). or_else (of_option (standing_fault x)) (full_fault unsent)) stands
+    ∙ with_room unsent (room refl)
   where
     x : Took old.connection channel handle d
     x = took old.connection channel handle d does.2
@@ -169,15 +162,15 @@ settle_accepted begins goes_on law config place at granted messages old new chan
 
     apart : IsApart t
     apart =
-        let run = whole_run law config place at (granted + granted_over place at (told_by (InSession channel (Take handle)) (Given d))) (messages + messages_over place at (told_by (InSession channel (Take handle)) (Given d))) new within
+        let run = whole_run law config place at (granted + granted_over place at (told_by (InSession channel (Take handle)) (Given d))) (messages + messages_over place at (told_by (InSession channel (Take handle)) (Given d))) new
         (use_goes_on config place at granted messages old new (InSession channel (Take handle)) (Given d) u tt does) in
-        apart_at config (events config run.past.history) channel t run.past.traced.sound (ap (λ (c : ConnectionState). slot_at c channel) (sym run.past.traced.state ∙ is) ∙ session)
+        apart_here config (events config run.past.history) run.past.traced.sound channel t (ap (λ (c : ConnectionState). slot_at c channel) (sym run.past.traced.state ∙ is) ∙ session)
 
     untold : IsUntold x.delivery
     untold =
-        let run = whole_run law config place at granted messages old within u in
+        let run = whole_run law config place at granted messages old u in
         let h = events config run.past.history in
-        let all = subst ConnectionUntold ((all_sound begins goes_on config h within.most_window run.past.traced.accepted).0 ∙ sym run.past.traced.state) (all_untold config h) in
+        let all = subst ConnectionUntold ((all_sound begins goes_on config h u.within.most_window run.past.traced.accepted).0 ∙ sym run.past.traced.state) (all_untold config h) in
         first_untold x.link.link.ready x.delivery x.first (untold_at old.connection channel handle x.session x.link all x.live x.attached).ready
 
     few : table_count d.delivery_id t.links ≤ 1
@@ -193,3 +186,43 @@ settle_accepted begins goes_on law config place at granted messages old new chan
         stands_in d.delivery_id kept.rcv_settle_mode t.links handle l few get
         (last_awaits d.delivery_id l.link x.link.link.awaiting kept (ap (λ (ds : List Delivery). x.link.link.awaiting ++ ds) left) has untold
         (omega (arith, few, slot_within d.delivery_id t.links handle (Live l) get)))
+
+-- What an endpoint that was used accepts. -----------------------------------------------------------------------------------
+
+module _ (law : RunsAreWhole) (config : Configured) (place at granted messages : ℕ) (s : EndpointState) (u : IsUsed config place at granted messages s) where
+  abbrev history : List ConnectionEvent
+  history = events config (whole_run law config place at granted messages s u).past.history
+
+  is_state : s.connection ≡ state_of config history
+  is_state = (whole_run law config place at granted messages s u).past.traced.state
+
+  sound : Sound config history
+  sound = (whole_run law config place at granted messages s u).past.traced.sound
+
+  wide : (channel : ℕ) (t : SessionState) → slot_at s.connection channel ≡ Live t → is_open s.connection.phase ≡ true
+  wide channel t here =
+      ap (λ (c : ConnectionState). is_open c.phase) is_state ∙ wide_here config history sound channel t (ap (λ (c : ConnectionState). slot_at c channel) (sym is_state) ∙ here)
+
+  -- a take behind Ready
+  pub take_follows : (new : EndpointState) (piece : List ℕ) (used channel handle : ℕ) → IsFed s new piece used (outcome.Event (told.Ready channel handle)) → IsAccepted new channel (Take handle)
+  take_follows new piece used channel handle fed = λ unsent room.
+      let limit = (whole_run law config place at granted messages s u).past.traced.limit in
+      take_accepted s new piece used channel handle (omega (arith, limit, u.within.some_frame)) fed unsent
+
+  -- credit within what is allowed
+  pub grant_follows : (channel handle n : ℕ) (l : LiveLink) → link_at s.connection channel handle ≡ Live l → l.link.credit + open_count l.link + n ≤ config.bounds.allowed →
+      IsAccepted s channel (Grant handle n)
+  grant_follows channel handle n l here few = λ unsent room. by (slot_at s.connection channel) refl here unsent (room refl)
+    where
+      by : (x : Slot SessionState) → slot_at s.connection channel ≡ x → link_in handle x ≡ Live l → (unsent : List ℕ) → has_room unsent ≡ true →
+          call_fault s.connection unsent channel (Grant handle n) ≡ None
+      by Free is there unsent room = absurd (grind (arith, there))
+      by (Live t) is there unsent room =
+          let bounds = bounds_here config history sound channel t (ap (λ (c : ConnectionState). slot_at c channel) (sym is_state) ∙ is) handle l there in
+          let allowed : l.link.terms.bounds.allowed ≡ config.bounds.allowed = ap (λ (b : LinkBounds). b.allowed) bounds in
+          grant_accepted s.connection unsent channel handle n l (wide channel t is) here room (omega (arith, few, allowed))
+      by Waits is there unsent room = absurd (grind (arith, there))
+
+  -- and places
+  pub widen_follows : (channel n : ℕ) (t : SessionState) → slot_at s.connection channel ≡ Live t → t.window + n < 2 ^ 31 → IsAccepted s channel (Widen n)
+  widen_follows channel n t here few = λ unsent room. widen_accepted s.connection unsent channel n t (wide channel t here) here (room refl) few
