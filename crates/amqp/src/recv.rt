@@ -7,8 +7,11 @@ use amqp_frame::Device;
 use amqp_serve::{Policy, ServeFault, serve};
 use std::alloc::{AllocError, Global};
 use std::fmt::{self, Display, Formatter};
-use std::io::{BufWriter, Read, Write};
+use std::io::{BufReader, BufWriter, Read, Write};
 use std::net::{OpenListener, OpenStream};
+
+/// How many bytes are read from a socket at once, and how many are written to one, or of records to standard output.
+pub const BUFFER: usize = 65_536;
 
 /// How a connection was served.
 #[derive(Clone, Copy, Debug, PartialEq, Eq)]
@@ -93,7 +96,7 @@ where
     all_closed
 }
 
-/// Accepts a connection, and serves it. Its output is buffered, so that what answers one read goes out at once.
+/// Accepts a connection, and serves it. Its input and its output are buffered, so that what answers one read goes out at once.
 fn serve_next<L: OpenListener, S: Write + Drop>(
     alloc: Global,
     listener: &L,
@@ -116,12 +119,20 @@ where
     let Ok(mut endpoint) = new_endpoint(alloc, config) else {
         return Ending::NoMemory;
     };
-    let Ok(buffered) = BufWriter::new(alloc, other) else {
+    let Ok(buffered_input) = BufReader::with_capacity(alloc, BUFFER, stream) else {
         return Ending::NoMemory;
     };
-    let mut reader = Device::new(stream);
-    let mut writer = Device::new(buffered);
-    ending_of(serve(&mut endpoint, &mut reader, &mut writer, sink, policy))
+    let Ok(buffered_output) = BufWriter::with_capacity(alloc, BUFFER, other) else {
+        return Ending::NoMemory;
+    };
+    let mut reader = Device::new(buffered_input);
+    let mut writer = Device::new(buffered_output);
+    let ending = ending_of(serve(&mut endpoint, &mut reader, &mut writer, sink, policy));
+    if ending == Ending::Sink {
+        // those of its answers that are to messages wait for records that may be lost
+        let _ = writer.into_inner().into_parts();
+    }
+    ending
 }
 
 fn new_endpoint(alloc: Global, config: &Config) -> Result<Endpoint, AllocError> {

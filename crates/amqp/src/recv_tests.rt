@@ -20,10 +20,8 @@ const STREAM: &[u8] =
 const RECORDS: &[u8] =
     b"\x00\x00\x00\x00\x00\x00\x00\x00\x00\x00\x00\x00\x00\x00\x00\x00\x00\x01\x78\x00\x00\x00\x00\x00\x00\x00\x00\x00\x01\x00\x00\x00\x00\x00\x00\x00\x01\x78";
 
-/// How many bytes answer the stream, and how many all up to its first message.
+/// How many bytes answer the stream.
 const ANSWERS: usize = 221;
-
-const ANSWERS_OF_ONE: usize = 161;
 
 /// How many bytes the peers were sent, and by how many writes.
 #[derive(Drop)]
@@ -259,6 +257,7 @@ fn stops_behind_a_sink_that_fails(rt: HostRuntime) -> Result<(), Fail> {
     assert!(rt; !all_closed);
     assert_eq!(rt; log.as_str(), "connection 1: Closed\nconnection 2: Sink\n");
     assert!(rt; records.as_slice().starts_with(RECORDS));
-    assert_eq!(rt; wire.bytes.get(), ANSWERS + ANSWERS_OF_ONE);
+    // The second peer's bytes came at once, so that all that answers them waited for the records.
+    assert_eq!(rt; wire.bytes.get(), ANSWERS);
     Ok(())
 }

@@ -4,7 +4,7 @@ ghost use Rattle.std.specs.Prelude.{◌≡◌};
 ghost use Rattle.amqp.specs.declared.run.Fault.TheVariants.{NoMemory};
 
 use crate::command::{Order, RecvSettings, command_line, order_of};
-use crate::recv::recv_on;
+use crate::recv::{BUFFER, recv_on};
 use crate::send::Fate;
 use crate::send_file::{FileFault, send_file};
 use amqp_dump::{DumpFault, dump};
@@ -159,7 +159,10 @@ fn recv<R: Print + Eprint + Net + AllocGlobal>(
     let Ok(listener) = TcpListener::bind(rt, address) else {
         return Err(Fault::Open);
     };
-    let mut sink = Device::new(io::writer(rt));
+    let Ok(output) = io::BufWriter::with_capacity(alloc, BUFFER, io::writer(rt)) else {
+        return Err(Fault::NoMemory);
+    };
+    let mut sink = Device::new(output);
     let all_closed = recv_on(
         alloc,
         &listener,

@@ -135,16 +135,14 @@ pub told_first : (s : Scanner) (bytes : List ℕ) (entries : List Entry) → Has
 told_first s bytes entries t = went_first s.splitter s.place bytes entries (went_by s bytes entries t)
 
 -- a new scanner has told nothing
-pub none_told : (s : Scanner) → s.splitter ≡ record { limit = MAX_FRAME; stage = Header; filled = []; room = MAX_FRAME } → s.place ≡ 0
+pub none_told : (s : Scanner) → s.splitter.limit ≡ MAX_FRAME → s.splitter.stage ≡ Header → s.splitter.filled ≡ [] → s.place ≡ 0
     → IsHeld s.splitter.limit s.splitter.stage s.splitter.filled → WentBy s.splitter [] [] → HasTold s [] []
-none_told s e p held w =
-    let stage : s.splitter.stage ≡ Header = ap (λ (x : SplitterState). x.stage) e in
-    let filled : s.splitter.filled ≡ [] = ap (λ (x : SplitterState). x.filled) e in
+none_told s limit stage filled p held w =
     record {
       units = [];
       went = w;
       ready = record {
-        limit = ap (λ (x : SplitterState). x.limit) e;
+        limit = limit;
         held = held;
         due = λ over. subst IsOver stage over;
         none = λ u waits. none_of_empty s.splitter filled u waits;

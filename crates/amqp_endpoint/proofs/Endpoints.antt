@@ -3,7 +3,7 @@ use Rattle.std.proofs.Common.{arith, ◌≡◌, ℕ, zero, suc, ◌*◌, ◌≤�
 use Rattle.std.specs.Prelude.{unwrap_or, slice_get}
 use Rattle.std.proofs.lemmas.Bool.{cases_lt}
 use Rattle.std.proofs.lemmas.List.{append-nil, take-append-drop, length-take-le}
-use Rattle.amqp_frame.specs.Splits.{SplitterState, Waits, IsOne, IsHeld, IsEmptied}
+use Rattle.amqp_frame.specs.Splits.{SplitterState, IsOver, Waits, IsOne, IsHeld, IsEmptied}
 use Rattle.amqp_frame.specs.Units.{StreamUnit, HeaderUnit, FrameUnit, FaultUnit, bytes_of, due_after, IsUnit, IsRest, IsSized, IsPlaced, size_of, offset_of, type_of}
 use Rattle.amqp_frame.specs.declared.units.FrameFault.TheVariants.{TooSmall, TooLarge, BadOffset, BadType}
 use Rattle.amqp_frame.specs.declared.units.Stage.{Stage}
@@ -137,23 +137,21 @@ free_at k (suc n) zero = refl
 free_at k (suc n) (suc i) = free_at (suc k) n i
 
 -- a new endpoint has what holds of every endpoint
-pub sound_start : (config : Configured) (max room : ℕ) → max ≡ config.max_frame → 512 ≤ max → max ≤ 1048576 → IsHeld max Header [] →
-    IsEndpoint (record { limit = max; stage = Header; filled = []; room = room }) [] (connection_begins config)
-sound_start config max room e least most held = record {
-  limit = e;
-  least = omega (arith, least);
-  most = most;
+pub sound_start : (config : Configured) (max : ℕ) (input : SplitterState) → (input.limit ≡ max) × (input.stage ≡ Header) × (input.filled ≡ []) → max ≡ config.max_frame → 512 ≤ max → max ≤ 1048576 →
+    IsHeld input.limit input.stage input.filled → IsEndpoint input [] (connection_begins config)
+sound_start config max input i e least most held = record {
+  limit = i.0 ∙ e;
+  least = omega (arith, least, i.0);
+  most = omega (arith, most, i.0);
   held = held;
-  over = λ o. absurd o;
+  over = λ o. absurd (subst (λ (x : Stage). IsOver x) i.1 o);
   fresh = λ h. record { none = refl; shut = refl; free = λ channel. free_at 0 (suc config.channel_max) channel };
 }
 
 -- so has one whose parts are new
-pub sound_new : (config : Configured) (max room : ℕ) (input : SplitterState) (out : List ℕ) (s : ConnectionState) →
-    input ≡ record { limit = max; stage = Header; filled = []; room = room } → out ≡ [] → s ≡ connection_begins config →
+pub sound_new : (config : Configured) (max : ℕ) (input : SplitterState) (out : List ℕ) (s : ConnectionState) →
+    (input.limit ≡ max) × (input.stage ≡ Header) × (input.filled ≡ []) → out ≡ [] → s ≡ connection_begins config →
     max ≡ config.max_frame → 512 ≤ max → max ≤ 1048576 → IsHeld input.limit input.stage input.filled → IsEndpoint input out s
-sound_new config max room input out s i o c e least most held =
-    let start = sound_start config max room e least most (subst (λ (x : SplitterState). IsHeld x.limit x.stage x.filled) i held) in
-    subst (λ (x : SplitterState). IsEndpoint x out s) (sym i)
-    (subst (λ (x : List ℕ). IsEndpoint (record { limit = max; stage = Header; filled = []; room = room }) x s) (sym o)
-    (subst (λ (x : ConnectionState). IsEndpoint (record { limit = max; stage = Header; filled = []; room = room }) [] x) (sym c) start))
+sound_new config max input out s i o c e least most held =
+    subst (λ (x : List ℕ). IsEndpoint input x s) (sym o)
+    (subst (λ (x : ConnectionState). IsEndpoint input [] x) (sym c) (sound_start config max input i e least most held))

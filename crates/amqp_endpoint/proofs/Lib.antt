@@ -27,4 +27,5 @@ pub mod Next
 pub mod Living
 pub mod Untold
 pub mod Follows
+pub mod Fills
 pub mod Lent

@@ -3,7 +3,7 @@ use Rattle.std.proofs.Common.{arith, ◌≡◌, ℕ, zero, suc, ◌^◌, ◌<◌
 use Rattle.std.specs.Prelude.{if◌then◌else◌, ◌||◌}
 use Rattle.std.specs.List.{list_any, flat_map}
 use Rattle.std.proofs.lemmas.List.{append-nil, append_cancel_left, length-append}
-use Rattle.amqp_frame.specs.Splits.{SplitterState, Waits, IsUnchanged}
+use Rattle.amqp_frame.specs.Splits.{SplitterState, Waits, IsUnchanged, IsTaken}
 use Rattle.amqp_frame.specs.Units.{StreamUnit, bytes_of, IsUnit, AreUnits, due_after, due_behind}
 use Rattle.amqp_frame.specs.declared.units.Stage.{Stage}
 use Rattle.amqp_frame.specs.declared.units.Stage.TheVariants as due
@@ -30,7 +30,7 @@ use Rattle.amqp_endpoint.specs.Replies.{joined, reply_on}
 use Rattle.amqp_endpoint.specs.Runs as given
 use Rattle.amqp_endpoint.specs.Runs.{Call, Feed, InSession, Close, Heartbeat, Output, Held, Finish, Answer, Fed, Dropped, HandedUp, Refused, MovedOut, Holds, Ended}
 use Rattle.amqp_endpoint.specs.Runs.{IsWritten, IsBeat, IsMoved, IsFinished, Does, Run, IsStart, Happened, Acted, Called, Closed, Beat, Over, units_of, events}
-use Rattle.amqp_endpoint.specs.Steps.{EndpointState, IsTaken, IsKept, IsActed, Acts, Comes, FeedDone, may_act, room_for, told_outcome, acted_after}
+use Rattle.amqp_endpoint.specs.Steps.{EndpointState, IsKept, IsActed, Acts, Comes, FeedDone, may_act, room_for, told_outcome, acted_after}
 use Rattle.amqp_endpoint.specs.Traces.{moved_by, Told, Tells, Done, Ends, all_taken, heard, has_finished, event_told, told_of, tellings, IsTraced, IsWholeRun}
 use Rattle.amqp_endpoint.proofs.Steps.{ConnectionBegins, ConnectionGoesOn, all_sound}
 use Rattle.amqp_endpoint.proofs.Traces.{ended_in}

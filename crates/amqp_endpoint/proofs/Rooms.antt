@@ -3,7 +3,7 @@ use Rattle.std.proofs.Common.{arith, ◌≡◌, ℕ, zero, suc, ◌+◌, ◌≤�
 use Rattle.std.specs.Prelude.{if◌then◌else◌, ◌||◌, nat_lt, not}
 use Rattle.std.proofs.lemmas.Bool.{cases_lt, ltb-false, not-true, not-false}
 use Rattle.std.proofs.lemmas.List.{length-append, length-drop, length-take-le}
-use Rattle.amqp_frame.specs.Splits.{SplitterState, Waits, IsUnchanged, IsOver}
+use Rattle.amqp_frame.specs.Splits.{SplitterState, Waits, IsUnchanged, IsOver, IsTaken}
 use Rattle.amqp_frame.specs.Units.{StreamUnit, HeaderUnit, FrameUnit, FaultUnit, IsUnit, IsRest}
 use Rattle.amqp_frame.specs.declared.units.Stage.{Stage}
 use Rattle.amqp_frame.specs.declared.units.Stage.TheVariants.{Header, Frames, Refused as Over, Faulty}
@@ -26,7 +26,7 @@ use Rattle.amqp_endpoint.specs.Lines.{line_of}
 use Rattle.amqp_endpoint.specs.Replies.{joined, reply_on, close_said}
 use Rattle.amqp_endpoint.specs.Runs.{Call, Feed, InSession, Close, Heartbeat, Output, Held, Finish, Answer, Fed, Accepted, Dropped, HandedUp, Refused, MovedOut, Holds, Ended}
 use Rattle.amqp_endpoint.specs.Runs.{IsWritten, IsBeat, IsMoved, IsFinished, Does, Run, IsStart}
-use Rattle.amqp_endpoint.specs.Steps.{EndpointState, IsTaken, IsKept, IsActed, Acts, Comes, FeedDone, room_for, may_act}
+use Rattle.amqp_endpoint.specs.Steps.{EndpointState, IsKept, IsActed, Acts, Comes, FeedDone, room_for, may_act}
 use Rattle.amqp_endpoint.proofs.Endpoints.{rest_few, header_few, free_at, due_no_header}
 use Rattle.amqp_endpoint.proofs.Replies.{SaidLong}
 use Rattle.amqp_frame.proofs.Fronts.{waits_or_not}

@@ -4,7 +4,7 @@ use Rattle.std.specs.Prelude.{if◌then◌else◌, ◌||◌, slice_index}
 use Rattle.std.specs.List.{list_any, flat_map}
 use Rattle.std.proofs.Math.Seq.{take-add}
 use Rattle.std.proofs.lemmas.List.{append-nil, append_assoc, length-append, length-take, take-append-drop}
-use Rattle.amqp_frame.specs.Splits.{SplitterState, Waits, IsUnchanged, IsHeld, IsOne, IsOver}
+use Rattle.amqp_frame.specs.Splits.{SplitterState, Waits, IsUnchanged, IsHeld, IsOne, IsOver, IsTaken}
 use Rattle.amqp_frame.specs.Units.{StreamUnit, bytes_of, IsUnit, IsRest, due_behind}
 use Rattle.amqp_frame.specs.declared.units.Stage.{Stage}
 use Rattle.amqp_frame.specs.declared.units.Stage.TheVariants as due
@@ -37,7 +37,7 @@ use Rattle.amqp_endpoint.specs.Replies.{joined, reply_on}
 use Rattle.amqp_endpoint.specs.Runs.{Call, Feed, InSession, Close, Heartbeat, Output, Held, Finish, Answer, Fed, Accepted, Dropped, HandedUp, Refused, MovedOut, Holds, Ended}
 use Rattle.amqp_endpoint.specs.Runs.{handed, link_handed, session_answer, accepted_answer, IsWritten, IsBeat, IsMoved, IsFinished, Does}
 use Rattle.amqp_endpoint.specs.Runs.{Run, IsStart, Happened, Acted, Called, Closed, Beat, Over, units_of, events, written}
-use Rattle.amqp_endpoint.specs.Steps.{EndpointState, IsTaken, IsKept, IsActed, Acts, Comes, FeedDone, may_act, told_outcome, acted_after}
+use Rattle.amqp_endpoint.specs.Steps.{EndpointState, IsKept, IsActed, Acts, Comes, FeedDone, may_act, told_outcome, acted_after}
 use Rattle.amqp_endpoint.specs.Traces.{IsInRange, AreInRange, taken_by, moved_by, Told, Done, Ends, event_in, told_by, all_taken, heard, has_finished, event_told, tellings, IsTraced}
 use Rattle.amqp_endpoint.proofs.Steps.{ConnectionBegins, ConnectionGoesOn, all_sound}
 

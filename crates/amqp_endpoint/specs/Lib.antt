@@ -20,3 +20,4 @@ pub mod Traces
 pub mod Uses
 pub mod Lending
 pub mod ConnectionLending
+pub mod RoomLending

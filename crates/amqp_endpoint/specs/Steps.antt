@@ -1,7 +1,7 @@
 -- One step of an endpoint, from the bytes of a piece, or a call, to the bytes added to its output, the answer, and the new state.
-use Rattle.std.specs.Prelude.{◌≡◌, ℕ, ◌+◌, ◌≤◌, ◌⊎◌, Bool, true, false, if◌then◌else◌, List, ◌++◌, length, take, Option, Some, None}
-use Rattle.amqp_frame.specs.Splits.{SplitterState, Waits, TakesNothing, IsUnchanged, IsEmptied}
-use Rattle.amqp_frame.specs.Units.{StreamUnit, HeaderUnit, FrameUnit, FaultUnit, due_after, IsRest}
+use Rattle.std.specs.Prelude.{◌≡◌, ℕ, ◌≤◌, ◌⊎◌, Bool, true, false, if◌then◌else◌, List, ◌++◌, Option, Some, None}
+use Rattle.amqp_frame.specs.Splits.{SplitterState, Asks, Waits, IsTaken, IsUnchanged, IsEmptied}
+use Rattle.amqp_frame.specs.Units.{StreamUnit, HeaderUnit, FrameUnit, FaultUnit, due_after}
 use Rattle.amqp_endpoint.specs.declared.event.Event.{Event}
 use Rattle.amqp_endpoint.specs.declared.event.Outcome.{Outcome}
 use Rattle.amqp_endpoint.specs.declared.event.Outcome.TheVariants as outcome
@@ -18,15 +18,17 @@ pub record EndpointState : Type 0 where
 
 -- Taking bytes. -------------------------------------------------------------------------------------------------------
 
--- What of a piece is taken: nothing where a unit waits or no more is taken; else all, or up to the end of the unit that is due. No byte is taken that a unit does not want.
-pub record IsTaken (old new : SplitterState) (piece : List ℕ) (used : ℕ) : Type 0 where
-  pub bound : used ≤ length piece
-  pub limit : new.limit ≡ old.limit
-  pub stage : new.stage ≡ old.stage
-  pub filled : new.filled ≡ old.filled ++ take used piece
-  pub all : used + 1 ≤ length piece → TakesNothing new
-  pub full : TakesNothing old → used ≡ 0
-  pub early : (k : ℕ) → k + 1 ≤ used → IsRest old.limit old.stage (old.filled ++ take k piece)
+-- So many bytes of the unit that is due are asked for next; none once the connection is over, which comes first here.
+abbrev pub AsksIf : Bool → SplitterState → ℕ → Type 0
+AsksIf true input n = n ≡ 0
+AsksIf false input n = Asks input n
+
+abbrev pub AsksFor : EndpointState → ℕ → Type 0
+AsksFor s n = AsksIf (is_dead s.connection.phase) s.input n
+
+-- so many bytes may have been read: none, or at most as many as are asked for
+abbrev pub MayRead : EndpointState → ℕ → Type 0
+MayRead s n = (n ≡ 0) ⊎ ((m : ℕ) × AsksFor s m × (n ≤ m))
 
 -- Acting upon a unit. -------------------------------------------------------------------------------------------------
 

@@ -1,6 +1,6 @@
 //! The receiving endpoint of one connection.
-ghost use Rattle.std.specs.Prelude.{◌≡◌, ℕ, ◌+◌, ◌≤◌, ◌++◌, ◌^◌, ◌<◌, min, length, take, drop, true, false, Some, None, option_map, IfOk, OnOk, IfErr};
-ghost use Rattle.amqp_frame.specs.Splits.{IsOver};
+ghost use Rattle.std.specs.Prelude.{◌≡◌, ◌↔◌, [], IsTrue, ℕ, List, slice_index, ◌+◌, ◌≤◌, ◌++◌, ◌^◌, ◌<◌, min, length, take, drop, true, false, Some, None, option_map, IfOk, OnOk, IfErr};
+ghost use Rattle.amqp_frame.specs.Splits.{IsOver, TakesNothing};
 ghost use Rattle.amqp_frame.specs.declared.units.Stage.{Stage};
 ghost use Rattle.amqp_session.specs.Calls.{Widen, Grant, Drain, Take, Settle, Detach};
 ghost use Rattle.amqp_session.specs.Places.{live_in};
@@ -9,7 +9,9 @@ ghost use Rattle.amqp_endpoint.specs.Connections.{slot_at, is_dead};
 ghost use Rattle.amqp_endpoint.specs.Endpoints.{HasActed, IsLinkAt, accepted_by, dropped_by, handed_by};
 ghost use Rattle.amqp_endpoint.specs.Held.{held};
 ghost use Rattle.amqp_endpoint.specs.Runs.{IsStart, IsMoved, IsFinished, CallDone, CloseDone, BeatDone, end_of};
-ghost use Rattle.amqp_endpoint.specs.Steps.{Comes, IsFed, told_outcome};
+ghost use Rattle.amqp_endpoint.specs.Steps.{AsksFor, MayRead, Comes, IsFed, told_outcome};
+ghost use Rattle.amqp_endpoint.specs.RoomLending.{LendsRoom};
+ghost use Rattle.std.specs.Borrow.{sem};
 
 use crate::config::Config;
 use crate::connection::Connection;
@@ -101,11 +103,53 @@ impl<A: Allocator + Copy> Endpoint<A> {
         Fed { used, outcome }
     }
 
+    /// Lends the room that the next bytes of the peer are read into, so that a reader fills it: what is left of the
+    /// eight bytes of the header; of a frame what is left of the four of SIZE, then of the eight of its header, then of
+    /// SIZE [2.2, 2.3.1]. It is empty while a unit waits, and once the connection is over.
+    pub fn spare(&mut self) -> &mut [u8]
+        ensures* writes_back { sem 𝓛 (LendsRoom A.row A.Allocator self.entry result) }
+        ensures asks { AsksFor self.old (length result.now) }
+        ensures none { length result.now ≡ 0 → is_dead self.old.connection.phase ≡ false → TakesNothing self.old.input }
+        ensures value { result.now ≡ take (length result.now) self.old.input.spare }
+    {
+        let asked = if self.is_over() {
+            0
+        } else {
+            self.input.wants()
+        };
+        self.input.spare_front(asked)
+    }
+
+    /// Takes the first `n` bytes of the room that [`Endpoint::spare`] lends, and acts upon the unit that is then whole,
+    /// as [`Endpoint::feed`] does with a piece of them. So it tries again what was refused, also where `n` is 0.
+    pub fn filled(&mut self, n: usize) -> Fed
+        requires { MayRead self.old n }
+        ensures used { result.used ≡ n }
+        ensures fed { IsFed self.old self.new (take n self.old.input.spare) n result.outcome }
+    {
+        if self.is_over() {
+            return Fed {
+                used: n,
+                outcome: Outcome::Dead,
+            };
+        }
+        self.input.filled(n);
+        let outcome = self.act();
+        Fed { used: n, outcome }
+    }
+
     /// A law: the buffer has room for the eight bytes of a header [2.2].
     pub fn holds_a_header(&self)
         ensures { 8 ≤ self.now.input.limit }
     {
         let _ = &self.input; // what is known of every endpoint
+    }
+
+    /// A law: what stands in the room that is lent are bytes.
+    pub fn spare_is_bytes(&self)
+        ensures { (i : ℕ) → slice_index self.now.input.spare i < 256 }
+    {
+        self.input.spare_is_bytes();
     }
 
     /// Acts upon the unit that waits, if one does.
@@ -122,6 +166,23 @@ impl<A: Allocator + Copy> Endpoint<A> {
             Acted::Blocked => Outcome::Blocked,
             Acted::NoMemory => Outcome::NoMemory,
         }
+    }
+
+    /// The first bytes that wait to be sent, as many as lie in one piece: some, where some wait.
+    pub fn unsent_front(&self) -> &[u8]
+        ensures front { (behind : List ℕ) × (self.now.unsent ≡ result.now ++ behind) }
+        ensures some { 0 < length self.now.unsent → 0 < length result.now }
+    {
+        self.out.front()
+    }
+
+    /// Drops the first `n` bytes that wait to be sent, which were written.
+    pub fn sent(&mut self, n: usize)
+        requires { n ≤ length self.old.unsent }
+        ensures new { self.new ≡ record self.old { unsent = drop n self.old.unsent } }
+        ensures moved { IsMoved self.old self.new n (take n self.old.unsent) }
+    {
+        self.out.drop_front(n);
     }
 
     /// Moves the first bytes that wait to be sent into `out`, as many as it holds, and answers how many.
@@ -162,6 +223,13 @@ impl<A: Allocator + Copy> Endpoint<A> {
         ensures stage { IsOver self.now.input.stage → result ≡ true }
     {
         matches!(self.connection.phase(), Phase::Dead)
+    }
+
+    /// Whether no byte waits in the buffer: all that was fed was acted upon.
+    pub fn is_between(&self) -> bool
+        ensures { IsTrue result ↔ (self.now.input.filled ≡ []) }
+    {
+        self.input.is_empty()
     }
 
     /// The bytes that count as held: those in the buffer for a frame, those that wait to be sent, and for each

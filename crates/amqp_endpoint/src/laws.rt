@@ -29,7 +29,8 @@ ghost use Rattle.std.specs.List.{flat_map};
 ghost use Rattle.amqp_endpoint.specs.declared.event.End.{End};
 ghost use Rattle.amqp_endpoint.specs.declared.event.Event.TheVariants as told;
 ghost use Rattle.amqp_endpoint.specs.declared.event.Outcome.TheVariants as outcome;
-ghost use Rattle.amqp_endpoint.specs.Steps.{EndpointState, IsFed};
+ghost use Rattle.amqp_endpoint.specs.Steps.{EndpointState, IsKept, IsFed};
+ghost use Rattle.amqp_endpoint.specs.declared.event.Outcome.{Outcome};
 ghost use Rattle.amqp_endpoint.specs.Takings.{lives, taken_in, link_at, link_part, last_part, past_in, HasNoneReady};
 ghost use Rattle.amqp_endpoint.specs.Traces.{IsInRange, AreInRange, IsWholeRun, failure_in, told_by};
 ghost use Rattle.amqp_endpoint.specs.Uses.{granted_over, messages_over, held_by_any, IsUsed, IsAccepted};
@@ -211,6 +212,13 @@ pub fn what_follows_is_accepted()
     connection_goes_on();
     runs_have_a_history();
 }
+
+/// What stands in the buffer's room before a feed counts for nothing: what was read into it and then taken is fed as a
+/// piece of it would have been before [2.3.1].
+#[tactic(auto, using(crate::proofs::Fills::fed_read))]
+pub fn fills_are_feeds()
+    ensures { (s read new : EndpointState) (piece : List ℕ) (used : ℕ) (o : Outcome) → IsKept s read → IsFed read new piece used o → Does s new (runs.Feed piece) (runs.Fed used o) }
+{}
 
 /// Each byte of a piece in hand is a byte.
 pub fn are_bytes(piece: &[u8])

@@ -1,5 +1,5 @@
 //! What waits to be moved out.
-ghost use Rattle.std.specs.Prelude.{◌≡◌, ◌≤◌, ◌+◌, ◌++◌, ◌↔◌, [], min, length, take, drop, IfOk, IsTrue};
+ghost use Rattle.std.specs.Prelude.{◌≡◌, ◌<◌, ◌≤◌, ◌+◌, ◌++◌, ◌↔◌, ℕ, List, [], min, length, take, drop, IfOk, IsTrue};
 ghost use Rattle.amqp_perform.specs.declared.performative.Performative.TheVariants as performative;
 ghost use Rattle.amqp_perform.specs.Said.{said, said_frame};
 ghost use Rattle.amqp_session.specs.Frames.{attaching, attach_said};
@@ -147,6 +147,24 @@ impl<A: Allocator + Copy> Output<A> {
         ensures { self.new ≡ self.old ++ heartbeat }
     {
         self.pipe.fill_from_slice(HEARTBEAT.as_slice());
+    }
+
+    /// The first bytes that wait, as many as lie in one piece: some, where some wait.
+    pub fn front(&self) -> &[u8]
+        ensures front { (behind : List ℕ) × (self.now ≡ result.now ++ behind) }
+        ensures some { 0 < length self.now → 0 < length result.now }
+    {
+        let (front, behind) = self.pipe.as_slices();
+        if front.is_empty() { behind } else { front }
+    }
+
+    /// Drops the first `n` of them.
+    pub fn drop_front(&mut self, n: usize)
+        requires { n ≤ length self.old }
+        ensures { self.new ≡ drop n self.old }
+    {
+        let left = self.pipe.len() - n;
+        self.pipe.truncate_front(left);
     }
 
     /// Moves the first bytes that wait into `out`, as many as it holds, and answers how many.

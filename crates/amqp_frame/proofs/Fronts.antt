@@ -1,12 +1,13 @@
 -- Which unit stands at the front of some bytes: there is at most one.
-use Rattle.std.proofs.Common.{◌≡◌, ℕ, ◌+◌, ◌-◌, ◌*◌, ◌<◌, ◌≤◌, ◌⊎◌, cond, ◌||◌, ltb, List, [], ◌∷◌, ◌++◌, length, take, drop, Option, Some, None, inl, inr, refl, sym, ap, ◌∙◌, subst, arith}
+use Rattle.std.specs.Prelude.{nat_lt, if◌then◌else◌}
+use Rattle.std.proofs.Common.{◌≡◌, ℕ, ◌+◌, ◌-◌, ◌*◌, ◌<◌, ◌≤◌, ◌⊎◌, Bool, cond, ◌||◌, ltb, List, [], ◌∷◌, ◌++◌, length, take, drop, Option, Some, None, inl, inr, refl, sym, ap, ◌∙◌, subst, arith}
 use Rattle.std.proofs.Math.Seq.{take-append_seam, take-add, take-length}
-use Rattle.std.proofs.lemmas.Bool.{cases_lt}
+use Rattle.std.proofs.lemmas.Bool.{cases_lt, lt-ltb, le-ltb}
 use Rattle.std.proofs.lemmas.Bool.Decides.{nat_tests}
 use Rattle.std.proofs.lemmas.List.{length-append, length-take, length-drop, length-take-le, take-append-drop, get_or_append_left, append_cancel_left, append_assoc, append-nil}
 use Rattle.byteorder.specs.Numbers.{big_from-append}
 use Rattle.amqp_frame.specs.Units.{StreamUnit, HeaderUnit, FrameUnit, FaultUnit, bytes_of, due_after, IsUnit, IsFault, IsFrame, IsSized, IsPlaced, IsRest, size_of, offset_of, type_of}
-use Rattle.amqp_frame.specs.Splits.{SplitterState, Waits, IsOne, IsHeld, IsJudged, IsSound, IsOver, Stands, IsProgress, IsWanted, IsWholeIn, IsNext}
+use Rattle.amqp_frame.specs.Splits.{SplitterState, Waits, IsOne, IsHeld, IsJudged, IsSound, IsOver, Stands, IsProgress, IsWanted, IsWholeIn, IsNext, IsTaken, IsAsked, MayCome, frame_asks}
 use Rattle.amqp_frame.specs.declared.units.FrameFault.{FrameFault}
 use Rattle.amqp_frame.specs.declared.units.FrameFault.TheVariants.{TooSmall, TooLarge, BadOffset, BadType}
 use Rattle.amqp_frame.specs.declared.units.Progress.{Progress}
@@ -369,23 +370,43 @@ held_front max stage s u more m (inr o) h e =
     o.stands.whole ∙ ap bytes_of (sym same.0)
 
 -- so many bytes are wanted where each unit that begins these and more has n bytes
-wanted_to : (max n : ℕ) (s : List ℕ) → n ≤ max → length s < n → BeginsWith max Frames s n → ((more : List ℕ) → BeginsWith max Frames (s ++ more) n) → IsProgress max s (Wants (n - length s))
-wanted_to max n s m l here beyond = (
+wanted_to : (max n : ℕ) (s : List ℕ) → n ≤ max → length s < n → BeginsWith max Frames s n → ((more : List ℕ) → BeginsWith max Frames (s ++ more) n) → n - length s ≡ frame_asks s →
+    IsProgress max s (Wants (n - length s))
+wanted_to max n s m l here beyond asked = (
   omega arith,
   rest_below max Frames s n here l,
   record {
     fits = omega arith;
     held = λ more h. part_upto max Frames (s ++ more) n (beyond more) (omega (arith, length-append s more));
   },
+  asked,
 )
+
+-- below four bytes the rest of SIZE is asked for, below eight that of the header, and then that of the frame
+asks_size : (s : List ℕ) → length s < 4 → 4 - length s ≡ frame_asks s
+asks_size s l = sym (ap (λ (b : Bool). if b then 4 - length s else (if nat_lt (length s) 8 then 8 - length s else size_of s - length s)) (lt-ltb (length s) 4 l))
+
+asks_header : (s : List ℕ) → 4 ≤ length s → length s < 8 → 8 - length s ≡ frame_asks s
+asks_header s f l =
+    sym (
+    ap (λ (b : Bool). if b then 4 - length s else (if nat_lt (length s) 8 then 8 - length s else size_of s - length s)) (le-ltb (length s) 4 f)
+    ∙ ap (λ (b : Bool). if b then 8 - length s else size_of s - length s) (lt-ltb (length s) 8 l)
+    )
+
+asks_body : (s : List ℕ) → 8 ≤ length s → size_of s - length s ≡ frame_asks s
+asks_body s f =
+    sym (
+    ap (λ (b : Bool). if b then 4 - length s else (if nat_lt (length s) 8 then 8 - length s else size_of s - length s)) (le-ltb (length s) 4 (omega (arith, f)))
+    ∙ ap (λ (b : Bool). if b then 8 - length s else size_of s - length s) (le-ltb (length s) 8 f)
+    )
 
 -- below four bytes the rest of SIZE is wanted
 pub wants_size : (max : ℕ) (s : List ℕ) → 8 ≤ max → length s < 4 → IsProgress max s (Wants (4 - length s))
-wants_size max s m l = wanted_to max 4 s (omega arith) l (frame_least max s) (λ more. frame_least max (s ++ more))
+wants_size max s m l = wanted_to max 4 s (omega arith) l (frame_least max s) (λ more. frame_least max (s ++ more)) (asks_size s l)
 
 -- below eight the rest of the frame's header
 pub wants_header : (max : ℕ) (s : List ℕ) → 8 ≤ max → 4 ≤ length s → length s < 8 → IsSized max s → IsProgress max s (Wants (8 - length s))
-wants_header max s m f l z = wanted_to max 8 s m l (sized_least max s z) (λ more. sized_least max (s ++ more) (sized-append max s more f z))
+wants_header max s m f l z = wanted_to max 8 s m l (sized_least max s z) (λ more. sized_least max (s ++ more) (sized-append max s more f z)) (asks_header s f l)
 
 -- and then the rest of the frame
 pub wants_body : (max : ℕ) (s : List ℕ) → 8 ≤ length s → length s < size_of s → IsLawful max s → IsProgress max s (Wants (size_of s - length s))
@@ -393,6 +414,7 @@ wants_body max s f l z =
     wanted_to max (size_of s) s (omega arith) l (lawful_least max s z) (λ more.
     let P : ℕ → Type 0 = λ n. BeginsWith max Frames (s ++ more) n in
     subst P (size-append s more (omega arith)) (lawful_least max (s ++ more) (lawful-append max s more f z)))
+    (asks_body s f)
 
 -- what is held is a unit, where one begins it
 held_unit : (max : ℕ) (s : List ℕ) (n : ℕ) (f : FrameFault) → 8 ≤ max → IsHeld max Frames s → IsUnit max Frames (FaultUnit f (take n s)) → IsProgress max s (Fails f)
@@ -610,3 +632,86 @@ waits_or_not s least =
       | inl r ↦ inr (λ u w. r.none u [] w.is (w.whole ∙ sym (append-nil (bytes_of u))))
       | inr f ↦ front_waits s least f.unit f.more f.is f.joined
     ]
+
+-- What is asked for. ------------------------------------------------------------------------------------------------------
+
+-- less than a unit is none
+not_one : (max : ℕ) (stage : Stage) (s : List ℕ) → IsRest max stage s → IsOne max stage s → ⊥
+not_one max stage s r o = r.none o.unit [] o.stands.is (o.stands.whole ∙ sym (append-nil (bytes_of o.unit)))
+
+-- of a header what is left of eight bytes
+pub asked_header : (max : ℕ) (s : List ℕ) → IsAsked max Header s (8 - length s)
+asked_header max s = record {
+  none = λ o. let q = header_exact max o.unit o.stands.is in let e = ap length o.stands.whole in omega (arith, q, e);
+  some = λ none. refl;
+}
+
+-- of a frame what its progress says
+pub asked_more : (max : ℕ) (s : List ℕ) (n : ℕ) → IsProgress max s (Wants n) → IsAsked max Frames s n
+asked_more max s n p = record { none = λ o. absurd (not_one max Frames s p.1 o); some = λ none. p.3 }
+
+-- nothing where a unit waits
+pub asked_none : (max : ℕ) (stage : Stage) (s : List ℕ) → IsOne max stage s → IsAsked max stage s 0
+asked_none max stage s o = record { none = λ one. refl; some = λ none. absurd (none o) }
+
+-- and nothing once it is over
+pub asked_over : (max : ℕ) (stage : Stage) (s : List ℕ) → IsOver stage → IsAsked max stage s 0
+asked_over max Header s o = absurd o
+asked_over max Frames s o = absurd o
+asked_over max Refused s o = record { none = λ one. refl; some = λ none. refl }
+asked_over max (Faulty f) s o = record { none = λ one. refl; some = λ none. refl }
+
+-- what is asked for of a header may come
+asked_of_header : (max : ℕ) (s : List ℕ) (n : ℕ) → 8 ≤ max → IsHeld max Header s → IsAsked max Header s n → IsRest max Header s ⊎ IsOne max Header s → IsWanted max Header s n
+asked_of_header max s n m held a (inl r) = subst (λ (k : ℕ). IsWanted max Header s k) (sym (a.some (not_one max Header s r))) (wants_eight max s m held)
+asked_of_header max s n m held a (inr o) =
+    subst (λ (k : ℕ). IsWanted max Header s k) (sym (a.none o)) (wants_none max Header s (let l = header_upto max s held in omega (arith, l, m)) held)
+
+-- what is asked for may come
+pub asked_wanted : (max : ℕ) (stage : Stage) (s : List ℕ) (p : Progress) (n : ℕ) → 8 ≤ max → IsHeld max stage s → IsJudged max stage s p → IsAsked max stage s n → IsWanted max stage s n
+asked_wanted max Header s p n m held j a =
+    asked_of_header max s n m held a held
+asked_wanted max Frames s (Wants k) n m held j a = subst (λ (i : ℕ). IsWanted max Frames s i) (j.3 ∙ sym (a.some (not_one max Frames s j.1))) j.2
+asked_wanted max Frames s Whole n m held j a =
+    let known = judged max s Whole m j (inl refl) in subst (λ (i : ℕ). IsWanted max Frames s i) (sym (a.none known.1)) (wants_none max Frames s known.0 held)
+asked_wanted max Frames s (Fails f) n m held j a =
+    let known = judged max s (Fails f) m j (inr (f, refl)) in subst (λ (i : ℕ). IsWanted max Frames s i) (sym (a.none known.1)) (wants_none max Frames s known.0 held)
+asked_wanted max Refused s p n m held j a =
+    let l = ap length held in subst (λ (i : ℕ). IsWanted max Refused s i) (sym (a.some (λ o. o.stands.is))) (wants_none max Refused s (omega (arith, l)) held)
+asked_wanted max (Faulty f) s p n m held j a =
+    let l = ap length held in subst (λ (i : ℕ). IsWanted max (Faulty f) s i) (sym (a.some (λ o. o.stands.is))) (wants_none max (Faulty f) s (omega (arith, l)) held)
+
+-- as many as may come find room behind what is held, and are held there
+pub room_filled : (s : SplitterState) (p : Progress) (n : ℕ) → IsSound s.limit s.stage s.filled (length s.filled + length s.spare) p → MayCome s n →
+    (n ≤ length s.spare) × IsHeld s.limit s.stage (s.filled ++ take n s.spare)
+room_filled s p n sound (inl none) =
+    (omega (arith, none), subst (λ (k : ℕ). IsHeld s.limit s.stage (s.filled ++ take k s.spare)) (sym none) (subst (λ (w : List ℕ). IsHeld s.limit s.stage w) (sym (append-nil s.filled)) sound.held))
+room_filled s p n sound (inr asked) =
+    let wanted = asked_wanted s.limit s.stage s.filled p asked.0 sound.least sound.held sound.judged asked.1 in
+    let room : n ≤ length s.spare = let fits = wanted.fits in let reserved = sound.room in let most = asked.2 in omega (arith, fits, reserved, most) in
+    let long = length-take-le n s.spare room in
+    (room, wanted.held (take n s.spare) (let most = asked.2 in omega (arith, long, most)))
+
+-- then all of it is taken, as of a piece
+pub room_taken : (old new : SplitterState) (n : ℕ) → 8 ≤ old.limit → n ≤ length old.spare → IsHeld old.limit old.stage (old.filled ++ take n old.spare) →
+    new.limit ≡ old.limit → new.stage ≡ old.stage → new.filled ≡ old.filled ++ take n old.spare → IsTaken old new (take n old.spare) n
+room_taken old new n least room held limit stage filled =
+    let long = length-take-le n old.spare room in
+    let same : take n (take n old.spare) ≡ take n old.spare = ap (λ (k : ℕ). take k (take n old.spare)) (sym long) ∙ take-length (take n old.spare) in
+    let whole : IsHeld old.limit old.stage (old.filled ++ take n (take n old.spare)) = subst (λ (w : List ℕ). IsHeld old.limit old.stage (old.filled ++ w)) (sym same) held in
+    record {
+      bound = omega (arith, long);
+      limit = limit;
+      stage = stage;
+      filled = filled ∙ ap (λ (w : List ℕ). old.filled ++ w) (sym same);
+      all = λ h. absurd (omega (arith, h, long));
+      full = none_taken old.limit old.stage old.filled (take n old.spare) n least whole (omega (arith, long));
+      early = λ k h. rest_early old.limit old.stage old.filled (take n old.spare) n k least whole (omega (arith, long)) (omega (arith, h));
+    }
+
+-- where no frame is due nothing is judged
+pub judged_other : (max : ℕ) (stage : Stage) (s : List ℕ) (p : Progress) → (stage ≡ Frames → ⊥) → IsJudged max stage s p
+judged_other max Header s p other = tt
+judged_other max Frames s p other = absurd (other refl)
+judged_other max Refused s p other = tt
+judged_other max (Faulty f) s p other = tt

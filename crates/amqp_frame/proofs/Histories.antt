@@ -43,3 +43,13 @@ no_frame s e r = record {
   faults = λ fault bytes w. r.none (FaultUnit fault bytes) [] w.is (w.whole ∙ sym (append-nil bytes));
   over = λ fault h. let no : Faulty fault ≡ Frames = sym h ∙ e in cc;
 }
+
+-- more bytes came of the unit that is due
+pub more_came : (old new : SplitterState) (us : List StreamUnit) (taken more : List ℕ) → new.limit ≡ old.limit → new.stage ≡ old.stage → new.filled ≡ old.filled ++ more → WentBy old us taken →
+    WentBy new us (taken ++ more)
+more_came old new us taken more limit stage filled w = record {
+  joined =
+      ap (λ (x : List ℕ). x ++ more) w.joined ∙ append_assoc (flat_map bytes_of us) old.filled more ∙ ap (λ (x : List ℕ). flat_map bytes_of us ++ x) (sym filled);
+  each = rw limit w.each;
+  due = stage ∙ w.due;
+}

@@ -2,3 +2,4 @@ pub mod Fronts
 pub mod Histories
 pub mod Readings
 pub mod Results
+pub mod Overs

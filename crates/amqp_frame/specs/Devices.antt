@@ -1,7 +1,16 @@
 -- What a marked reader or writer shows.
-use Rattle.std.specs.Prelude.{ℕ, ◌+◌, ◌++◌, ◌≡◌, Bool, List, Option, if◌then◌else◌}
+use Rattle.std.specs.Prelude.{ℕ, ◌+◌, ◌++◌, ◌≡◌, Bool, List, Option, if◌then◌else◌, nat_lt, length}
 use Rattle.std.specs.Io.KnownBytes.{Appends}
 use Rattle.amqp_frame.specs.declared.device.Device.{Device}
+use Rattle.amqp_frame.specs.declared.device.Direct.{Direct}
+
+-- there are some
+abbrev pub has_any : List ℕ → Bool
+has_any bytes = nat_lt 0 (length bytes)
+
+-- the reader or writer itself
+abbrev pub direct_inner : {T : Type 0} → Direct T → T
+direct_inner d = d.inner
 
 module _ {T : Type 0} where
   -- the reader or writer itself
@@ -29,7 +38,7 @@ module _ {T : Type 0} where
   reads_ahead d = if d.ended then 0 else d.reads_left + 1
 
 -- a front of the bytes was put behind what was held
-pub record IsPart (held now : Option (List ℕ)) (bytes : List ℕ) : Type 0 where
+pub record AppendsFront (held now : Option (List ℕ)) (bytes : List ℕ) : Type 0 where
   pub front : List ℕ
   pub behind : List ℕ
   pub written : Appends held now front

@@ -1,7 +1,7 @@
 -- What a splitter holds, what it answers, and which units went by before it.
-use Rattle.std.specs.Prelude.{◌≡◌, ℕ, ◌+◌, ◌<◌, ◌≤◌, ◌⊎◌, List, [], ◌++◌, length, take, Option, Some, None, Result, Ok, Err}
+use Rattle.std.specs.Prelude.{◌≡◌, ℕ, ◌+◌, ◌-◌, ◌<◌, ◌≤◌, ◌⊎◌, nat_lt, if◌then◌else◌, List, [], ◌++◌, length, take, Option, Some, None, Result, Ok, Err}
 use Rattle.std.specs.List.{flat_map}
-use Rattle.amqp_frame.specs.Units.{StreamUnit, FrameUnit, FaultUnit, bytes_of, IsUnit, IsFrame, IsRest, AreUnits, due_after, due_behind, channel_of, body_of}
+use Rattle.amqp_frame.specs.Units.{StreamUnit, FrameUnit, FaultUnit, bytes_of, size_of, IsUnit, IsFrame, IsRest, AreUnits, due_after, due_behind, channel_of, body_of}
 use Rattle.amqp_frame.specs.declared.units.Frame.{Frame}
 use Rattle.amqp_frame.specs.declared.units.FrameFault.{FrameFault}
 use Rattle.amqp_frame.specs.declared.units.Progress.{Progress}
@@ -38,9 +38,20 @@ pub record IsWanted (max : ℕ) (stage : Stage) (bytes : List ℕ) (wanted : ℕ
   pub fits : length bytes + wanted ≤ max
   pub held : (more : List ℕ) → length more ≤ wanted → IsHeld max stage (bytes ++ more)
 
+-- What is asked for next, where less than a frame came: what is left of SIZE's four bytes, then of the eight of the frame's header, then of SIZE. [2.3.1]
+abbrev pub frame_asks : List ℕ → ℕ
+frame_asks bytes = if nat_lt (length bytes) 4 then 4 - length bytes else (if nat_lt (length bytes) 8 then 8 - length bytes else size_of bytes - length bytes)
+
+-- the same of the unit that is due: of a header what is left of its eight bytes [2.2]
+abbrev pub asks : Stage → List ℕ → ℕ
+asks Header bytes = 8 - length bytes
+asks Frames bytes = frame_asks bytes
+asks Refused bytes = 0
+asks (Faulty fault) bytes = 0
+
 -- how far a frame has come
 abbrev pub IsProgress : ℕ → List ℕ → Progress → Type 0
-IsProgress max bytes (Wants wanted) = (0 < wanted) × IsRest max Frames bytes × IsWanted max Frames bytes wanted
+IsProgress max bytes (Wants wanted) = (0 < wanted) × IsRest max Frames bytes × IsWanted max Frames bytes wanted × (wanted ≡ frame_asks bytes)
 IsProgress max bytes Whole = IsUnit max Frames (FrameUnit bytes)
 IsProgress max bytes (Fails fault) = IsUnit max Frames (FaultUnit fault bytes)
 
@@ -59,12 +70,12 @@ abbrev pub IsNext : ℕ → Stage → List ℕ → Option Stage → Type 0
 IsNext max stage bytes None = IsOne max stage bytes → ⊥
 IsNext max stage bytes (Some next) = (u : StreamUnit) × Stands max stage bytes u × (next ≡ due_after u)
 
--- The largest frame accepted, what is due, the bytes that came of it, and how many bytes are reserved.
+-- The largest frame accepted, what is due, the bytes that came of it, and the bytes of the buffer behind them, which say nothing.
 pub record SplitterState : Type 0 where
   pub limit : ℕ
   pub stage : Stage
   pub filled : List ℕ
-  pub room : ℕ
+  pub spare : List ℕ
 
 -- how far the frame has come, where one is due
 abbrev pub IsJudged : ℕ → Stage → List ℕ → Progress → Type 0
@@ -105,6 +116,29 @@ pub record IsEmptied (old new : SplitterState) (due : Stage) : Type 0 where
   pub limit : new.limit ≡ old.limit
   pub stage : new.stage ≡ due
   pub filled : new.filled ≡ []
+
+-- so many bytes are asked for next: none where a unit waits
+pub record IsAsked (max : ℕ) (stage : Stage) (bytes : List ℕ) (n : ℕ) : Type 0 where
+  pub none : IsOne max stage bytes → n ≡ 0
+  pub some : (IsOne max stage bytes → ⊥) → n ≡ asks stage bytes
+
+-- the same of a splitter
+abbrev pub Asks : SplitterState → ℕ → Type 0
+Asks s n = IsAsked s.limit s.stage s.filled n
+
+-- so many bytes may come next: none, or at most as many as are asked for
+abbrev pub MayCome : SplitterState → ℕ → Type 0
+MayCome s n = (n ≡ 0) ⊎ ((m : ℕ) × Asks s m × (n ≤ m))
+
+-- What of a piece is taken: nothing where a unit waits or no more is taken; else all, or up to the end of the unit that is due. No byte is taken that a unit does not want.
+pub record IsTaken (old new : SplitterState) (piece : List ℕ) (used : ℕ) : Type 0 where
+  pub bound : used ≤ length piece
+  pub limit : new.limit ≡ old.limit
+  pub stage : new.stage ≡ old.stage
+  pub filled : new.filled ≡ old.filled ++ take used piece
+  pub all : used + 1 ≤ length piece → TakesNothing new
+  pub full : TakesNothing old → used ≡ 0
+  pub early : (k : ℕ) → k + 1 ≤ used → IsRest old.limit old.stage (old.filled ++ take k piece)
 
 -- neither a frame nor a fault waits, and no fault went by
 pub record HasNoFrame (s : SplitterState) : Type 0 where

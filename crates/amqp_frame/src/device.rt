@@ -1,9 +1,116 @@
 //! A reader or a writer that keeps its first failure.
-ghost use Rattle.std.specs.Prelude.{◌≡◌, ◌+◌, ◌-◌, ◌^◌, ◌<◌, ◌≤◌, ◌↔◌, true, false, length, take, IfOk, IsErr, IsTrue, MatchResult, Err, Ok, OnErr, OnOk};
+ghost use Rattle.std.specs.Prelude.{◌≡◌, ℕ, Bool, ◌+◌, ◌-◌, ◌^◌, ◌<◌, ◌≤◌, ◌↔◌, true, false, length, take, IfOk, IsErr, IsTrue, MatchResult, Err, Ok, OnErr, OnOk};
 ghost use Rattle.std.specs.Io.KnownBytes.{IsAtEnd, Appends, Consumes, Keeps, WriteAppends};
-ghost use Rattle.amqp_frame.specs.Devices.{device_inner, has_failed, has_ended, is_flushed, reads_left, reads_ahead, IsPart};
+ghost use Rattle.std.specs.Io.Buffered.{reader_buffer, writer_buffer, writer_capacity};
+ghost use Rattle.amqp_frame.specs.Devices.{has_any, direct_inner, device_inner, has_failed, has_ended, is_flushed, reads_left, reads_ahead, AppendsFront};
 
-use std::io::{self, ErrorKind, Read, Write};
+use std::alloc::Allocator;
+use std::io::{self, BufReader, BufWriter, ErrorKind, Read, Write};
+
+/// A reader that may know of bytes that stand ready, so that the next read doesn't wait for its peer.
+pub trait AtHand {
+    // whether it knows of some
+    ghost has_some: { Self → Bool };
+
+    /// Whether it knows of some. False is always right.
+    fn at_hand(&self) -> bool
+        ensures { result ≡ has_some self.now };
+}
+
+impl<R: Read, A: Allocator> AtHand for BufReader<R, A> {
+    ghost has_some = { λ r. has_any (reader_buffer r) };
+
+    fn at_hand(&self) -> bool {
+        !self.buffer().is_empty()
+    }
+}
+
+impl AtHand for &[u8] {
+    ghost has_some = { λ r. has_any r.now };
+
+    fn at_hand(&self) -> bool {
+        !self.is_empty()
+    }
+}
+
+/// A writer that may know how many bytes it keeps to itself before it passes any on.
+pub trait HoldsBack {
+    // how many more it keeps
+    ghost room: { Self → ℕ };
+
+    /// How many more it keeps. 0 is always right.
+    fn holds_back(&self) -> usize
+        ensures { result ≡ room self.now };
+}
+
+impl<W: Write + Drop, A: Allocator> HoldsBack for BufWriter<W, A> {
+    ghost room = { λ w. writer_capacity w - length (writer_buffer w) - 1 };
+
+    // A write that fills the buffer is passed on.
+    fn holds_back(&self) -> usize {
+        self.capacity()
+            .saturating_sub(self.buffer().len())
+            .saturating_sub(1)
+    }
+}
+
+/// A reader or a writer that can't say what it keeps: it knows of no bytes at hand, and promises to hold none back.
+#[derive(Drop)]
+pub struct Direct<T> {
+    inner: T,
+}
+
+impl<T> Direct<T> {
+    /// This one.
+    pub fn new(inner: T) -> Self
+        ensures { direct_inner result ≡ inner }
+    {
+        Direct { inner }
+    }
+
+    /// The reader or writer itself.
+    pub fn into_inner(self) -> T
+        ensures { result ≡ direct_inner self }
+    {
+        self.inner
+    }
+}
+
+impl<T> AtHand for Direct<T> {
+    ghost has_some = { λ _. false };
+
+    fn at_hand(&self) -> bool {
+        false
+    }
+}
+
+impl<T> HoldsBack for Direct<T> {
+    ghost room = { λ _. 0 };
+
+    fn holds_back(&self) -> usize {
+        0
+    }
+}
+
+impl<R: Read> Read for Direct<R> {
+    ghost remaining = { λ r. R.remaining (direct_inner r) };
+
+    fn read(&mut self, buf: &mut [u8]) -> io::Result<usize> {
+        self.inner.read(buf)
+    }
+}
+
+impl<W: Write> Write for Direct<W> {
+    ghost contents = { λ w. W.contents (direct_inner w) };
+
+    fn write(&mut self, buf: &[u8]) -> io::Result<usize> {
+        self.inner.write(buf)
+    }
+
+    fn flush(&mut self) -> io::Result<()> {
+        self.inner.flush()
+    }
+}
 
 /// A reader or a writer that is marked by its first failure, and only fails from then on. As a
 /// reader it ends where a read into some room gave nothing, and unasked after `2^64 - 1` reads.
@@ -132,6 +239,24 @@ impl<R: Read> Device<R> {
     }
 }
 
+impl<R: AtHand> Device<R> {
+    /// Whether its reader knows of bytes at hand.
+    pub fn at_hand(&self) -> bool
+        ensures { result ≡ R.has_some (device_inner self.now) }
+    {
+        self.inner.at_hand()
+    }
+}
+
+impl<W: HoldsBack> Device<W> {
+    /// How many more bytes its writer keeps to itself before it passes any on.
+    pub fn holds_back(&self) -> usize
+        ensures { result ≡ W.room (device_inner self.now) }
+    {
+        self.inner.holds_back()
+    }
+}
+
 impl<W: Write> Device<W> {
     /// Writes bytes from the front of `buf`, and answers how many, at least one of some. The first
     /// error of the writer marks it, and so does a write that takes none of some bytes. Once marked
@@ -164,12 +289,12 @@ impl<W: Write> Device<W> {
     }
 
     /// Writes all of `buf`, in as many writes as that takes. The first of them that fails marks it, as
-    /// does one that takes nothing; none is asked behind that, and what was written is the front of
-    /// `buf`. Once marked it answers an error without asking the writer.
+    /// does one that takes nothing; none is asked behind that, and what was written is a front of `buf`.
+    /// Once marked it answers an error without asking the writer.
     pub fn write_all(&mut self, buf: &[u8]) -> io::Result<()>
         ensures marked { IsErr result ↔ IsTrue (has_failed self.new) }
         ensures written { OnOk result (Appends (W.contents (device_inner self.old)) (W.contents (device_inner self.new)) buf.now) }
-        ensures begun { OnErr result (IsPart (W.contents (device_inner self.old)) (W.contents (device_inner self.new)) buf.now) }
+        ensures begun { OnErr result (AppendsFront (W.contents (device_inner self.old)) (W.contents (device_inner self.new)) buf.now) }
         ensures unflushed { 0 < length buf.now → OnOk result (is_flushed self.new ≡ false) }
         ensures ended { has_ended self.new ≡ has_ended self.old }
         ensures reads { reads_left self.new ≡ reads_left self.old }
@@ -187,7 +312,8 @@ impl<W: Write> Device<W> {
     }
 
     /// Flushes the writer, so that nothing of what it took waits in it. Its first error marks it. Once
-    /// marked it answers an error without asking the writer.
+    /// marked it answers an error without asking the writer, which isn't asked either where nothing was
+    /// written behind the last flush.
     pub fn flush(&mut self) -> io::Result<()>
         ensures marked { IsErr result ↔ IsTrue (has_failed self.new) }
         ensures flushed { OnOk result (is_flushed self.new ≡ true) }
@@ -195,8 +321,12 @@ impl<W: Write> Device<W> {
         ensures ended { has_ended self.new ≡ has_ended self.old }
         ensures reads { reads_left self.new ≡ reads_left self.old }
         ensures still { IsTrue (has_failed self.old) → self.new ≡ self.old }
+        ensures done { is_flushed self.old ≡ true → self.new ≡ self.old }
     {
         self.unmarked()?;
+        if self.flushed {
+            return Ok(());
+        }
         match self.inner.flush() {
             Ok(()) => {
                 self.flushed = true;

@@ -4,16 +4,20 @@
 //!
 //! [`Splitter::push`] takes bytes to the end of a unit, [`Splitter::header`] or [`Splitter::frame`]
 //! shows it, [`Splitter::drop_frame`] lets it go, and [`Splitter::finish`] ends; over one buffer,
-//! which is reserved at the start. [`Device`] is a reader or a writer that keeps its first failure.
+//! which is as long as the longest frame from the start. A reader may fill that buffer itself:
+//! [`Splitter::spare`] lends what the unit that is due still wants, and [`Splitter::filled`] takes what came.
+//! [`Device`] is a reader or a writer that keeps its first failure. [`AtHand`] tells whether a reader knows of bytes that
+//! stand ready, [`HoldsBack`] how many a writer keeps to itself; [`Direct`] is for one that can't say.
 //! `specs/Units.antt` has what a unit is, `specs/Splits.antt` what a splitter holds.
 //! The tests stand in `codec_rows`.
 #![tactic(auto)]
 
 mod device;
 pub mod laws;
+mod room;
 mod split;
 mod units;
 
-pub use device::Device;
+pub use device::{AtHand, Device, Direct, HoldsBack};
 pub use split::Splitter;
 pub use units::{Frame, FrameFault, HEADER, Stage};

@@ -1,8 +1,12 @@
 //! Cutting a stream into its units.
-ghost use Rattle.std.specs.Prelude.{◌≡◌, ℕ, ◌+◌, ◌*◌, ◌⊎◌, ◌<◌, ◌≤◌, ◌++◌, [], ◌∷◌, List, length, take, IfOk, IfSome, IfNone, IsTrue, ◌↔◌, vec_capacity};
+ghost use Rattle.std.specs.Prelude.{slice_index, ◌≡◌, ℕ, ◌+◌, ◌*◌, ◌⊎◌, ◌<◌, ◌≤◌, ◌++◌, [], ◌∷◌, List, length, take, IfOk, IfSome, IfNone, IsTrue, ◌↔◌};
 ghost use Rattle.amqp_frame.specs.Units.{StreamUnit, HeaderUnit, IsRest, due_after, offset_of, channel_of, body_of};
-ghost use Rattle.amqp_frame.specs.Splits.{IsHeld, IsJudged, IsSound, IsFilled, IsWanted, IsWholeIn, IsOver, TakesNothing, IsOne, Waits, IsUnchanged, IsEmptied, IsFrameAnswer, IsNext, WentBy};
+ghost use Rattle.std.specs.Borrow.{sem};
+ghost use Rattle.amqp_frame.specs.Rooms.{whole_length};
+ghost use Rattle.amqp_frame.specs.SplitLends.{LendsRoom};
+ghost use Rattle.amqp_frame.specs.Splits.{IsHeld, IsJudged, IsSound, IsFilled, IsWanted, IsWholeIn, IsOver, TakesNothing, IsOne, IsAsked, Asks, MayCome, IsTaken, Waits, IsUnchanged, IsEmptied, IsFrameAnswer, IsNext, WentBy};
 
+use crate::room::Room;
 use crate::units::{Frame, FrameFault, HEADER, Progress, Stage, progress_of, whole_size};
 use byteorder::{BigEndian, ByteOrder};
 use std::alloc::{AllocError, Allocator, Global};
@@ -15,18 +19,18 @@ pub struct Splitter<A: Allocator + Copy = Global> {
     stage: Stage,
     /// How far the frame has come, where one is due.
     progress: Progress,
-    bytes: Vec<u8, A>,
+    bytes: Room<A>,
 }
 
 impl<A: Allocator + Copy> Model for Splitter<A> {
-    ghost use Rattle.std.specs.Prelude.{vec_capacity};
+    ghost use Rattle.amqp_frame.specs.Rooms.{whole_length};
     ghost use Rattle.amqp_frame.specs.Splits.{SplitterState, IsSound};
 
     ghost Value = { SplitterState };
 
-    ghost view = { λ a. record { limit = a.limit; stage = a.stage; filled = a.bytes.items; room = vec_capacity a.bytes } };
+    ghost view = { λ a. record { limit = a.limit; stage = a.stage; filled = a.bytes.filled; spare = a.bytes.spare } };
 
-    ghost invariant = { λ a. IsSound a.limit a.stage a.bytes.items (vec_capacity a.bytes) a.progress };
+    ghost invariant = { λ a. IsSound a.limit a.stage a.bytes.filled (whole_length a.bytes) a.progress };
 }
 
 impl<A: Allocator + Copy> Splitter<A> {
@@ -34,7 +38,7 @@ impl<A: Allocator + Copy> Splitter<A> {
     /// reserves `max` bytes at once, an error where they are refused, and takes no memory after that.
     pub fn new(alloc: A, max: usize) -> Result<Self, AllocError>
         requires { 8 ≤ max }
-        ensures value { IfOk result (λ s. s ≡ record { limit = max; stage = Stage.Header; filled = []; room = max }) }
+        ensures value { IfOk result (λ s. (s.limit ≡ max) × (s.stage ≡ Stage.Header) × (s.filled ≡ []) × (length s.spare ≡ max)) }
         ensures held { IfOk result (λ s. IsHeld s.limit s.stage s.filled) }
         ensures history { IfOk result (λ s. WentBy s [] []) }
     {
@@ -42,7 +46,7 @@ impl<A: Allocator + Copy> Splitter<A> {
             limit: max,
             stage: Stage::Header,
             progress: Progress::START,
-            bytes: Vec::with_capacity(alloc, max)?,
+            bytes: Room::new(alloc, max)?,
         })
     }
 
@@ -74,6 +78,56 @@ impl<A: Allocator + Copy> Splitter<A> {
             &mut self.bytes,
             piece,
         )
+    }
+
+    /// How many bytes come next: what is left of the header's eight; of a frame what is left of SIZE's four,
+    /// then of the eight of its header, then of SIZE [2.2, 2.3.1]. None do while a unit waits, and none any
+    /// more once a header that is not [`HEADER`] or a fault went by.
+    pub fn wants(&self) -> usize
+        ensures asks { Asks self.now result }
+        ensures none { result ≡ 0 → TakesNothing self.now }
+    {
+        wanted(self.limit, self.stage, self.progress, self.bytes.as_slice())
+    }
+
+    /// Lends room for them, to be read into. What stands in it says nothing.
+    pub fn spare(&mut self) -> &mut [u8]
+        ensures* writes_back { sem 𝓛 (LendsRoom A.row A.Allocator self.entry result) }
+        ensures asks { Asks self.old (length result.now) }
+        ensures value { result.now ≡ take (length result.now) self.old.spare }
+    {
+        let wants = self.wants();
+        self.spare_front(wants)
+    }
+
+    /// Lends room for the first `n` of them.
+    pub fn spare_front(&mut self, n: usize) -> &mut [u8]
+        requires { MayCome self.old n }
+        ensures* writes_back { sem 𝓛 (LendsRoom A.row A.Allocator self.entry result) }
+        ensures length { length result.now ≡ n }
+        ensures value { result.now ≡ take n self.old.spare }
+    {
+        self.bytes.spare(n)
+    }
+
+    /// Takes the first `n` bytes of the room that it lends, as [`Splitter::push`] takes a piece of them.
+    pub fn filled(&mut self, n: usize)
+        requires { MayCome self.old n }
+        ensures taken { IsTaken self.old self.new (take n self.old.spare) n }
+        ensures held { IsHeld self.new.limit self.new.stage self.new.filled }
+        ensures history { (us : List StreamUnit) (taken : List ℕ) → WentBy self.old us taken → WentBy self.new us (taken ++ take n self.old.spare) }
+    {
+        self.bytes.fill(n);
+        if let Stage::Frames = self.stage {
+            self.progress = progress_of(self.limit, self.bytes.as_slice());
+        }
+    }
+
+    /// A law: what stands in that room are bytes.
+    pub fn spare_is_bytes(&self)
+        ensures { (i : ℕ) → slice_index self.now.spare i < 256 }
+    {
+        self.bytes.spare_is_bytes();
     }
 
     /// The header's eight bytes, while it waits.
@@ -138,7 +192,7 @@ impl<A: Allocator + Copy> Splitter<A> {
     pub fn is_empty(&self) -> bool
         ensures { IsTrue result ↔ (self.now.filled ≡ []) }
     {
-        self.bytes.is_empty()
+        self.bytes.len() == 0
     }
 
     /// Empties the buffer at the end of the input, and answers how many bytes it had, if any. A
@@ -174,6 +228,7 @@ fn wanted(max: usize, stage: Stage, progress: Progress, bytes: &[u8]) -> usize
     requires judged { IsJudged max stage bytes.now progress }
     ensures wanted { IsWanted max stage bytes.now result }
     ensures full { result ≡ 0 → IsOne max stage bytes.now ⊎ IsOver stage }
+    ensures asked { IsAsked max stage bytes.now result }
 {
     match stage {
         Stage::Header => HEADER.len() - bytes.len(),
@@ -186,19 +241,19 @@ fn wanted(max: usize, stage: Stage, progress: Progress, bytes: &[u8]) -> usize
 }
 
 /// Takes bytes up to where the unit that is due is judged again, and judges it.
-fn fill_once<A: Allocator>(
+fn fill_once<A: Allocator + Copy>(
     max: usize,
     stage: Stage,
     progress: &mut Progress,
-    bytes: &mut Vec<u8, A>,
+    bytes: &mut Room<A>,
     piece: &[u8],
 ) -> usize
-    requires { IsSound max stage bytes.old.items (vec_capacity bytes.old) progress.old }
-    ensures filled { IsFilled max stage bytes.old.items piece.now result bytes.new.items (vec_capacity bytes.new) progress.new }
-    ensures full { result ≡ 0 → 0 < length piece.now → IsOne max stage bytes.new.items ⊎ IsOver stage }
+    requires { IsSound max stage bytes.old.filled (whole_length bytes.old) progress.old }
+    ensures filled { IsFilled max stage bytes.old.filled piece.now result bytes.new.filled (whole_length bytes.new) progress.new }
+    ensures full { result ≡ 0 → 0 < length piece.now → IsOne max stage bytes.new.filled ⊎ IsOver stage }
 {
     let count = wanted(max, stage, *progress, bytes.as_slice()).min(piece.len());
-    bytes.extend_from_slice(&piece[..count]).unwrap();
+    bytes.extend(&piece[..count]);
     if let Stage::Frames = stage {
         *progress = progress_of(max, bytes.as_slice());
     }
@@ -207,16 +262,16 @@ fn fill_once<A: Allocator>(
 
 /// Takes bytes up to the end of the unit that is due, step by step.
 #[inline(never)]
-fn fill_by_steps<A: Allocator>(
+fn fill_by_steps<A: Allocator + Copy>(
     max: usize,
     stage: Stage,
     progress: &mut Progress,
-    bytes: &mut Vec<u8, A>,
+    bytes: &mut Room<A>,
     piece: &[u8],
 ) -> usize
-    requires { IsSound max stage bytes.old.items (vec_capacity bytes.old) progress.old }
-    ensures filled { IsFilled max stage bytes.old.items piece.now result bytes.new.items (vec_capacity bytes.new) progress.new }
-    ensures all { result < length piece.now → IsOne max stage bytes.new.items ⊎ IsOver stage }
+    requires { IsSound max stage bytes.old.filled (whole_length bytes.old) progress.old }
+    ensures filled { IsFilled max stage bytes.old.filled piece.now result bytes.new.filled (whole_length bytes.new) progress.new }
+    ensures all { result < length piece.now → IsOne max stage bytes.new.filled ⊎ IsOver stage }
 {
     let mut taken = 0;
     while taken < piece.len() {
@@ -231,20 +286,20 @@ fn fill_by_steps<A: Allocator>(
 
 /// Takes bytes up to the end of the unit that is due. A frame that lies whole in the piece is
 /// judged once and copied once.
-fn fill<A: Allocator>(
+fn fill<A: Allocator + Copy>(
     max: usize,
     stage: Stage,
     progress: &mut Progress,
-    bytes: &mut Vec<u8, A>,
+    bytes: &mut Room<A>,
     piece: &[u8],
 ) -> usize
-    requires { IsSound max stage bytes.old.items (vec_capacity bytes.old) progress.old }
-    ensures filled { IsFilled max stage bytes.old.items piece.now result bytes.new.items (vec_capacity bytes.new) progress.new }
-    ensures all { result < length piece.now → IsOne max stage bytes.new.items ⊎ IsOver stage }
+    requires { IsSound max stage bytes.old.filled (whole_length bytes.old) progress.old }
+    ensures filled { IsFilled max stage bytes.old.filled piece.now result bytes.new.filled (whole_length bytes.new) progress.new }
+    ensures all { result < length piece.now → IsOne max stage bytes.new.filled ⊎ IsOver stage }
 {
     match whole_in(max, stage, bytes.as_slice(), piece) {
         Some(size) => {
-            bytes.extend_from_slice(&piece[..size]).unwrap();
+            bytes.extend(&piece[..size]);
             *progress = Progress::Whole;
             size
         }

@@ -20,6 +20,7 @@ mod tag;
 mod terms;
 mod transfer;
 
+pub use amqp_frame::Device;
 pub use link::{Link, Taken, TooMuchCredit};
 pub use message::Message;
 pub use settlement::{SettleFault, Standing};

@@ -1,7 +1,7 @@
 //! A message that was handed up.
-ghost use Rattle.std.specs.Prelude.{◌≡◌, ◌<◌, ◌++◌, ℕ, List, length, drop, IfOk, IsErr, OnOk, OnErr, IsTrue, ◌↔◌, []};
+ghost use Rattle.std.specs.Prelude.{◌≡◌, ◌<◌, ◌++◌, ℕ, List, length, drop, IfOk, IsErr, OnOk, OnErr, IsTrue, ◌↔◌, [], false};
 ghost use Rattle.std.specs.Io.KnownBytes.{Appends};
-ghost use Rattle.amqp_frame.specs.Devices.{device_inner, has_failed, IsPart};
+ghost use Rattle.amqp_frame.specs.Devices.{device_inner, has_failed, has_ended, is_flushed, reads_left, AppendsFront};
 
 use amqp_frame::Device;
 use std::alloc::{AllocError, Allocator, Global};
@@ -67,8 +67,12 @@ impl<A: Allocator + Copy> Message<A> {
     pub fn write_to<W: Write>(&self, writer: &mut Device<W>) -> io::Result<()>
         ensures marked { IsErr result ↔ IsTrue (has_failed writer.new) }
         ensures ok { OnOk result (Appends (W.contents (device_inner writer.old)) (W.contents (device_inner writer.new)) self.now) }
-        ensures err { OnErr result (IsPart (W.contents (device_inner writer.old)) (W.contents (device_inner writer.new)) self.now) }
+        ensures err { OnErr result (AppendsFront (W.contents (device_inner writer.old)) (W.contents (device_inner writer.new)) self.now) }
+        ensures unflushed { 0 < length self.now → OnOk result (is_flushed writer.new ≡ false) }
+        ensures ended { has_ended writer.new ≡ has_ended writer.old }
+        ensures reads { reads_left writer.new ≡ reads_left writer.old }
         ensures still { IsTrue (has_failed writer.old) → writer.new ≡ writer.old }
+        ensures empty { length self.now ≡ 0 → writer.new ≡ writer.old }
     {
         writer.write_all(self.bytes.as_slice())
     }

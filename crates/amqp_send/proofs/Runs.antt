@@ -17,7 +17,7 @@ use Rattle.amqp_send.specs.declared.telling.Telling.TheVariants as told
 use Rattle.amqp_send.specs.Calls.{SenderState, taken}
 use Rattle.amqp_send.specs.Histories.{Deed, Wrote, offers, moved, heard_deeds, event_deeds, next_piece, wrote_deeds, frame_deeds, deeds}
 use Rattle.amqp_send.specs.Histories.{after_all, history, IsHistory, AllMayGo, IsLawfulEvent, Accepted}
-use Rattle.amqp_send.specs.Runs.{Call, Offer, Feed, Output, Close, Answer, TakenOver, Refused, Fed, MovedOut, Closed, does_send, IsFed, moved_count, IsClosed, Does, Run, begins, IsStart}
+use Rattle.amqp_send.specs.Runs.{Call, Offer, Feed, Output, Close, Answer, TakenOver, Refused, Fed, MovedOut, Closed, does_send, IsFed, moved_count, IsClosed, Does, Run, IsStart}
 use Rattle.amqp_send.specs.Runs.{taken_by, moved_by, offered_by, told_by, Notice, Moves, news_told, fed, offered, heard, units_of, notices, tellings, IsTraced, HasHistory, HasMoment}
 use Rattle.amqp_send.specs.Sendings.{SendTerms, Message, Sending, is_talking, may_go, writes, frames_left, has_room, can_write}
 use Rattle.amqp_send.specs.Sendings.{SendEvent, Acted, Offered, CloseWritten, Moved, changed, send_after, SendMay}
@@ -273,13 +273,14 @@ all_calls terms took gave messages told es s (c ∷ asked) (a ∷ answers) last 
     (append_assoc told (told_by c a) words) more)))
 
 -- a new sender has no events
-starts : (terms : SendTerms) → IsTraced terms [] [] [] [] [] (begins terms)
-starts terms = record {
+starts : (terms : SendTerms) (s : SenderState) → IsStart terms s → IsTraced terms [] [] [] [] [] s
+starts terms s new = record {
   accepted = tt;
-  sending_is = refl;
-  limit = refl;
-  units = record { joined = refl; each = tt; due = refl };
-  rest = none_held 4096 due.Header;
+  sending_is = new.sending;
+  limit = new.limit;
+  units = record { joined = sym new.filled; each = tt; due = new.stage };
+  rest = subst (λ (l : List ℕ). IsHeld s.input.limit s.input.stage l) (sym new.filled)
+      (none_held s.input.limit s.input.stage);
   messages_are = refl;
   gave_is = refl;
   told_is = refl;
@@ -295,7 +296,7 @@ pub record EventLaws : Type 0 where
 pub runs : EventLaws → (terms : SendTerms) (calls : List Call) (answers : List Answer) (start last : SenderState)
     → IsStart terms start → Run start calls answers last → HasHistory terms calls answers last
 runs laws terms calls answers start last new run =
-    let all = all_calls terms [] [] [] [] [] start calls answers last (subst (λ (x : SenderState). IsTraced terms [] [] [] [] [] x) (sym new) (starts terms)) run in
+    let all = all_calls terms [] [] [] [] [] start calls answers last (starts terms start new) run in
     let t = all.traced in
     let is = subst (λ (x : Sending). IsHistory terms (history terms all.events) x) (sym t.sending_is) (laws.is terms all.events t.accepted) in
     record {

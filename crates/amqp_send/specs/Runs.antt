@@ -75,11 +75,11 @@ Run s (call ∷ calls) [] last = ⊥
 Run s (call ∷ calls) (answer ∷ answers) last = (next : SenderState) × Does s next call answer × Run next calls answers last
 
 -- a sender at its start
-abbrev pub begins : SendTerms → SenderState
-begins terms = record { input = record { limit = 4096; stage = due.Header; filled = []; room = 4096 }; sending = sending_begins terms }
-
-abbrev pub IsStart : SendTerms → SenderState → Type 0
-IsStart terms s = s ≡ begins terms
+pub record IsStart (terms : SendTerms) (s : SenderState) : Type 0 where
+  pub limit : s.input.limit ≡ 4096
+  pub stage : s.input.stage ≡ due.Header
+  pub filled : s.input.filled ≡ []
+  pub sending : s.sending ≡ sending_begins terms
 
 -- What calls and answers say. -----------------------------------------------------------------------------------------
 

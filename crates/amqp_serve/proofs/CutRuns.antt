@@ -6,7 +6,7 @@ use Rattle.std.proofs.Math.Seq.{take-append_seam, take-add}
 use Rattle.std.proofs.lemmas.Bool.{cases_lt}
 use Rattle.std.proofs.lemmas.List.{length-append, length-take-le, take-append-drop}
 use Rattle.std.specs.List.{flat_map}
-use Rattle.amqp_frame.specs.Splits.{SplitterState, Waits, IsUnchanged}
+use Rattle.amqp_frame.specs.Splits.{SplitterState, Waits, IsUnchanged, IsTaken}
 use Rattle.amqp_frame.specs.Units.{StreamUnit, bytes_of, IsUnit, IsRest, AreUnits, due_after, due_behind}
 use Rattle.amqp_frame.specs.declared.units.Stage.{Stage}
 use Rattle.amqp_frame.proofs.Fronts.{front}
@@ -24,7 +24,7 @@ use Rattle.amqp_endpoint.specs.Traces.{moved_by, taken_by}
 use Rattle.amqp_serve.specs.Serving.{Stand, ToppingUp, Receiving, Settling, Starved, Over, all_supplies, stand_told, lack, top_up_by}
 use Rattle.amqp_serve.specs.Serving.{Step, Serves, Rests, MovesOut, Feeds, Takes, Settles, TopsUp, Passes, Finishes, recorded_by, fed, moved, recorded}
 use Rattle.amqp_endpoint.specs.Steps as steps
-use Rattle.amqp_endpoint.specs.Steps.{EndpointState, IsTaken, IsActed, IsKept, IsFed, TakesAndActs, Acts, acted_after, acted_outcome, room_for, told_outcome}
+use Rattle.amqp_endpoint.specs.Steps.{EndpointState, IsActed, IsKept, IsFed, TakesAndActs, Acts, acted_after, acted_outcome, room_for, told_outcome}
 use Rattle.amqp_serve.proofs.CutTops.{AreStill, all_unchanged}
 use Rattle.amqp_serve.proofs.CutSteps.{made_at, made_same, moved_made, kept_made, take_made, settle_made, top_call, top_made, told_still}
 use Rattle.amqp_serve.proofs.Servings.{unchanged_on}

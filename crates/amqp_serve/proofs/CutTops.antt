@@ -47,16 +47,16 @@ module _ {B E T : Type 0} (start : B → T) (next : T → E → T) where
   got_at i place e slots = let same : 0 + i ≡ i = omega arith in got_on 0 i place e slots ∙ ap (λ (j : ℕ). on (nat_eq place j) e (at slots i)) same
 
 -- the session on a channel, once something happened to one
-abbrev went : Bool → SessionEvent → Slot SessionState → Slot SessionState
+abbrev pub went : Bool → SessionEvent → Slot SessionState → Slot SessionState
 went b e x = if b then slot_map (λ t. session_after t e) x else x
 
-slot_went : (s : ConnectionState) (channel place : ℕ) (e : SessionEvent) → slot_at (connection_after s (InSession place e)) channel ≡ went (nat_eq place channel) e (slot_at s channel)
+pub slot_went : (s : ConnectionState) (channel place : ℕ) (e : SessionEvent) → slot_at (connection_after s (InSession place e)) channel ≡ went (nat_eq place channel) e (slot_at s channel)
 slot_went s channel place e = got_at session_begins session_after channel place e s.sessions
 
 -- What a supply lacks. -------------------------------------------------------------------------------------------------
 
 -- by what stands at its channel
-abbrev lack_in : Policy → Configured → Slot SessionState → Supply → ℕ
+abbrev pub lack_in : Policy → Configured → Slot SessionState → Supply → ℕ
 lack_in p config x (WindowOf channel) = window_lack config.window x
 lack_in p config x (CreditOf channel handle) = credit_lack p.credit config.bounds.allowed (link_in handle x)
 
@@ -67,7 +67,7 @@ fault_in phase x c = or_else (where_so (is_dead phase || is_closing phase) refus
 abbrev StillIn : Policy → Configured → Phase → Slot SessionState → Supply → Type 0
 StillIn p config phase x supply = (lack_in p config x supply ≡ 0) ⊎ ((fault : CallFault) × (fault_in phase x (call_for supply (lack_in p config x supply)) ≡ Some fault))
 
-lack_is : (p : Policy) (s : ConnectionState) (supply : Supply) → lack p s supply ≡ lack_in p s.config (slot_at s (supply_channel supply)) supply
+pub lack_is : (p : Policy) (s : ConnectionState) (supply : Supply) → lack p s supply ≡ lack_in p s.config (slot_at s (supply_channel supply)) supply
 lack_is p s (WindowOf channel) = refl
 lack_is p s (CreditOf channel handle) = refl
 
@@ -92,28 +92,28 @@ credit_enough : (credit allowed had opened n : ℕ) → min (credit - had) (allo
 credit_enough credit allowed had opened n e = omega (arith, e)
 
 -- what a call for a supply does to its session
-abbrev gift : Supply → ℕ → SessionEvent
+abbrev pub gift : Supply → ℕ → SessionEvent
 gift (WindowOf channel) n = one.Widened n
 gift (CreditOf channel handle) n = one.Called handle (Granted n)
 
-abbrev given_in : Slot SessionState → Supply → ℕ → Slot SessionState
+abbrev pub given_in : Slot SessionState → Supply → ℕ → Slot SessionState
 given_in x supply n = slot_map (λ t. session_after t (gift supply n)) x
 
 -- where a supply lacks something, a session lives
-lives_there : (p : Policy) (config : Configured) (x : Slot SessionState) (supply : Supply) (n : ℕ) → lack_in p config x supply ≡ suc n → (s : SessionState) × (x ≡ Live s)
+pub lives_there : (p : Policy) (config : Configured) (x : Slot SessionState) (supply : Supply) (n : ℕ) → lack_in p config x supply ≡ suc n → (s : SessionState) × (x ≡ Live s)
 lives_there p config Free (WindowOf channel) n e = absurd (omega (arith, e))
 lives_there p config Free (CreditOf channel handle) n e = absurd (omega (arith, e))
 lives_there p config (Live s) supply n e = (s, refl)
 lives_there p config Waits (WindowOf channel) n e = absurd (omega (arith, e))
 lives_there p config Waits (CreditOf channel handle) n e = absurd (omega (arith, e))
 
-event_is : (s : ConnectionState) (supply : Supply) (t : SessionState) (n : ℕ) → slot_at s (supply_channel supply) ≡ Live t →
+pub event_is : (s : ConnectionState) (supply : Supply) (t : SessionState) (n : ℕ) → slot_at s (supply_channel supply) ≡ Live t →
     call_event s (supply_channel supply) (call_for supply n) ≡ InSession (supply_channel supply) (gift supply n)
 event_is s (WindowOf channel) t n e = ap (λ (x : Slot SessionState). slot_event channel x (session.Widen n)) e
 event_is s (CreditOf channel handle) t n e = ap (λ (x : Slot SessionState). slot_event channel x (session.Grant handle n)) e
 
 -- A supply that was given what it lacked lacks nothing.
-lack_after : (p : Policy) (config : Configured) (x : Slot SessionState) (supply : Supply) (n : ℕ) → lack_in p config x supply ≡ suc n → lack_in p config (given_in x supply (suc n)) supply ≡ 0
+pub lack_after : (p : Policy) (config : Configured) (x : Slot SessionState) (supply : Supply) (n : ℕ) → lack_in p config x supply ≡ suc n → lack_in p config (given_in x supply (suc n)) supply ≡ 0
 lack_after p config Free supply n e = absurd (absent (lives_there p config Free supply n e).1)
   where
     absent : {s : SessionState} → Free ≡ Live s → ⊥

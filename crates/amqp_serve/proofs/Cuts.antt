@@ -1,6 +1,6 @@
 -- What is served over some bytes is what their units make, and bytes have one reading as units.
 use Rattle.std.proofs.Common.{◌≡◌, ℕ, ◌≤◌, ◌⊎◌, inl, inr, Bool, true, false, List, [], ◌∷◌, ◌++◌, refl, sym, ap, subst, ◌∙◌, Option, Some, None, append_assoc, append-nil}
-use Rattle.std.specs.Prelude.{if◌then◌else◌, IsTrue}
+use Rattle.std.specs.Prelude.{if◌then◌else◌}
 use Rattle.std.proofs.lemmas.Bool.{true≢false}
 use Rattle.std.specs.Io.KnownBytes.{Appends}
 use Rattle.std.specs.List.{flat_map}
@@ -77,19 +77,15 @@ at_first (Finishes next end none does x) = (none, does.1)
 -- What is left in the buffer. -------------------------------------------------------------------------------------------
 
 -- the buffer holds what is left of the stream
-left_is : (s : ConnectionState) (buffer unfed : List ℕ) (all : Bool) → (buffer ≡ []) ⊎ (is_dead s.phase ≡ false) → (is_dead s.phase ≡ true) ⊎ (IsTrue all × (unfed ≡ [])) →
-    buffer ≡ left_over s (buffer ++ unfed)
-left_is s buffer unfed all left over = by (is_dead s.phase) refl
+left_is : (s : ConnectionState) (buffer : List ℕ) → (buffer ≡ []) ⊎ (is_dead s.phase ≡ false) → buffer ≡ left_over s buffer
+left_is s buffer left = by (is_dead s.phase) refl
   where
-    by : (b : Bool) → is_dead s.phase ≡ b → buffer ≡ (if b then [] else buffer ++ unfed)
+    by : (b : Bool) → is_dead s.phase ≡ b → buffer ≡ (if b then [] else buffer)
     by true dead = elim left [
       | inl none ↦ none
       | inr alive ↦ absurd (true≢false (sym dead ∙ alive))
     ]
-    by false alive = elim over [
-      | inl dead ↦ absurd (true≢false (sym dead ∙ alive))
-      | inr whole ↦ sym (ap (λ (l : List ℕ). buffer ++ l) whole.1 ∙ append-nil buffer)
-    ]
+    by false alive = refl
 
 -- What is served is what the units of the bytes make.
 pub served_is_made : (p : Policy) (config : Configured) (end : End) (bytes : List ℕ) (all : Bool) (old new : EndpointState) (held now kept keeps : Option (List ℕ)) → IsStart config old →
@@ -104,19 +100,18 @@ served_is_made p config end bytes all old new held now kept keeps start x =
     (ap (λ (l : List ℕ). moved x.steps ++ l) last.0 ∙ append-nil (moved x.steps)) refl in
     record {
       units = c.units;
-      rest = buffer ++ x.unfed;
-      joined = x.fed ∙ ap (λ (l : List ℕ). l ++ x.unfed) (ap (λ (l : List ℕ). l ++ fed x.steps) (sym start.filled) ∙ c.joined) ∙ append_assoc (flat_map bytes_of c.units) buffer x.unfed;
+      rest = buffer;
+      joined = x.fed ∙ ap (λ (l : List ℕ). l ++ fed x.steps) (sym start.filled) ∙ c.joined;
       each = subst (λ (n : ℕ). AreUnits n due.Header c.units) start.limit (subst (λ (stage : Stage). AreUnits old.input.limit stage c.units) start.stage c.each);
       timely = subst (λ (m : Made). AreTimely p m c.units) first c.timely;
       behind = elim x.over [
         | inl dead ↦ inl dead
-        | inr whole ↦ inr
-            (subst (λ (l : List ℕ). IsRest config.max_frame (due_behind due.Header c.units) l) (sym (ap (λ (l : List ℕ). buffer ++ l) whole.1 ∙ append-nil buffer))
+        | inr done ↦ inr
             (subst (λ (stage : Stage). IsRest config.max_frame stage buffer) (c.stage ∙ ap (λ (stage : Stage). due_behind stage c.units) start.stage)
-            (subst (λ (n : ℕ). IsRest n x.before.input.stage buffer) (c.limit ∙ start.limit) (c.good (λ h. h)).rest)))
+            (subst (λ (n : ℕ). IsRest n x.before.input.stage buffer) (c.limit ∙ start.limit) (c.good (λ h. h)).rest))
       ];
       is = sym same ∙ c.made ∙ ap (λ (m : Made). served_all p m c.units) first;
-      ends = last.1 ∙ ap (λ (l : List ℕ). end_with x.before.connection l) (left_is x.before.connection buffer x.unfed all (c.good (λ h. h)).left x.over);
+      ends = last.1 ∙ ap (λ (l : List ℕ). end_with x.before.connection l) (left_is x.before.connection buffer (c.good (λ h. h)).left);
     }
 
 -- One reading. --------------------------------------------------------------------------------------------------------

@@ -5,6 +5,7 @@ pub mod ServingFeeds
 pub mod ServingReads
 pub mod ServingMessages
 pub mod CutTops
+pub mod Supplied
 pub mod CutSteps
 pub mod CutRuns
 pub mod Cuts

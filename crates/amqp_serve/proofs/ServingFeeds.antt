@@ -1,9 +1,11 @@
 -- A piece that is fed while serving.
-use Rattle.std.proofs.Common.{◌≡◌, ◌≢◌, ℕ, ◌<◌, ◌≤◌, inl, inr, Bool, true, false, List, [], ◌∷◌, ◌++◌, Option, Some, None, length, take, refl, sym, ap, subst, ◌∙◌, arith, append-nil}
+use Rattle.std.proofs.Common.{◌≡◌, ◌≢◌, ℕ, zero, suc, ◌<◌, ◌≤◌, inl, inr, Bool, true, false, List, [], ◌∷◌, ◌++◌, Option, Some, None, length, take, drop, slice_index, refl, sym, ap, subst, ◌∙◌, arith, append-nil}
 use Rattle.std.proofs.KnownBytes.{Appends-nil}
 use Rattle.std.specs.Prelude.{if◌then◌else◌}
-use Rattle.std.proofs.lemmas.Bool.{cases_lt}
-use Rattle.amqp_frame.specs.Splits.{SplitterState, Waits, IsOver, IsUnchanged}
+use Rattle.std.proofs.lemmas.List.{take_all, length-take, take-take, take-append-le}
+use Rattle.amqp_frame.specs.Rooms.{over}
+use Rattle.amqp_frame.specs.SplitLends.{with_read}
+use Rattle.amqp_frame.specs.Splits.{SplitterState, Waits, IsOver, TakesNothing, IsUnchanged}
 use Rattle.amqp_frame.specs.Units.{StreamUnit, HeaderUnit, FrameUnit, FaultUnit, bytes_of, IsUnit}
 use Rattle.amqp_frame.specs.declared.units.Stage.{Stage}
 use Rattle.amqp_frame.specs.declared.units.Stage.TheVariants.{Header, Frames, Refused, Faulty}
@@ -14,11 +16,10 @@ use Rattle.amqp_endpoint.specs.declared.event.Outcome.TheVariants as outcome
 use Rattle.amqp_serve.specs.declared.serving.Policy.{Policy}
 use Rattle.amqp_endpoint.specs.Connections.{ConnectionState, is_dead}
 use Rattle.amqp_endpoint.specs.Lines.{line_of, told_on, may_grow_on}
-use Rattle.amqp_endpoint.specs.Runs.{Feed, Fed}
+use Rattle.amqp_endpoint.specs.Runs.{Feed, Fed, Does}
 use Rattle.amqp_serve.specs.Serving.{reading, stand_told, Rests, Feeds, Served, IsIdle, IsStarved}
 use Rattle.amqp_endpoint.specs.Steps as steps
-use Rattle.amqp_endpoint.specs.Traces.{IsInRange}
-use Rattle.amqp_endpoint.specs.Steps.{EndpointState, IsFed, TakesAndActs, Acts, acted_after, room_for, told_outcome}
+use Rattle.amqp_endpoint.specs.Steps.{EndpointState, AsksIf, IsKept, IsFed, TakesAndActs, Acts, acted_after, room_for, told_outcome}
 
 unit_some : (max : ℕ) (stage : Stage) (u : StreamUnit) → IsUnit max stage u → 4 ≤ length (bytes_of u)
 unit_some max Header u is = omega (arith, header_exact max u is)
@@ -43,7 +44,7 @@ room_for_all (HeaderUnit bytes) = refl
 room_for_all (FrameUnit bytes) = refl
 room_for_all (FaultUnit fault bytes) = refl
 
-alive_feeds : (s t : EndpointState) (piece : List ℕ) (used : ℕ) (told : Outcome) → is_dead s.connection.phase ≡ false → IsFed s t piece used told → TakesAndActs s t piece used told
+pub alive_feeds : (s t : EndpointState) (piece : List ℕ) (used : ℕ) (told : Outcome) → is_dead s.connection.phase ≡ false → IsFed s t piece used told → TakesAndActs s t piece used told
 alive_feeds s t piece used told alive x = subst (λ (b : Bool). steps.FeedDone b s t piece used told) alive x
 
 -- a unit that was acted upon tells of no want of memory
@@ -94,32 +95,46 @@ fed_starved s t piece used least alive none x =
       | inr idle ↦ absurd (never_starved s.connection None (sym (y.comes.none idle).1))
     ]
 
--- Where no unit waits something of a piece is taken.
-pub fed_some : (s t : EndpointState) (piece : List ℕ) (used : ℕ) (told : Outcome) → is_dead s.connection.phase ≡ false → (IsOver s.input.stage → ⊥) → IsIdle s → 0 < length piece
-    → IsFed s t piece used told → 0 < used
-fed_some s t piece used told alive over idle some x =
-    let y = alive_feeds s t piece used told alive x in
-    elim (cases_lt 0 used) [
-      | inl h ↦ h
-      | inr h ↦
-          let zero : used ≡ 0 = omega arith in
-          let same : y.between.filled ≡ s.input.filled = y.taken.filled ∙ ap (λ (n : ℕ). s.input.filled ++ take n piece) zero ∙ append-nil s.input.filled in
-          elim (y.taken.all (omega arith)) [
-            | inl one ↦ absurd (idle one.unit (record {
-              is = subst (λ (n : ℕ). IsUnit n s.input.stage one.unit) y.taken.limit (subst (λ (stage : Stage). IsUnit y.between.limit stage one.unit) y.taken.stage one.stands.is);
-              whole = sym same ∙ one.stands.whole;
-            }))
-            | inr gone ↦ absurd (over (subst (λ (stage : Stage). IsOver stage) y.taken.stage gone))
-          ]
-    ]
+-- Where no unit waits something is asked for.
+pub idle_wants : (s : EndpointState) → IsIdle s → (IsOver s.input.stage → ⊥) → TakesNothing s.input → ⊥
+idle_wants s idle over (inl one) = idle one.unit one.stands
+idle_wants s idle over (inr gone) = over gone
 
--- a piece is fed
-pub feed_served : (p : Policy) (s t : EndpointState) (piece : List ℕ) (used : ℕ) (told : Outcome) (w k : Option (List ℕ)) → s.unsent ≡ [] → IsInRange (Feed piece) → IsFed s t piece used told
-    → Served p reading (stand_told t.connection.config told) (take used piece) s t w w k k
-feed_served p s t piece used told w k none bytes x = record {
-  steps = record { call = Feed piece; answer = Fed used told } ∷ [];
-  serves = Feeds t piece used told none bytes x Rests;
-  fed = append-nil (take used piece);
-  written = Appends-nil w;
-  recorded = Appends-nil k;
-}
+-- the front of bytes is of bytes
+bytes_in_front : (xs : List ℕ) (n : ℕ) → ((i : ℕ) → slice_index xs i < 256) → (i : ℕ) → slice_index (take n xs) i < 256
+bytes_in_front xs zero bytes i = let none : slice_index (take 0 xs) i ≡ 0 = refl in omega (arith, none)
+bytes_in_front [] (suc n) bytes i = bytes i
+bytes_in_front (x ∷ xs) (suc n) bytes zero = bytes zero
+bytes_in_front (x ∷ xs) (suc n) bytes (suc i) = bytes_in_front xs n (λ j. bytes (suc j)) i
+
+-- the front of a front
+take_twice : (n : ℕ) (xs : List ℕ) → take n (take n xs) ≡ take n xs
+take_twice n xs = let long = length-take n xs in take_all n (take n xs) (omega (arith, long))
+
+-- what was read into the room says nothing
+pub asks_still : (over : Bool) (s : SplitterState) (ws : List ℕ) (n : ℕ) → AsksIf over s n → AsksIf over (with_read s ws) n
+asks_still true s ws n x = x
+asks_still false s ws n x = record { none = x.none; some = x.some }
+
+-- what was read stands at the front of the room
+pub front_read : (n : ℕ) (ws bytes : List ℕ) → n ≤ length ws → length ws ≤ length bytes → take n (over ws bytes) ≡ take n ws
+front_read n ws bytes few within =
+    take-take n (length bytes) (ws ++ drop (length ws) bytes) (omega (arith, few, within)) ∙ take-append-le n ws (drop (length ws) bytes) few
+
+-- a front is no longer than what it is of
+pub front_short : (front bytes : List ℕ) → front ≡ take (length front) bytes → length front ≤ length bytes
+front_short front bytes is = let long = length-take (length front) bytes in let same = ap length is in omega (arith, long, same)
+
+-- what was read is fed
+pub read_served : ((s t u : EndpointState) (piece : List ℕ) (used : ℕ) (told : Outcome) → IsKept s t → IsFed t u piece used told → Does s u (Feed piece) (Fed used told))
+    → (p : Policy) (s t u : EndpointState) (n : ℕ) (told : Outcome) (w k : Option (List ℕ)) → t.unsent ≡ [] → ((i : ℕ) → slice_index t.input.spare i < 256) → IsKept s t
+    → IsFed t u (take n t.input.spare) n told → Served p reading (stand_told u.connection.config told) (take n t.input.spare) s u w w k k
+read_served law p s t u n told w k none bytes kept x =
+    let piece = take n t.input.spare in
+    record {
+      steps = record { call = Feed piece; answer = Fed n told } ∷ [];
+      serves = Feeds u piece n told (sym kept.unsent ∙ none) (bytes_in_front t.input.spare n bytes) (law s t u piece n told kept x) Rests;
+      fed = append-nil (take n piece) ∙ take_twice n t.input.spare;
+      written = Appends-nil w;
+      recorded = Appends-nil k;
+    }

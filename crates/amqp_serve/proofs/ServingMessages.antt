@@ -1,5 +1,5 @@
 -- A message that is taken, recorded and settled while serving.
-use Rattle.std.proofs.Common.{◌≡◌, ℕ, ◌<◌, ◌^◌, List, [], ◌∷◌, Option, Result, refl, ◌∙◌, append-nil}
+use Rattle.std.proofs.Common.{◌≡◌, ℕ, inr, ◌<◌, ◌^◌, List, [], ◌∷◌, Option, Result, refl, ◌∙◌, append-nil}
 use Rattle.std.proofs.KnownBytes.{Appends-nil}
 use Rattle.std.specs.Io.KnownBytes.{Appends}
 use Rattle.amqp_session.specs.Calls.{Take, Settle}
@@ -9,9 +9,9 @@ use Rattle.amqp_serve.specs.declared.serving.ServeFault.TheVariants as fault
 use Rattle.amqp_endpoint.specs.Endpoints.{accepted_by}
 use Rattle.amqp_endpoint.specs.Runs.{Refused, Handed, HandedUp, InSession, CallDone}
 use Rattle.amqp_serve.specs.Serving.{all_supplies, ToppingUp, Receiving, Settling, stand_handed, Rests, Takes, Settles, record_of, BrokeOff, Works}
-use Rattle.amqp_frame.specs.Devices.{IsPart}
+use Rattle.amqp_frame.specs.Devices.{AppendsFront}
 use Rattle.amqp_endpoint.specs.Steps.{EndpointState}
-use Rattle.amqp_serve.proofs.Servings.{works_one}
+use Rattle.amqp_serve.proofs.Servings.{kept_same, works_one}
 use Rattle.amqp_serve.proofs.ServingTops.{call_keeps, accepted_silent}
 
 module _ (p : Policy) (s t : EndpointState) (channel handle : ℕ) (w k k1 : Option (List ℕ)) where
@@ -27,22 +27,20 @@ module _ (p : Policy) (s t : EndpointState) (channel handle : ℕ) (w k k1 : Opt
       works_one p _ _ s t w k k1 _ (Takes t channel handle (HandedUp d) done Rests) refl refl noted (call_keeps s t channel (Take handle) (HandedUp d) done)
 
   -- or recorded in part
-  pub take_broke : (d : Handed) → CallDone s t channel (Take handle) (HandedUp d) → IsPart k k1 (record_of channel handle d) → BrokeOff p fault.Sink (Receiving channel handle) [] s t w w k k1
+  pub take_broke : (d : Handed) → CallDone s t channel (Take handle) (HandedUp d) → AppendsFront k k1 (record_of channel handle d) → BrokeOff p fault.Sink (Receiving channel handle) [] s t w w k k1
   take_broke d done part = record {
     stand = stand_handed t.connection.config channel d;
     steps = record { call = InSession channel (Take handle); answer = HandedUp d } ∷ [];
+    last = t;
     serves = Takes t channel handle (HandedUp d) done Rests;
-    unfed = [];
-    written = [];
-    unwritten = [];
+    same = kept_same t;
+    fed = refl;
+    written = Appends-nil w;
     noted = part.front;
     unnoted = part.behind;
-    feeds = refl;
-    moves = refl;
     records = append-nil (record_of channel handle d) ∙ part.is;
-    writer = Appends-nil w;
     sink = part.written;
-    left = refl;
+    left = inr (record { before = []; channel = channel; handle = handle; handed = d; split = refl; part = part.front; all = refl });
   }
 
 -- it is settled

@@ -13,14 +13,15 @@ use Rattle.amqp_session.specs.Sessions.{SessionState}
 use Rattle.amqp_endpoint.specs.declared.fault.CallFault.{CallFault}
 use Rattle.amqp_serve.specs.declared.serving.Policy.{Policy}
 use Rattle.amqp_endpoint.specs.Configs.{Configured}
-use Rattle.amqp_endpoint.specs.Connections.{slot_at}
+use Rattle.amqp_endpoint.specs.Connections.{ConnectionState, slot_at}
 use Rattle.amqp_endpoint.specs.Endpoints.{accepted_by}
 use Rattle.amqp_endpoint.specs.Runs.{Answer, Fed, Accepted, Dropped, HandedUp, Refused, MovedOut, Holds, Ended, CallDone}
 use Rattle.amqp_endpoint.specs.Takings.{link_in}
 use Rattle.amqp_endpoint.specs.Traces.{moved_by}
 use Rattle.amqp_serve.specs.Serving.{Supply, WindowOf, CreditOf, window_lack, credit_lack, lack, session_supplies, all_supplies_from, Stand, ToppingUp, all_supplies, Serves, Rests, TopsUp, Passes, Works}
 use Rattle.amqp_endpoint.specs.Steps.{EndpointState}
-use Rattle.amqp_serve.proofs.Servings.{works_one}
+use Rattle.amqp_serve.specs.Supplied.{IsSuppliedAt}
+use Rattle.amqp_serve.proofs.Servings.{works_one, serves_on}
 
 -- a call for a session leaves the bytes that came
 pub call_keeps : (s t : EndpointState) (channel : ℕ) (c : session.Call) (answer : Answer) → CallDone s t channel c answer → IsUnchanged s.input t.input
@@ -86,19 +87,29 @@ no_credit credit allowed handle Free h = refl
 no_credit credit allowed handle (Live s) h = absurd h
 no_credit credit allowed handle Awaits h = refl
 
-no_credits : (p : Policy) (rest : List Supply) (s : EndpointState) (channel i n : ℕ) → IsNotLive (slot_at s.connection channel)
-    → Serves p (ToppingUp (tabulate i n (λ handle. CreditOf channel handle) ++ rest)) s [] (ToppingUp rest) s
-no_credits p rest s channel i zero h = Rests
-no_credits p rest s channel i (suc n) h =
-    Passes (CreditOf channel i) (tabulate (suc i) n (λ handle. CreditOf channel handle) ++ rest) (no_credit p.credit s.connection.config.bounds.allowed i (slot_at s.connection channel) h)
-    (no_credits p rest s channel (suc i) n h)
+-- where no session is live nothing is lacking
+pub not_live_supplied : (p : Policy) (handles channel : ℕ) (s : ConnectionState) → IsNotLive (slot_at s channel) → IsSuppliedAt p handles channel s
+not_live_supplied p handles channel s h = record {
+  window = no_window s.config.window (slot_at s channel) h;
+  credit = λ handle l. no_credit p.credit s.config.bounds.allowed handle (slot_at s channel) h;
+}
 
--- so nothing is lacking there
-pub session_passed : (p : Policy) (rest : List Supply) (s : EndpointState) (handles channel : ℕ) (w k : Option (List ℕ)) → IsNotLive (slot_at s.connection channel)
+credits_passed : (p : Policy) (rest : List Supply) (s : EndpointState) (channel i n : ℕ) → ((h : ℕ) → h < i + n → lack p s.connection (CreditOf channel h) ≡ 0)
+    → Serves p (ToppingUp (tabulate i n (λ handle. CreditOf channel handle) ++ rest)) s [] (ToppingUp rest) s
+credits_passed p rest s channel i zero none = Rests
+credits_passed p rest s channel i (suc n) none =
+    Passes (CreditOf channel i) (tabulate (suc i) n (λ handle. CreditOf channel handle) ++ rest) (none i (omega arith))
+    (credits_passed p rest s channel (suc i) n (λ h l. none h (omega (arith, l))))
+
+session_serves : (p : Policy) (rest : List Supply) (s : EndpointState) (handles channel : ℕ) → IsSuppliedAt p handles channel s.connection
+    → Serves p (ToppingUp (session_supplies handles channel ++ rest)) s [] (ToppingUp rest) s
+session_serves p rest s handles channel x =
+    Passes (WindowOf channel) (tabulate 0 handles (λ handle. CreditOf channel handle) ++ rest) x.window (credits_passed p rest s channel 0 handles (λ h l. x.credit h (omega (arith, l))))
+
+-- a session that lacks nothing, and whose links lack nothing
+pub session_passed : (p : Policy) (rest : List Supply) (s : EndpointState) (handles channel : ℕ) (w k : Option (List ℕ)) → IsSuppliedAt p handles channel s.connection
     → Works p (ToppingUp (session_supplies handles channel ++ rest)) (ToppingUp rest) s s w w k k
-session_passed p rest s handles channel w k h =
-    works_silent p _ _ s w k (Passes (WindowOf channel) (tabulate 0 handles (λ handle. CreditOf channel handle) ++ rest)
-    (no_window s.connection.config.window (slot_at s.connection channel) h) (no_credits p rest s channel 0 handles h))
+session_passed p rest s handles channel w k x = works_silent p _ _ s w k (session_serves p rest s handles channel x)
 
 -- the first of those that are left
 pub tabulate_step : {A : Type 0} (f : ℕ → A) (i n : ℕ) → i < n → tabulate i (n - i) f ≡ f i ∷ tabulate (i + 1) (n - (i + 1)) f
@@ -119,6 +130,29 @@ places_step handles i n l = ap (λ (ks : List ℕ). flat_map (λ k. session_supp
 pub places_none : (handles i n : ℕ) → n ≤ i → all_supplies_from handles i (n - i) ≡ []
 unfolding all_supplies_from
 places_none handles i n l = ap (λ (ks : List ℕ). flat_map (λ k. session_supplies handles k) ks) (tabulate_none (λ (k : ℕ). k) i n l)
+
+channels_serve : (p : Policy) (s : EndpointState) (handles n i d : ℕ) → i + d ≤ n → ((k : ℕ) → i ≤ k → k < i + d → IsSuppliedAt p handles k s.connection)
+    → Serves p (ToppingUp (all_supplies_from handles i (n - i))) s [] (ToppingUp (all_supplies_from handles (i + d) (n - (i + d)))) s
+channels_serve p s handles n i zero l x =
+    let same : i ≡ i + 0 = omega arith in
+    subst (λ (j : ℕ). Serves p (ToppingUp (all_supplies_from handles i (n - i))) s [] (ToppingUp (all_supplies_from handles j (n - j))) s) same Rests
+channels_serve p s handles n i (suc d) l x =
+    let on : i + 1 + d ≡ i + suc d = omega arith in
+    let rest = all_supplies_from handles (i + 1) (n - (i + 1)) in
+    let others : Serves p (ToppingUp rest) s [] (ToppingUp (all_supplies_from handles (i + suc d) (n - (i + suc d)))) s =
+    subst (λ (j : ℕ). Serves p (ToppingUp rest) s [] (ToppingUp (all_supplies_from handles j (n - j))) s) on
+    (channels_serve p s handles n (i + 1) d (omega (arith, l)) (λ k a b. x k (omega (arith, a)) (omega (arith, b)))) in
+    subst (λ (xs : List Supply). Serves p (ToppingUp xs) s [] (ToppingUp (all_supplies_from handles (i + suc d) (n - (i + suc d)))) s) (sym (places_step handles i n (omega (arith, l))))
+    (serves_on (session_serves p rest s handles i (x i (omega arith) (omega arith))) others)
+
+-- the sessions of channels that lack nothing
+pub channels_passed : (p : Policy) (s : EndpointState) (handles n i j : ℕ) (w k : Option (List ℕ)) → i ≤ j → j ≤ n → ((c : ℕ) → i ≤ c → c < j → IsSuppliedAt p handles c s.connection)
+    → Works p (ToppingUp (all_supplies_from handles i (n - i))) (ToppingUp (all_supplies_from handles j (n - j))) s s w w k k
+channels_passed p s handles n i j w k few within x =
+    let end : i + (j - i) ≡ j = omega (arith, few) in
+    works_silent p _ _ s w k
+    (subst (λ (m : ℕ). Serves p (ToppingUp (all_supplies_from handles i (n - i))) s [] (ToppingUp (all_supplies_from handles m (n - m))) s) end
+    (channels_serve p s handles n i (j - i) (omega (arith, few, within)) (λ c a b. x c a (omega (arith, few, b)))))
 
 -- all of them are left at first
 pub tabulate_all : {A : Type 0} (f : ℕ → A) (n : ℕ) → tabulate 0 n f ≡ tabulate 0 (n - 0) f

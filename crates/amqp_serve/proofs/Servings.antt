@@ -1,20 +1,21 @@
 -- Serving that goes on, or breaks off.
-use Rattle.std.proofs.Common.{◌≡◌, ℕ, ◌≤◌, arith, List, [], ◌∷◌, ◌++◌, Option, length, take, drop, refl, sym, ap, subst, ◌∙◌, append_assoc, append-nil, length-drop, length-append, ◌+◌, map}
+use Rattle.std.proofs.Common.{◌≡◌, ℕ, ◌≤◌, ◌⊎◌, arith, inl, inr, List, [], ◌∷◌, ◌++◌, Option, length, take, drop, refl, sym, ap, subst, ◌∙◌, append_assoc, append-nil, length-drop, length-append, ◌+◌, map}
 use Rattle.std.proofs.Common.{Result, Ok, Err, OnOk, OnErr, IfErr}
 use Rattle.std.proofs.KnownBytes.{Appends-nil, Appends-trans, Appends-kept}
 use Rattle.std.proofs.lemmas.Grind.{flat_map-append}
-use Rattle.std.proofs.lemmas.List.{length-take-le, take-append-le, take_all, take-append-drop}
+use Rattle.std.proofs.lemmas.List.{take-append-le, take-append-drop}
 use Rattle.std.proofs.Math.Seq.{take-add, take-append_seam}
 use Rattle.std.specs.Io.KnownBytes.{Keeps, Appends}
 use Rattle.amqp_frame.specs.Splits.{SplitterState, IsUnchanged}
 use Rattle.amqp_serve.specs.declared.serving.Policy.{Policy}
 use Rattle.amqp_serve.specs.declared.serving.ServeFault.{ServeFault}
 use Rattle.amqp_serve.specs.declared.serving.ServeFault.TheVariants as fault
-use Rattle.amqp_endpoint.specs.Runs.{Output, MovedOut, Does, Run}
-use Rattle.amqp_serve.specs.Serving.{Stand, Starved, Step, Serves, Rests, MovesOut, Feeds, Takes, Settles, TopsUp, Passes, Finishes, Supply, WindowOf, CreditOf, lack, top_up_by, recorded_by, fed}
+use Rattle.amqp_endpoint.specs.Runs.{InSession, Output, HandedUp, MovedOut, Does, Run}
+use Rattle.amqp_session.specs.Calls.{Take}
+use Rattle.amqp_serve.specs.Serving.{Stand, Step, Serves, Rests, MovesOut, Feeds, Takes, Settles, TopsUp, Passes, Finishes, Supply, WindowOf, CreditOf, lack, top_up_by, recorded_by, fed}
 use Rattle.amqp_serve.specs.Serving.{moved, recorded, Served, IsLeft, BrokeOff, Works}
-use Rattle.amqp_frame.specs.Devices.{IsPart}
-use Rattle.amqp_endpoint.specs.Steps.{EndpointState}
+use Rattle.amqp_frame.specs.Devices.{AppendsFront}
+use Rattle.amqp_endpoint.specs.Steps.{EndpointState, IsKept}
 use Rattle.amqp_endpoint.specs.Traces.{IsInRange, AreInRange, moved_by, taken_by}
 
 -- one list of steps behind another
@@ -63,23 +64,25 @@ moved_on xs ys = flat_map-append (λ x. moved_by x.answer) xs ys
 recorded_on : (xs ys : List Step) → recorded (xs ++ ys) ≡ recorded xs ++ recorded ys
 recorded_on xs ys = flat_map-append (λ x. recorded_by x.call x.answer) xs ys
 
--- what is left behind more steps, whose output was written
-left_on : (e : ServeFault) (stand : Stand) (xs ys : List Step) (unfed written unwritten unnoted : List ℕ) → IsLeft e stand ys unfed written unwritten unnoted
-    → IsLeft e stand (xs ++ ys) unfed (moved xs ++ written) unwritten unnoted
-left_on fault.Read stand xs ys unfed written unwritten unnoted x = x
-left_on fault.Write stand xs ys unfed written unwritten unnoted x = (
-  record {
-    before = xs ++ x.0.before;
-    outputs = x.0.outputs;
-    split = ap (λ (l : List Step). xs ++ l) x.0.split ∙ sym (append_assoc xs x.0.before x.0.outputs);
-    each = x.0.each;
-    more = x.0.more;
-    all = ap (λ (l : List ℕ). moved xs ++ l) x.0.all ∙ sym (append_assoc (moved xs) (moved x.0.before) x.0.more) ∙ ap (λ (l : List ℕ). l ++ x.0.more) (sym (moved_on xs x.0.before));
-  },
-  x.1,
-)
-left_on fault.Sink stand xs ys unfed written unwritten unnoted x = x
-left_on fault.NoMemory stand xs ys unfed written unwritten unnoted x = x
+-- nothing has changed
+pub kept_same : (s : EndpointState) → IsKept s s
+kept_same s = record { input = record { limit = refl; stage = refl; filled = refl }; unsent = refl; connection = refl }
+
+-- what is left behind more steps, of which all was recorded
+left_on : (e : ServeFault) (stand : Stand) (xs ys : List Step) (noted unnoted : List ℕ) → IsLeft e stand ys noted unnoted → IsLeft e stand (xs ++ ys) (recorded xs ++ noted) unnoted
+left_on fault.Read stand xs ys noted unnoted x = x
+left_on fault.Write stand xs ys noted unnoted x = x
+left_on fault.Sink stand xs ys noted unnoted (inl none) = inl none
+left_on fault.Sink stand xs ys noted unnoted (inr b) = inr (record {
+  before = xs ++ b.before;
+  channel = b.channel;
+  handle = b.handle;
+  handed = b.handed;
+  split = ap (λ (l : List Step). xs ++ l) b.split ∙ sym (append_assoc xs b.before (record { call = InSession b.channel (Take b.handle); answer = HandedUp b.handed } ∷ []));
+  part = b.part;
+  all = ap (λ (l : List ℕ). recorded xs ++ l) b.all ∙ sym (append_assoc (recorded xs) (recorded b.before) b.part) ∙ ap (λ (l : List ℕ). l ++ b.part) (sym (recorded_on xs b.before));
+})
+left_on fault.NoMemory stand xs ys noted unnoted x = x
 
 module _ {p : Policy} {a b : Stand} {bytes : List ℕ} {s t u : EndpointState} {w w1 w2 k k1 k2 : Option (List ℕ)} where
   -- serving goes on
@@ -97,48 +100,17 @@ module _ {p : Policy} {a b : Stand} {bytes : List ℕ} {s t u : EndpointState} {
   broke_on {e} x y = record {
     stand = y.stand;
     steps = x.steps ++ y.steps;
+    last = y.last;
     serves = serves_on x.serves y.serves;
-    unfed = y.unfed;
-    written = moved x.steps ++ y.written;
-    unwritten = y.unwritten;
+    same = y.same;
+    fed = ap (λ (l : List ℕ). bytes ++ l) y.fed ∙ ap (λ (l : List ℕ). l ++ fed y.steps) (sym x.fed) ∙ sym (fed_on x.steps y.steps);
+    written = subst (λ (l : List ℕ). Appends w w2 l) (sym (moved_on x.steps y.steps)) (Appends-trans w w1 w2 (moved x.steps) (moved y.steps) x.written y.written);
     noted = recorded x.steps ++ y.noted;
     unnoted = y.unnoted;
-    feeds = ap (λ (l : List ℕ). bytes ++ l) y.feeds ∙ sym (append_assoc bytes (fed y.steps) y.unfed)
-        ∙ ap (λ (l : List ℕ). (l ++ fed y.steps) ++ y.unfed) (sym x.fed) ∙ ap (λ (l : List ℕ). l ++ y.unfed) (sym (fed_on x.steps y.steps));
-    moves = moved_on x.steps y.steps ∙ ap (λ (l : List ℕ). moved x.steps ++ l) y.moves ∙ sym (append_assoc (moved x.steps) y.written y.unwritten);
     records = recorded_on x.steps y.steps ∙ ap (λ (l : List ℕ). recorded x.steps ++ l) y.records ∙ sym (append_assoc (recorded x.steps) y.noted y.unnoted);
-    writer = Appends-trans w w1 w2 (moved x.steps) y.written x.written y.writer;
     sink = Appends-trans k k1 k2 (recorded x.steps) y.noted x.recorded y.sink;
-    left = left_on e y.stand x.steps y.steps y.unfed y.written y.unwritten y.unnoted y.left;
+    left = left_on e y.stand x.steps y.steps y.noted y.unnoted y.left;
   }
-
--- what is left where the reader did not fail does not depend on how much is unfed
-left_before : (e : ServeFault) (stand : Stand) (steps : List Step) (unfed more written unwritten unnoted : List ℕ) → (e ≡ fault.Read → ⊥) → IsLeft e stand steps unfed written unwritten unnoted
-    → IsLeft e stand steps more written unwritten unnoted
-left_before fault.Read stand steps unfed more written unwritten unnoted other x = absurd (other refl)
-left_before fault.Write stand steps unfed more written unwritten unnoted other x = x
-left_before fault.Sink stand steps unfed more written unwritten unnoted other x = x
-left_before fault.NoMemory stand steps unfed more written unwritten unnoted other x = x
-
--- of a longer piece the same beginning was fed
-pub broke_before : {p : Policy} {e : ServeFault} {a : Stand} {s t : EndpointState} {w w1 k k1 : Option (List ℕ)} (bytes more whole : List ℕ) → whole ≡ bytes ++ more
-    → (e ≡ fault.Read → ⊥) → BrokeOff p e a bytes s t w w1 k k1 → BrokeOff p e a whole s t w w1 k k1
-broke_before {e} bytes more whole is other x = record {
-  stand = x.stand;
-  steps = x.steps;
-  serves = x.serves;
-  unfed = x.unfed ++ more;
-  written = x.written;
-  unwritten = x.unwritten;
-  noted = x.noted;
-  unnoted = x.unnoted;
-  feeds = is ∙ ap (λ (l : List ℕ). l ++ more) x.feeds ∙ append_assoc (fed x.steps) x.unfed more;
-  moves = x.moves;
-  records = x.records;
-  writer = x.writer;
-  sink = x.sink;
-  left = left_before e x.stand x.steps x.unfed (x.unfed ++ more) x.written x.unwritten x.unnoted other x.left;
-}
 
 -- A splitter that is unchanged twice is unchanged.
 pub unchanged_on : {a b c : SplitterState} → IsUnchanged a b → IsUnchanged b c → IsUnchanged a c
@@ -160,41 +132,36 @@ works_none p a s w k = record {
   input = record { limit = refl; stage = refl; filled = refl };
 }
 
--- a flush of the writer does nothing
-pub works_flushed : (p : Policy) (a b : Stand) (s t : EndpointState) (w w1 w2 k k1 : Option (List ℕ)) → Works p a b s t w w1 k k1 → Keeps w1 w2 → Works p a b s t w w2 k k1
-works_flushed p a b s t w w1 w2 k k1 x kept = record {
-  served = record { steps = x.served.steps; serves = x.served.serves; fed = x.served.fed; written = Appends-kept w w1 w2 (moved x.served.steps) x.served.written kept; recorded = x.served.recorded };
-  input = x.input;
-}
+module _ (p : Policy) (a b : Stand) (s t : EndpointState) (w w1 w2 k k1 k2 : Option (List ℕ)) (x : Works p a b s t w w1 k k1) (answers : Keeps w1 w2) (records : Keeps k1 k2) where
+  -- a flush of both does nothing
+  pub works_flushed : Works p a b s t w w2 k k2
+  works_flushed = record {
+    served = record {
+      steps = x.served.steps;
+      serves = x.served.serves;
+      fed = x.served.fed;
+      written = Appends-kept w w1 w2 (moved x.served.steps) x.served.written answers;
+      recorded = Appends-kept k k1 k2 (recorded x.served.steps) x.served.recorded records;
+    };
+    input = x.input;
+  }
 
--- and where it fails serving breaks off with all written
-pub flush_broke : (p : Policy) (a b : Stand) (s t : EndpointState) (w w1 w2 k k1 : Option (List ℕ)) → Works p a b s t w w1 k k1 → Keeps w1 w2 → BrokeOff p fault.Write a [] s t w w2 k k1
-flush_broke p a b s t w w1 w2 k k1 x kept = record {
-  stand = b;
-  steps = x.served.steps;
-  serves = x.served.serves;
-  unfed = [];
-  written = moved x.served.steps;
-  unwritten = [];
-  noted = recorded x.served.steps;
-  unnoted = [];
-  feeds = sym (append-nil (fed x.served.steps) ∙ x.served.fed);
-  moves = sym (append-nil (moved x.served.steps));
-  records = sym (append-nil (recorded x.served.steps));
-  writer = Appends-kept w w1 w2 (moved x.served.steps) x.served.written kept;
-  sink = x.served.recorded;
-  left = (
-    record {
-      before = x.served.steps;
-      outputs = [];
-      split = sym (append-nil x.served.steps);
-      each = refl;
-      more = [];
-      all = sym (append-nil (moved x.served.steps));
-    },
-    refl,
-  );
-}
+  -- and where serving breaks off there, all is recorded
+  pub stopped : (e : ServeFault) → IsLeft e b x.served.steps (recorded x.served.steps) [] → BrokeOff p e a [] s t w w2 k k2
+  stopped e left = record {
+    stand = b;
+    steps = x.served.steps;
+    last = t;
+    serves = x.served.serves;
+    same = kept_same t;
+    fed = sym x.served.fed;
+    written = Appends-kept w w1 w2 (moved x.served.steps) x.served.written answers;
+    noted = recorded x.served.steps;
+    unnoted = [];
+    records = sym (append-nil (recorded x.served.steps));
+    sink = Appends-kept k k1 k2 (recorded x.served.steps) x.served.recorded records;
+    left = left;
+  }
 
 -- one call that feeds nothing and moves nothing out
 pub works_one : (p : Policy) (a b : Stand) (s t : EndpointState) (w k k1 : Option (List ℕ)) (x : Step) → Serves p a s (x ∷ []) b t → taken_by x.call x.answer ≡ [] → moved_by
@@ -234,38 +201,25 @@ works_moved p a s t n w w1 k is written = record {
   input = (moved_out s t n is).input;
 }
 
--- or a beginning of them
-pub moved_broke : (p : Policy) (a : Stand) (s t : EndpointState) (n : ℕ) (w w1 k : Option (List ℕ)) → t ≡ record s { unsent = drop n s.unsent } → IsPart w w1 (take n s.unsent)
-    → BrokeOff p fault.Write a [] s t w w1 k k
-moved_broke p a s t n w w1 k is part = record {
-  stand = a;
-  steps = record { call = Output n; answer = MovedOut (take n s.unsent) } ∷ [];
-  serves = MovesOut t n (take n s.unsent) (moved_out s t n is) Rests;
-  unfed = [];
-  written = part.front;
-  unwritten = part.behind;
-  noted = [];
-  unnoted = [];
-  feeds = refl;
-  moves = append-nil (take n s.unsent) ∙ part.is;
-  records = refl;
-  writer = part.written;
-  sink = Appends-nil k;
-  left = (record { before = []; outputs = record { call = Output n; answer = MovedOut (take n s.unsent) } ∷ []; split = refl; each = refl; more = part.front; all = refl }, refl);
-}
+-- what was written of the first piece that waits is the front of what waits
+pub front_taken : (unsent piece : List ℕ) (n : ℕ) (w w1 : Option (List ℕ)) → n ≤ length piece → (behind : List ℕ) × (unsent ≡ piece ++ behind) → Appends w w1 (take n piece) → Appends w w1 (take n unsent)
+front_taken unsent piece n w w1 few h written = subst (λ (l : List ℕ). Appends w w1 l) (sym (ap (take n) h.1 ∙ take-append-le n piece h.0 few)) written
 
--- nothing was moved out
-pub moved_none : (s t : EndpointState) (n : ℕ) → t ≡ record s { unsent = drop n s.unsent } → n ≡ 0 → t ≡ s
-moved_none s t n is none = is ∙ ap (λ (i : ℕ). let r : EndpointState = record s { unsent = drop i s.unsent } in r) none
+-- Where a flush fails serving breaks off with all recorded.
+pub flush_stopped : {X : Type 0} (r : Result X ServeFault) (F : ServeFault → Type 0) → ((e : ServeFault) → (e ≡ fault.Write) ⊎ (e ≡ fault.Sink) → F e) → (r ≡ Err fault.Read → ⊥) → (r ≡ Err fault.NoMemory → ⊥) → IfErr r F
+flush_stopped (Ok x) F f read memory = tt
+flush_stopped (Err fault.Read) F f read memory = absurd (read refl)
+flush_stopped (Err fault.Write) F f read memory = f fault.Write (inl refl)
+flush_stopped (Err fault.Sink) F f read memory = f fault.Sink (inr refl)
+flush_stopped (Err fault.NoMemory) F f read memory = absurd (memory refl)
 
--- what was read out of the front of a list, and put at the front of another
-pub front_is : (n : ℕ) (from old new : List ℕ) → new ≡ take n from ++ drop n old → n ≤ length from → take n new ≡ take n from
-front_is n from old new is within =
-    let long : length (take n from) ≡ n = length-take-le n from within in
-    ap (λ (l : List ℕ). take n l) is ∙ take-append-le n (take n from) (drop n old) (omega (arith, long)) ∙ take_all n (take n from) (omega (arith, long))
+-- then nothing is unrecorded
+pub left_recorded : (e : ServeFault) (stand : Stand) (steps : List Step) (noted : List ℕ) → (e ≡ fault.Write) ⊎ (e ≡ fault.Sink) → IsLeft e stand steps noted []
+left_recorded e stand steps noted (inl is) = subst (λ (x : ServeFault). IsLeft x stand steps noted []) (sym is) refl
+left_recorded e stand steps noted (inr is) = subst (λ (x : ServeFault). IsLeft x stand steps noted []) (sym is) (inl refl)
 
 -- A part of some bytes is one of longer ones.
-pub part_more : (k k1 : Option (List ℕ)) (bytes more : List ℕ) → IsPart k k1 bytes → IsPart k k1 (bytes ++ more)
+pub part_more : (k k1 : Option (List ℕ)) (bytes more : List ℕ) → AppendsFront k k1 bytes → AppendsFront k k1 (bytes ++ more)
 part_more k k1 bytes more x = record { front = x.front; behind = x.behind ++ more; written = x.written; is = ap (λ (l : List ℕ). l ++ more) x.is ∙ append_assoc x.front x.behind more }
 
 -- the bytes up to a place, and a piece from there on
@@ -273,17 +227,13 @@ pub longer_take : (message : List ℕ) (at : ℕ) (piece : List ℕ) → (behind
 longer_take message at piece h =
     ap (λ (l : List ℕ). take at message ++ l) (sym (take-append_seam piece h.0) ∙ ap (λ (l : List ℕ). take (length piece) l) (sym h.1)) ∙ sym (take-add at (length piece) message)
 
--- the front of the first piece is the front of the bytes
-pub front_of_first : (message piece : List ℕ) (n : ℕ) → n ≤ length piece → (behind : List ℕ) × (drop 0 message ≡ piece ++ behind) → take n piece ≡ take n message
-front_of_first message piece n few h = sym (ap (take n) h.1 ∙ take-append-le n piece h.0 few)
-
 -- a piece from a place on ends within the bytes
 pub longer_by : (message : List ℕ) (at : ℕ) (piece : List ℕ) → at ≤ length message → (behind : List ℕ) × (drop at message ≡ piece ++ behind) → at + length piece ≤ length message
 longer_by message at piece within h = omega (arith, length-drop at message, ap (λ (l : List ℕ). length l) h.1, length-append piece h.0)
 
 -- a part of the piece behind what was written before is a part of the whole
 pub part_on : (k k1 k2 : Option (List ℕ)) (head message : List ℕ) (at : ℕ) (piece : List ℕ) → Appends k k1 (head ++ take at message) → (behind : List ℕ) × (drop at message ≡ piece ++ behind)
-    → IsPart k1 k2 piece → IsPart k k2 (head ++ message)
+    → AppendsFront k1 k2 piece → AppendsFront k k2 (head ++ message)
 part_on k k1 k2 head message at piece before h x = record {
   front = (head ++ take at message) ++ x.front;
   behind = x.behind ++ h.0;
@@ -306,21 +256,12 @@ pub only_err : {X E : Type 0} (r : Result X E) (F : E → Type 0) (e : E) (G : T
 only_err (Ok x) F e G is f h = tt
 only_err (Err d) F e G is f h = let same : e ≡ d = cc in subst F same (f h)
 
--- memory was refused, and the writer flushed
-pub starved_at : (p : Policy) (s : EndpointState) (w w1 k : Option (List ℕ)) → Keeps w w1 → BrokeOff p fault.NoMemory Starved [] s s w w1 k k
-starved_at p s w w1 k kept = record {
-  stand = Starved;
-  steps = [];
-  serves = Rests;
-  unfed = [];
-  written = [];
-  unwritten = [];
-  noted = [];
-  unnoted = [];
-  feeds = refl;
-  moves = refl;
-  records = refl;
-  writer = Appends-kept w w w1 [] (Appends-nil w) kept;
-  sink = Appends-nil k;
-  left = (refl, refl, refl);
-}
+-- what follows from two things that hold there
+pub on_ok2 : {X E : Type 0} (r : Result X E) (F G H : Type 0) → (F → G → H) → OnOk r F → OnOk r G → OnOk r H
+on_ok2 (Ok x) F G H f h i = f h i
+on_ok2 (Err e) F G H f h i = tt
+
+-- what follows from what holds of a fault
+pub on_fault : {X E : Type 0} (r : Result X E) (F G : E → Type 0) → ((e : E) → F e → G e) → IfErr r F → IfErr r G
+on_fault (Ok x) F G f h = tt
+on_fault (Err e) F G f h = f e h

@@ -1,8 +1,8 @@
 -- How an endpoint is served over a reader, a writer and a sink: which call follows which, and what is written and recorded (AMQP 1.0, part 2, sections 2.5.6, 2.6.7, 2.6.12 and 2.6.14).
-use Rattle.std.specs.Prelude.{◌≡◌, ℕ, suc, ◌-◌, ◌*◌, ◌^◌, ◌<◌, ◌⊎◌, Bool, true, false, not, min, nat_le, if◌then◌else◌, List, [], ◌∷◌, ◌++◌, length, map, Option, IsTrue}
+use Rattle.std.specs.Prelude.{◌≡◌, ℕ, suc, ◌-◌, ◌*◌, ◌^◌, ◌<◌, ◌⊎◌, Bool, true, false, min, nat_le, if◌then◌else◌, List, [], ◌∷◌, ◌++◌, length, map, Option, IsTrue}
 use Rattle.std.specs.Int.{w16, w32, to_be_bytes}
 use Rattle.std.specs.Io.KnownBytes.{Appends}
-use Rattle.std.specs.List.{flat_map, list_any}
+use Rattle.std.specs.List.{flat_map}
 use Rattle.amqp_frame.specs.Splits.{Waits, IsUnchanged}
 use Rattle.amqp_frame.specs.Units.{StreamUnit}
 use Rattle.amqp_link.specs.Links.{open_count}
@@ -22,7 +22,7 @@ use Rattle.amqp_endpoint.specs.Configs.{Configured}
 use Rattle.amqp_endpoint.specs.Connections.{ConnectionState, channels, slot_at, is_dead}
 use Rattle.amqp_endpoint.specs.Lines.{line_of, may_grow_on}
 use Rattle.amqp_endpoint.specs.Runs.{Call, Feed, InSession, Output, Finish, Answer, Fed, Handed, HandedUp, MovedOut, Ended, Does, Run}
-use Rattle.amqp_endpoint.specs.Steps.{EndpointState}
+use Rattle.amqp_endpoint.specs.Steps.{EndpointState, IsKept}
 use Rattle.amqp_endpoint.specs.Takings.{link_in}
 use Rattle.amqp_endpoint.specs.Traces.{IsInRange, AreInRange, taken_by, moved_by}
 
@@ -162,44 +162,38 @@ pub record Served (p : Policy) (a b : Stand) (bytes : List ℕ) (old new : Endpo
   pub written : Appends held now (moved steps)
   pub recorded : Appends kept keeps (recorded steps)
 
--- the call moves bytes out
-abbrev pub is_output : Call → Bool
-is_output (Output room) = true
-is_output _ = false
-
--- All that was moved out before the last call that moves nothing out was written.
-pub record IsWrittenUp (steps : List Step) (written : List ℕ) : Type 0 where
+-- All that was taken is recorded but for the message of the last call, a take, whose record is begun.
+pub record IsBegun (steps : List Step) (noted : List ℕ) : Type 0 where
   pub before : List Step
-  pub outputs : List Step
-  pub split : steps ≡ before ++ outputs
-  pub each : list_any (λ x. not (is_output x.call)) outputs ≡ false
-  pub more : List ℕ
-  pub all : written ≡ moved before ++ more
+  pub channel : ℕ
+  pub handle : ℕ
+  pub handed : Handed
+  pub split : steps ≡ before ++ record { call = InSession channel (Take handle); answer = HandedUp handed } ∷ []
+  pub part : List ℕ
+  pub all : noted ≡ recorded before ++ part
 
--- What is not done where serving breaks off. At Read and NoMemory all that was moved out was written, and all that was taken recorded; at Read all that was read was fed.
--- At Write no call was made, but to move more out, since something moved out was not written.
-abbrev pub IsLeft : ServeFault → Stand → List Step → List ℕ → List ℕ → List ℕ → List ℕ → Type 0
-IsLeft fault.Read stand steps unfed written unwritten unnoted = (stand ≡ reading) × (unfed ≡ []) × (unwritten ≡ []) × (unnoted ≡ [])
-IsLeft fault.Write stand steps unfed written unwritten unnoted = IsWrittenUp steps written × (unnoted ≡ [])
-IsLeft fault.Sink stand steps unfed written unwritten unnoted = unwritten ≡ []
-IsLeft fault.NoMemory stand steps unfed written unwritten unnoted = (stand ≡ Starved) × (unwritten ≡ []) × (unnoted ≡ [])
+-- Where serving breaks off. At Read and NoMemory no call is owed but what the reader, or the memory, would have led to. All that was taken is recorded, but at Sink perhaps the message of the last call.
+abbrev pub IsLeft : ServeFault → Stand → List Step → List ℕ → List ℕ → Type 0
+IsLeft fault.Read stand steps noted unnoted = (stand ≡ reading) × (unnoted ≡ [])
+IsLeft fault.Write stand steps noted unnoted = unnoted ≡ []
+IsLeft fault.Sink stand steps noted unnoted = (unnoted ≡ []) ⊎ IsBegun steps noted
+IsLeft fault.NoMemory stand steps noted unnoted = (stand ≡ Starved) × (unnoted ≡ [])
 
--- Serving broke off with this fault: a beginning of the bytes was fed, a beginning of what was moved out written, and a beginning of the records.
+-- Serving broke off with this fault: these bytes were fed, all that was moved out was written, and a beginning of the records was recorded. A reader that failed may have put something into the room of the
+-- endpoint's buffer, where it says nothing.
 pub record BrokeOff (p : Policy) (e : ServeFault) (a : Stand) (bytes : List ℕ) (old new : EndpointState) (held now kept keeps : Option (List ℕ)) : Type 0 where
   pub stand : Stand
   pub steps : List Step
-  pub serves : Serves p a old steps stand new
-  pub unfed : List ℕ
-  pub written : List ℕ
-  pub unwritten : List ℕ
+  pub last : EndpointState
+  pub serves : Serves p a old steps stand last
+  pub same : IsKept last new
+  pub fed : bytes ≡ fed steps
+  pub written : Appends held now (moved steps)
   pub noted : List ℕ
   pub unnoted : List ℕ
-  pub feeds : bytes ≡ fed steps ++ unfed
-  pub moves : moved steps ≡ written ++ unwritten
   pub records : recorded steps ≡ noted ++ unnoted
-  pub writer : Appends held now written
   pub sink : Appends kept keeps noted
-  pub left : IsLeft e stand steps unfed written unwritten unnoted
+  pub left : IsLeft e stand steps noted unnoted
 
 -- no unit waits
 abbrev pub IsIdle : EndpointState → Type 0
@@ -227,7 +221,7 @@ calls_of steps = map (λ x. x.call) steps
 abbrev pub answers_of : List Step → List Answer
 answers_of steps = map (λ x. x.answer) steps
 
--- The whole run over the bytes that were read. Its last call is the finish, which came once the connection was over, or the reader had ended and all bytes were fed.
+-- The whole run over the bytes that were read. Its last call is the finish, which came once the connection was over, or the reader had ended.
 pub record IsServed (p : Policy) (end : End) (bytes : List ℕ) (ended : Bool) (old new : EndpointState) (held now kept keeps : Option (List ℕ)) : Type 0 where
   pub steps : List Step
   pub before : EndpointState
@@ -235,9 +229,8 @@ pub record IsServed (p : Policy) (end : End) (bytes : List ℕ) (ended : Bool) (
   pub ends : Serves p reading before (finish_of end ∷ []) Over new
   pub run : Run old (calls_of (steps ++ finish_of end ∷ [])) (answers_of (steps ++ finish_of end ∷ [])) new
   pub range : AreInRange (calls_of (steps ++ finish_of end ∷ []))
-  pub unfed : List ℕ
-  pub fed : bytes ≡ fed steps ++ unfed
-  pub over : (is_dead before.connection.phase ≡ true) ⊎ (IsTrue ended × (unfed ≡ []))
+  pub fed : bytes ≡ fed steps
+  pub over : (is_dead before.connection.phase ≡ true) ⊎ IsTrue ended
   -- no unit waited then, unless the connection was over at first
   pub idle : is_dead old.connection.phase ≡ false → IsIdle before
   pub written : Appends held now (moved steps)

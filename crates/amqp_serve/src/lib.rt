@@ -7,6 +7,9 @@
 #![tactic(auto)]
 
 pub mod laws;
+mod records;
+mod sending;
 mod serving;
+mod supplies;
 
 pub use serving::{Policy, ServeFault, serve};

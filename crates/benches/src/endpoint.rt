@@ -14,14 +14,22 @@ use std::time::Instant;
 /// The longest frame of the peer.
 const MAX_FRAME: u32 = 65536;
 
+/// How the bytes come to the endpoint.
+#[derive(Clone, Copy)]
+pub enum By {
+    /// Fed in pieces of so many.
+    Pieces(u32),
+    /// Read into its room, as many as it asks for.
+    Fills,
+}
+
 /// Messages that come one after the other, are handed up and settled, and how many do where the command line doesn't say.
 #[derive(Clone, Copy)]
 pub struct Case {
     name: &'static str,
     /// The bytes of a message.
     message: u32,
-    /// How many bytes are fed at a time.
-    piece: u32,
+    by: By,
     /// The links on which they come in turn.
     links: u8,
     /// The deliveries on the first link that stay open, handed up and not settled.
@@ -38,7 +46,8 @@ impl Measured for Case {
 
     fn about(&self) -> &'static str {
         match (self.links, self.open) {
-            (1, 0) => "messages of so many bytes, fed in pieces of 4096, or of so many `by`",
+            (1, 0) =>
+                "messages of so many bytes, fed in pieces of 4096, of so many `by`, or by fills",
             (1, _) => "messages of 100 bytes, while so many others are open",
             _ => "messages of 100 bytes on so many links in turn",
         }
@@ -49,10 +58,10 @@ impl Measured for Case {
         let wanted = mode.rounds(self.rounds);
         let mut block = Block::new(alloc, *self)?;
         let mut run = Run::new(alloc, *self)?;
-        receive(&mut run, &mut block, self.piece, self.open)?;
+        receive(&mut run, &mut block, self.by, self.open)?;
         let (before, moved) = (run.messages, run.moved);
         let start = Instant::now(rt)?;
-        receive(&mut run, &mut block, self.piece, wanted)?;
+        receive(&mut run, &mut block, self.by, wanted)?;
         let messages = run.messages.wrapping_sub(before);
         let time = mode.time_of(rt, &start, u128::from(messages))?;
         let moved = run.moved.wrapping_sub(moved);
@@ -63,11 +72,11 @@ impl Measured for Case {
 }
 
 /// One link, and nothing else open.
-const fn one_link(name: &'static str, message: u32, piece: u32, rounds: u32) -> Case {
+const fn one_link(name: &'static str, message: u32, by: By, rounds: u32) -> Case {
     Case {
         name,
         message,
-        piece,
+        by,
         links: 1,
         open: 0,
         rounds,
@@ -75,15 +84,20 @@ const fn one_link(name: &'static str, message: u32, piece: u32, rounds: u32) -> 
 }
 
 /// Every case, in the order in which they are measured.
-pub fn cases() -> [Case; 9] {
-    let small = one_link("100", 100, 4096, 1_000_000);
+pub fn cases() -> [Case; 12] {
+    let short = By::Pieces(4096);
+    let long = By::Pieces(65536);
+    let small = one_link("100", 100, short, 1_000_000);
     [
         small,
-        one_link("100-by-65536", 100, 65536, 1_000_000),
-        one_link("10000", 10_000, 4096, 200_000),
-        one_link("10000-by-65536", 10_000, 65536, 200_000),
-        one_link("1000000", 1_000_000, 4096, 2_000),
-        one_link("1000000-by-65536", 1_000_000, 65536, 2_000),
+        one_link("100-by-65536", 100, long, 1_000_000),
+        one_link("100-by-fills", 100, By::Fills, 1_000_000),
+        one_link("10000", 10_000, short, 200_000),
+        one_link("10000-by-65536", 10_000, long, 200_000),
+        one_link("10000-by-fills", 10_000, By::Fills, 200_000),
+        one_link("1000000", 1_000_000, short, 2_000),
+        one_link("1000000-by-65536", 1_000_000, long, 2_000),
+        one_link("1000000-by-fills", 1_000_000, By::Fills, 2_000),
         Case {
             name: "8-links",
             links: 8,
@@ -103,7 +117,7 @@ pub fn cases() -> [Case; 9] {
 }
 
 /// Feeds blocks of messages until at least so many came.
-fn receive(run: &mut Run, block: &mut Block, piece: u32, messages: u32) -> Result<(), Failure> {
+fn receive(run: &mut Run, block: &mut Block, by: By, messages: u32) -> Result<(), Failure> {
     let first = run.messages;
     for _ in 0..messages {
         let came = run.messages.wrapping_sub(first);
@@ -111,7 +125,7 @@ fn receive(run: &mut Run, block: &mut Block, piece: u32, messages: u32) -> Resul
             break;
         }
         block.number(run.messages.wrapping_add(1 << 16));
-        run.feed(&block.bytes, piece as usize)?;
+        run.feed(&block.bytes, by)?;
     }
     Ok(())
 }

@@ -69,7 +69,7 @@ impl Codec<'_> {
                 self.state = State::Stream(Stream::new(self.heap, parsed(words)?)?);
                 Ok(String::from_str(alloc, "()")?)
             }
-            "push" | "each" | "drop" | "finish" => match &mut self.state {
+            "push" | "fill" | "each" | "drop" | "finish" => match &mut self.state {
                 State::Stream(stream) => stream.call(alloc, name, words),
                 _ => Err(Miss::Unread("no splitter")),
             },

@@ -6,6 +6,7 @@ use amqp_frame::{Frame, FrameFault, Splitter};
 use row_files::words::cut;
 use row_files::{Heap, Miss};
 use std::alloc::{AllocError, Global};
+use std::io::Read;
 
 /// A splitter, and the units that it lets go.
 #[derive(Drop)]
@@ -25,6 +26,7 @@ impl<'a> Stream<'a> {
     pub fn call(&mut self, alloc: Global, name: &str, words: &str) -> Result<String, Miss> {
         match name {
             "push" => self.push(alloc, words),
+            "fill" => self.fill(alloc, words),
             "each" => self.push_each(alloc, words),
             "drop" => self.drop_frame(alloc),
             "finish" => self.finish(alloc),
@@ -37,6 +39,27 @@ impl<'a> Stream<'a> {
         let bytes = bytes_of(alloc, words)?;
         let used = self.splitter.push(&bytes);
         Ok(format!(in alloc; "{used}")?)
+    }
+
+    /// How many of these are read at a time into the room that is lent, until it is empty or none is left.
+    fn fill(&mut self, alloc: Global, words: &str) -> Result<String, Miss> {
+        let bytes = bytes_of(alloc, words)?;
+        let mut rest = bytes.as_slice();
+        let mut taken = String::new(alloc);
+        for _ in 0..bytes.len() {
+            let Ok(count) = rest.read(self.splitter.spare()) else {
+                return Err(Miss::Unread("no read"));
+            };
+            if count == 0 {
+                break;
+            }
+            self.splitter.filled(count);
+            if !taken.is_empty() {
+                taken.push(' ')?;
+            }
+            write!(taken, "{count}")?;
+        }
+        Ok(taken)
     }
 
     /// How many are taken of each byte.

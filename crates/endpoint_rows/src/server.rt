@@ -5,7 +5,7 @@
 //! `nothing` may stand for no bytes.
 
 use amqp_endpoint::{Config, End, Endpoint};
-use amqp_frame::Device;
+use amqp_frame::{Device, Direct};
 use amqp_perform::Outcome;
 use amqp_serve::{Policy, ServeFault, serve};
 use row_files::words::{bytes_of, hex_of, number};
@@ -72,8 +72,8 @@ impl<'a> Server<'a> {
         let (mut written, mut recorded) = (Vec::new(alloc), Vec::new(alloc));
         let end = serve(
             &mut endpoint,
-            &mut Device::new(source),
-            &mut Device::new(&mut written),
+            &mut Device::new(Direct::new(source)),
+            &mut Device::new(Direct::new(&mut written)),
             &mut Device::new(&mut recorded),
             policy,
         );

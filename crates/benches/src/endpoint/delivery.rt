@@ -1,12 +1,13 @@
 //! Messages through an endpoint.
 
 use crate::endpoint::stream::opening;
-use crate::endpoint::{Case, MAX_FRAME};
+use crate::endpoint::{By, Case, MAX_FRAME};
 use crate::measure::Failure;
 use amqp_endpoint::{CallFault, Config, Endpoint, Event, Outcome};
 use amqp_link::MAX_ALLOWED;
 use amqp_perform::Outcome as Settlement;
 use std::alloc::{AllocError, Global};
+use std::io::Read;
 
 /// The places of the session's window, which no run uses up.
 const WINDOW: u32 = (1 << 31) - 1;
@@ -71,15 +72,22 @@ impl Run {
             messages: 0,
             moved: 0,
         };
-        run.feed(&opening(alloc, case.links)?, 4096)?;
+        run.feed(&opening(alloc, case.links)?, By::Pieces(4096))?;
         run.grant()?;
         Ok(run)
     }
 
-    /// Feeds bytes in pieces of at most so many.
-    pub fn feed(&mut self, bytes: &[u8], most: usize) -> Result<(), Stopped> {
+    /// Feeds bytes, and moves out what waits to be sent behind each piece of at most so many.
+    pub fn feed(&mut self, bytes: &[u8], by: By) -> Result<(), Stopped> {
+        let most = match by {
+            By::Pieces(most) => most as usize,
+            By::Fills => 65536,
+        };
         for piece in bytes.chunks(most.max(1)) {
-            self.feed_piece(piece)?;
+            match by {
+                By::Pieces(_) => self.feed_piece(piece)?,
+                By::Fills => self.fill(piece)?,
+            }
             self.empty();
         }
         Ok(())
@@ -94,14 +102,35 @@ impl Run {
             }
             let fed = self.endpoint.feed(rest);
             rest = rest.get(fed.used..).unwrap_or(&[]);
-            match fed.outcome {
-                Outcome::Event(Event::Ready { handle, .. }) => self.receive(handle)?,
-                Outcome::Event(Event::Failed { .. }) => return Err(Stopped::Told(fed.outcome)),
-                Outcome::More | Outcome::Event(_) => {}
-                other => return Err(Stopped::Told(other)),
-            }
+            self.follow(fed.outcome)?;
         }
         Ok(())
+    }
+
+    /// The same, read into the endpoint's room.
+    fn fill(&mut self, piece: &[u8]) -> Result<(), Stopped> {
+        let mut rest = piece;
+        for _ in 0..piece.len() {
+            let Ok(count) = rest.read(self.endpoint.spare()) else {
+                break;
+            };
+            if count == 0 {
+                break;
+            }
+            let fed = self.endpoint.filled(count);
+            self.follow(fed.outcome)?;
+        }
+        Ok(())
+    }
+
+    /// Receives the message that is ready.
+    fn follow(&mut self, told: Outcome) -> Result<(), Stopped> {
+        match told {
+            Outcome::Event(Event::Ready { handle, .. }) => self.receive(handle),
+            Outcome::Event(Event::Failed { .. }) => Err(Stopped::Told(told)),
+            Outcome::More | Outcome::Event(_) => Ok(()),
+            other => Err(Stopped::Told(other)),
+        }
     }
 
     /// A message is handed up, and settled unless it is to stay open.

@@ -7,7 +7,7 @@ loop-taken-preserved g c =
     let once = c.fill_once-count.ensures.filled in record {
       bound = omega (arith, once.bound, length_rest c.args.piece.now c.loop-taken.taken);
       bytes =
-          taken_more c.args.bytes.now.items c.loop-taken.bytes.items c.fill_once-count.new.bytes.items c.args.piece.now c.loop-taken.taken c.fill_once-count.result
+          taken_more c.args.bytes.now.filled c.loop-taken.bytes.filled c.fill_once-count.new.bytes.filled c.args.piece.now c.loop-taken.taken c.fill_once-count.result
           c.loop-taken.invariant.bytes once.bytes;
       sound = once.sound;
     }

@@ -1,9 +1,10 @@
-use Rattle.std.proofs.Common.{◌-◌, length, vec_capacity}
+use Rattle.std.proofs.Common.{◌-◌, length}
+use Rattle.amqp_frame.specs.Rooms.{whole_length}
 use Rattle.amqp_frame.specs.Splits.{IsFilled}
 use Rattle.amqp_frame.proofs.split.fill_by_steps.Given as goal
 
 abbrev pub invariant-loop-taken : goal.invariant-loop-taken
-invariant-loop-taken g l = IsFilled l.max l.stage l.fn.bytes.items l.piece l.taken l.bytes.items (vec_capacity l.bytes) l.progress
+invariant-loop-taken g l = IsFilled l.max l.stage l.fn.bytes.filled l.piece l.taken l.bytes.filled (whole_length l.bytes) l.progress
 
 abbrev pub decreases-loop-taken : goal.decreases-loop-taken
 decreases-loop-taken g l = length l.piece - l.taken

@@ -1,5 +1,6 @@
 use Rattle.std.proofs.Common.{Bool, arith, sym, subst, ◌∙◌}
-use Rattle.amqp_endpoint.specs.Steps.{EndpointState, FeedDone, IsTaken, Comes}
+use Rattle.amqp_frame.specs.Splits.{IsTaken}
+use Rattle.amqp_endpoint.specs.Steps.{EndpointState, FeedDone, Comes}
 use Rattle.amqp_endpoint.proofs.endpoint.Endpoint.feed.Goals as goal
 
 pub returns : goal.returns

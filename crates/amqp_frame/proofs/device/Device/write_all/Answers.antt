@@ -4,7 +4,7 @@ use Rattle.std.proofs.Math.Seq.{take-add}
 use Rattle.std.proofs.lemmas.Grind.{common_steps}
 use Rattle.std.proofs.lemmas.List.{take_rest, take-append-drop}
 use Rattle.std.specs.Io.KnownBytes.{Appends}
-use Rattle.amqp_frame.specs.Devices.{device_inner, IsPart}
+use Rattle.amqp_frame.specs.Devices.{device_inner, AppendsFront}
 use Rattle.amqp_frame.proofs.Results.{on_err}
 use Rattle.amqp_frame.proofs.device.Device.write_all.Goals as goal
 
@@ -29,5 +29,5 @@ pub returns-in_err-at-clause-begun : goal.returns-in_err-at-clause-begun
 returns-in_err-at-clause-begun g c =
     let at = c.rest.at in
     let bytes = c.args.buf.now in
-    on_err c.from_residual-in_err-at.result (IsPart _ _ bytes)
+    on_err c.from_residual-in_err-at.result (AppendsFront _ _ bytes)
     (record { front = take at bytes; behind = drop at bytes; written = Appends-kept _ _ _ _ c.rest.invariant.written c.in_err-at.ensures.bytes; is = sym (take-append-drop at bytes) })

@@ -1,0 +1,7 @@
+use Rattle.std.proofs.Common.{arith}
+use Rattle.amqp_frame.proofs.Overs.{over_length}
+use Rattle.amqp_frame.proofs.split.Splitter.spare_front.Goals as goal
+
+pub invariant_of-self-lent : goal.invariant_of-self-lent
+invariant_of-self-lent g c w =
+    let i = c.self.invariant in record { least = i.least; room = omega (arith, i.room, over_length w c.self.inside.bytes.spare); held = i.held; judged = i.judged }

@@ -1,0 +1,73 @@
+//! The records of messages.
+ghost use Rattle.std.specs.Prelude.{◌≡◌, ◌+◌, ◌≤◌, ◌++◌, ◌↔◌, length, take, Err, IsErr, IsTrue, OnErr, OnOk};
+ghost use Rattle.std.specs.Io.KnownBytes.{Appends};
+ghost use Rattle.amqp_frame.specs.Devices.{device_inner, has_failed, AppendsFront};
+ghost use Rattle.amqp_endpoint.specs.Endpoints.{handed_in};
+ghost use Rattle.amqp_serve.specs.Serving.{record_of, record_head};
+
+use crate::ServeFault;
+use amqp_frame::Device;
+use amqp_link::Taken;
+use std::alloc::Allocator;
+use std::io::Write;
+
+/// Writes the record of a message: its head, and the message piece by piece.
+pub fn write_record<A: Allocator + Copy, S: Write + Drop>(
+    sink: &mut Device<S>,
+    channel: u16,
+    handle: u32,
+    taken: &Taken<A>,
+) -> Result<(), ServeFault>
+    requires { ¬ (IsTrue (has_failed sink.old)) }
+    ensures fault { OnErr result (result ≡ Err ServeFault.Sink) }
+    ensures failed { IsErr result ↔ IsTrue (has_failed sink.new) }
+    ensures written { OnOk result (Appends (S.contents (device_inner sink.old)) (S.contents (device_inner sink.new)) (record_of channel handle (handed_in taken.now))) }
+    ensures begun { OnErr result (AppendsFront (S.contents (device_inner sink.old)) (S.contents (device_inner sink.new)) (record_of channel handle (handed_in taken.now))) }
+{
+    put_out(sink, &head_of(channel, handle, taken))?;
+    let mut at = 0;
+    'pieces: while at < taken.message.len() {
+        let piece = taken.message.piece(at);
+        put_out(sink, piece)?;
+        at += piece.len();
+    }
+    Ok(())
+}
+
+/// Writes all of a piece.
+fn put_out<S: Write + Drop>(sink: &mut Device<S>, piece: &[u8]) -> Result<(), ServeFault>
+    requires { ¬ (IsTrue (has_failed sink.old)) }
+    ensures fault { OnErr result (result ≡ Err ServeFault.Sink) }
+    ensures failed { IsErr result ↔ IsTrue (has_failed sink.new) }
+    ensures written { OnOk result (Appends (S.contents (device_inner sink.old)) (S.contents (device_inner sink.new)) piece.now) }
+    ensures begun { OnErr result (AppendsFront (S.contents (device_inner sink.old)) (S.contents (device_inner sink.new)) piece.now) }
+{
+    match sink.write_all(piece) {
+        Ok(()) => Ok(()),
+        Err(_) => Err(ServeFault::Sink),
+    }
+}
+
+/// The record of a message but for the message.
+#[tactic(auto, unfolding(crate::specs::Serving::record_head))]
+fn head_of<A: Allocator + Copy>(channel: u16, handle: u32, taken: &Taken<A>) -> [u8; 18]
+    ensures { result ≡ record_head channel handle (handed_in taken.now) }
+{
+    let len = u32::try_from(taken.message.len()).unwrap_or(u32::MAX);
+    let mut head = [0; 18];
+    put(&mut head, 0, &channel.to_be_bytes());
+    put(&mut head, 2, &handle.to_be_bytes());
+    put(&mut head, 6, &taken.delivery_id.to_be_bytes());
+    put(&mut head, 10, &taken.message_format.to_be_bytes());
+    put(&mut head, 14, &len.to_be_bytes());
+    head
+}
+
+/// Puts the bytes at their place.
+fn put(out: &mut [u8], at: usize, bytes: &[u8])
+    requires { at + length bytes.now ≤ length out.old }
+    ensures length { length out.new ≡ length out.old }
+    ensures written { take (at + length bytes.now) out.new ≡ take at out.old ++ bytes.now }
+{
+    out[at..at + bytes.len()].copy_from_slice(bytes);
+}

@@ -1,0 +1,167 @@
+//! What is written to the peer, what is flushed before it, and the one read.
+ghost use Rattle.std.specs.Prelude.{◌≡◌, ◌≢◌, ◌↔◌, ◌≤◌, ◌⊎◌, ◌<◌, [], ℕ, List, length, take, true, false, Err, Ok, IsErr, IsTrue, IfOk, OnErr, OnOk, IfErr};
+ghost use Rattle.std.specs.Io.KnownBytes.{Appends, Consumes, Keeps};
+ghost use Rattle.amqp_frame.specs.Devices.{device_inner, has_failed, has_ended, is_flushed, reads_ahead};
+ghost use Rattle.amqp_frame.specs.Splits.{TakesNothing};
+ghost use Rattle.amqp_endpoint.specs.Connections.{is_dead};
+ghost use Rattle.amqp_endpoint.specs.Steps.{MayRead, IsKept};
+ghost use Rattle.amqp_serve.specs.Serving.{Stand, Works, BrokeOff};
+
+use crate::{Policy, ServeFault};
+use amqp_endpoint::Endpoint;
+use amqp_frame::{AtHand, Device, HoldsBack};
+use std::alloc::Allocator;
+use std::io::{Read, Write};
+
+/// Reads into the endpoint's room. It may wait for the peer, so that it needs a reader that knows of bytes at hand, or that
+/// all answers have gone out, and the records before them.
+pub fn read_in<A: Allocator + Copy, R: Read + AtHand + Drop, W: Write + Drop, S: Write + Drop>(
+    endpoint: &mut Endpoint<A>,
+    reader: &mut Device<R>,
+    writer: &Device<W>,
+    sink: &Device<S>,
+) -> Result<usize, ServeFault>
+    requires reader { ¬ (IsTrue (has_failed reader.old)) }
+    requires alive { is_dead endpoint.old.connection.phase ≡ false }
+    requires wants { TakesNothing endpoint.old.input → ⊥ }
+    requires sent { endpoint.old.unsent ≡ [] }
+    requires flushed { (R.has_some (device_inner reader.old) ≡ true) ⊎ ((is_flushed writer.now ≡ true) × (is_flushed sink.now ≡ true)) }
+    ensures fault { OnErr result (result ≡ Err ServeFault.Read) }
+    ensures failed { IsErr result ↔ IsTrue (has_failed reader.new) }
+    ensures read { IfOk result (λ n. MayRead endpoint.new n × IsKept endpoint.old endpoint.new
+        × Consumes (R.remaining (device_inner reader.old)) (R.remaining (device_inner reader.new)) (take n endpoint.new.input.spare)) }
+    ensures fewer { has_ended reader.old ≡ false → OnOk result (reads_ahead reader.new < reads_ahead reader.old) }
+    ensures kept { OnErr result (IsKept endpoint.old endpoint.new × Keeps (R.remaining (device_inner reader.old)) (R.remaining (device_inner reader.new))) }
+{
+    match reader.read(endpoint.spare()) {
+        Ok(count) => Ok(count),
+        Err(_) => Err(ServeFault::Read),
+    }
+}
+
+/// Writes all that waits to be sent; and where no bytes are at hand, so that the next read may wait for the peer, flushes
+/// the records, and then it.
+pub fn send_out<A: Allocator + Copy, W: Write + HoldsBack + Drop, S: Write + Drop>(
+    endpoint: &mut Endpoint<A>,
+    at_hand: bool,
+    writer: &mut Device<W>,
+    sink: &mut Device<S>,
+) -> Result<(), ServeFault>
+    requires writer { ¬ (IsTrue (has_failed writer.old)) }
+    requires sink { ¬ (IsTrue (has_failed sink.old)) }
+    ensures read { result ≢ Err ServeFault.Read }
+    ensures memory { result ≢ Err ServeFault.NoMemory }
+    ensures write { (result ≡ Err ServeFault.Write) ↔ IsTrue (has_failed writer.new) }
+    ensures sink { (result ≡ Err ServeFault.Sink) ↔ IsTrue (has_failed sink.new) }
+    ensures flushed { at_hand ≡ false → OnOk result ((is_flushed writer.new ≡ true) × (is_flushed sink.new ≡ true)) }
+    ensures empty { OnOk result (endpoint.new.unsent ≡ []) }
+    ensures connection { OnOk result (endpoint.new.connection ≡ endpoint.old.connection) }
+    ensures works { OnOk result ((p : Policy) (a : Stand) → Works p a a endpoint.old endpoint.new (W.contents (device_inner writer.old)) (W.contents (device_inner writer.new))
+        (S.contents (device_inner sink.old)) (S.contents (device_inner sink.new))) }
+    ensures begun { IfErr result (λ e. (p : Policy) (a : Stand) → BrokeOff p e a [] endpoint.old endpoint.new (W.contents (device_inner writer.old))
+        (W.contents (device_inner writer.new)) (S.contents (device_inner sink.old)) (S.contents (device_inner sink.new))) }
+{
+    write_out(endpoint, writer, sink)?;
+    if at_hand {
+        return Ok(());
+    }
+    flush_both(writer, sink)
+}
+
+/// Flushes the records, and then the answers to them, so that no peer hears of a message that is not recorded.
+pub fn flush_both<W: Write + Drop, S: Write + Drop>(
+    writer: &mut Device<W>,
+    sink: &mut Device<S>,
+) -> Result<(), ServeFault>
+    requires writer { ¬ (IsTrue (has_failed writer.old)) }
+    requires sink { ¬ (IsTrue (has_failed sink.old)) }
+    ensures read { result ≢ Err ServeFault.Read }
+    ensures memory { result ≢ Err ServeFault.NoMemory }
+    ensures write { (result ≡ Err ServeFault.Write) ↔ IsTrue (has_failed writer.new) }
+    ensures sink { (result ≡ Err ServeFault.Sink) ↔ IsTrue (has_failed sink.new) }
+    ensures flushed { OnOk result (is_flushed writer.new ≡ true) }
+    ensures recorded { ¬ (IsTrue (has_failed sink.new)) → is_flushed sink.new ≡ true }
+    ensures first { IsTrue (has_failed sink.new) → writer.new ≡ writer.old }
+    ensures answers { Keeps (W.contents (device_inner writer.old)) (W.contents (device_inner writer.new)) }
+    ensures records { Keeps (S.contents (device_inner sink.old)) (S.contents (device_inner sink.new)) }
+{
+    if sink.flush().is_err() {
+        return Err(ServeFault::Sink);
+    }
+    match writer.flush() {
+        Ok(()) => Ok(()),
+        Err(_) => Err(ServeFault::Write),
+    }
+}
+
+/// Writes all that waits to be sent. Before a write that the writer passes on, the records are flushed.
+pub fn write_out<A: Allocator + Copy, W: Write + HoldsBack + Drop, S: Write + Drop>(
+    endpoint: &mut Endpoint<A>,
+    writer: &mut Device<W>,
+    sink: &mut Device<S>,
+) -> Result<(), ServeFault>
+    requires writer { ¬ (IsTrue (has_failed writer.old)) }
+    requires sink { ¬ (IsTrue (has_failed sink.old)) }
+    ensures read { result ≢ Err ServeFault.Read }
+    ensures memory { result ≢ Err ServeFault.NoMemory }
+    ensures write { (result ≡ Err ServeFault.Write) ↔ IsTrue (has_failed writer.new) }
+    ensures sink { (result ≡ Err ServeFault.Sink) ↔ IsTrue (has_failed sink.new) }
+    ensures empty { OnOk result (endpoint.new.unsent ≡ []) }
+    ensures connection { OnOk result (endpoint.new.connection ≡ endpoint.old.connection) }
+    ensures works { OnOk result ((p : Policy) (a : Stand) → Works p a a endpoint.old endpoint.new (W.contents (device_inner writer.old)) (W.contents (device_inner writer.new))
+        (S.contents (device_inner sink.old)) (S.contents (device_inner sink.new))) }
+    ensures begun { IfErr result (λ e. (p : Policy) (a : Stand) → BrokeOff p e a [] endpoint.old endpoint.new (W.contents (device_inner writer.old))
+        (W.contents (device_inner writer.new)) (S.contents (device_inner sink.old)) (S.contents (device_inner sink.new))) }
+{
+    'pieces: loop {
+        let piece = endpoint.unsent_front();
+        if piece.is_empty() {
+            return Ok(());
+        }
+        record_first(piece.len(), writer, sink)?;
+        let count = hand_over(piece, writer, sink)?;
+        endpoint.sent(count);
+    }
+}
+
+/// Flushes the records, unless the writer keeps so many more bytes to itself.
+fn record_first<W: Write + HoldsBack + Drop, S: Write + Drop>(
+    count: usize,
+    writer: &Device<W>,
+    sink: &mut Device<S>,
+) -> Result<(), ServeFault>
+    requires { ¬ (IsTrue (has_failed sink.old)) }
+    ensures fault { OnErr result (result ≡ Err ServeFault.Sink) }
+    ensures failed { IsErr result ↔ IsTrue (has_failed sink.new) }
+    ensures recorded { OnOk result ((count ≤ W.room (device_inner writer.now)) ⊎ (is_flushed sink.new ≡ true)) }
+    ensures records { Keeps (S.contents (device_inner sink.old)) (S.contents (device_inner sink.new)) }
+{
+    if count <= writer.holds_back() {
+        return Ok(());
+    }
+    match sink.flush() {
+        Ok(()) => Ok(()),
+        Err(_) => Err(ServeFault::Sink),
+    }
+}
+
+/// Hands bytes to the writer, which must keep them to itself, or the records be flushed. Answers how many it took.
+fn hand_over<W: Write + HoldsBack + Drop, S: Write + Drop>(
+    piece: &[u8],
+    writer: &mut Device<W>,
+    sink: &Device<S>,
+) -> Result<usize, ServeFault>
+    requires writer { ¬ (IsTrue (has_failed writer.old)) }
+    requires recorded { (length piece.now ≤ W.room (device_inner writer.old)) ⊎ (is_flushed sink.now ≡ true) }
+    ensures fault { OnErr result (result ≡ Err ServeFault.Write) }
+    ensures failed { IsErr result ↔ IsTrue (has_failed writer.new) }
+    ensures bound { IfOk result (λ n. n ≤ length piece.now) }
+    ensures some { 0 < length piece.now → IfOk result (λ n. 0 < n) }
+    ensures taken { IfOk result (λ n. Appends (W.contents (device_inner writer.old)) (W.contents (device_inner writer.new)) (take n piece.now)) }
+    ensures none { OnErr result (Keeps (W.contents (device_inner writer.old)) (W.contents (device_inner writer.new))) }
+{
+    match writer.write(piece) {
+        Ok(count) => Ok(count),
+        Err(_) => Err(ServeFault::Write),
+    }
+}
