@@ -12,8 +12,9 @@ use Rattle.amqp_dump.specs.declared.scan.Scanner.{Scanner}
 use Rattle.amqp_dump.specs.declared.scan.TheConstants.{MAX_FRAME}
 use Rattle.amqp_dump.specs.declared.scanned.Scanned.{Scanned}
 use Rattle.amqp_dump.specs.Entries.{Entry, entry_of, is_fault, told_entries, unit_entries, until_fault, TellsOf, Tells, TellsFirst}
-use Rattle.amqp_dump.specs.Steps.{HasTold, GoesOn}
-use Rattle.amqp_dump.specs.Printing.{IsLineOf, AreLines, Prints, HasPrinted, IsDump, BeginsDump, ShowsUnits, BreaksOff}
+use Rattle.amqp_dump.specs.Pages.{Page, IsLineOf, PutsLine}
+use Rattle.amqp_dump.specs.Steps.{HasTold, Goes, PutsNext}
+use Rattle.amqp_dump.specs.Printing.{AreLines, Puts, Prints, HasPrinted, IsDump, BeginsDump, ShowsUnits, BreaksOff}
 use Rattle.amqp_dump.proofs.Tellings.{told_first, told_units, piece_first}
 
 -- at an error: nothing was written, or a part of what waited and of a line behind it
@@ -47,14 +48,29 @@ all_printed held now new waiting s bytes h w = record {
   lines = subst (λ (x : List ℕ). AreLines h.entries x) (sym (append-nil (h.written ++ waiting))) h.lines;
 }
 
--- what is told of a piece goes on what was printed
-abbrev pub Goes : (old : Scanner) (piece : List ℕ) (at end : ℕ) (s : Scanner) (item : Option Scanned) → Type 0
-Goes old piece at end s item = (before : List ℕ) (entries : List Entry) → HasTold old (before ++ take at piece) entries → GoesOn piece end s before entries item
+-- a line was put behind those that wait, of which some or all were written then
+pub put_prints : (entry : Entry) (held now : Option (List ℕ)) (waited waits : Page) (left : List ℕ) → PutsLine entry waited waits → Puts [] held now waits.whole left → Prints entry held now waited.whole left
+put_prints entry held now waited waits left p w = record {
+  line = p.line;
+  is = p.is;
+  put = record { written = w.written; went = w.went; joined = w.joined ∙ append-nil waits.whole ∙ p.joined };
+}
+
+-- some of them were written
+pub unput_prints : (entry : Entry) (held now : Option (List ℕ)) (waited waits : Page) (written missing : List ℕ) → PutsLine entry waited waits → Appends held now written
+    → waits.whole ≡ written ++ missing → Prints entry held now waited.whole missing
+unput_prints entry held now waited waits written missing p went parts =
+    put_prints entry held now waited waits missing p (record { written = written; went = went; joined = sym parts ∙ sym (append-nil waits.whole) })
+
+-- all of them were written
+pub put_all : (held now : Option (List ℕ)) (waits left : List ℕ) → Appends held now waits → left ≡ [] → Puts [] held now waits left
+put_all held now waits left went none = record { written = waits; went = went; joined = ap (λ (x : List ℕ). waits ++ x) none }
 
 -- where nothing is told
-pub goes_none : (old : Scanner) (piece : List ℕ) (at end : ℕ) (s : Scanner) (item : Option Scanned) → Goes old piece at end s item → ((x : Scanned) → item ≡ Some x → ⊥) → Goes old piece at end s None
-goes_none old piece at end s None goes none = goes
-goes_none old piece at end s (Some x) goes none = absurd (none x refl)
+pub puts_none : (old : Scanner) (piece : List ℕ) (at end : ℕ) (s : Scanner) (waited waits : Page) (told : Option Bool) → PutsNext old piece at end s waited waits told
+    → ((x : Bool) → told ≡ Some x → ⊥) → Goes old piece at end s None × (waits ≡ waited)
+puts_none old piece at end s waited waits None h none = h
+puts_none old piece at end s waited waits (Some x) h none = absurd (none x refl)
 
 -- the piece was taken
 pub printed_piece : (held now : Option (List ℕ)) (waiting : List ℕ) (old : Scanner) (piece : List ℕ) (at end : ℕ) (s : Scanner) (before : List ℕ)
@@ -62,15 +78,15 @@ pub printed_piece : (held now : Option (List ℕ)) (waiting : List ℕ) (old : S
 printed_piece held now waiting old piece at end s before h goes = record { entries = h.entries; written = h.written; told = goes before h.entries h.told; went = h.went; lines = h.lines }
 
 -- a unit that is no fault was printed
-pub printed_more : (held now new : Option (List ℕ)) (waited waits : List ℕ) (old : Scanner) (piece : List ℕ) (at end : ℕ) (s : Scanner) (item : Scanned) (before : List ℕ)
-    → HasPrinted held now waited old (before ++ take at piece) → Goes old piece at end s (Some item) → is_fault (entry_of item) ≡ false → Prints (entry_of item) now new waited waits
+pub printed_more : (held now new : Option (List ℕ)) (waited waits : List ℕ) (old : Scanner) (piece : List ℕ) (at end : ℕ) (s : Scanner) (entry : Entry) (before : List ℕ)
+    → HasPrinted held now waited old (before ++ take at piece) → Goes old piece at end s (Some entry) → is_fault entry ≡ false → Prints entry now new waited waits
     → HasPrinted held new waits s (before ++ take end piece)
-printed_more held now new waited waits old piece at end s item before h goes clean p = record {
-  entries = h.entries ++ entry_of item ∷ [];
+printed_more held now new waited waits old piece at end s entry before h goes clean p = record {
+  entries = h.entries ++ entry ∷ [];
   written = h.written ++ p.put.written;
   told = (goes before h.entries h.told).0 clean;
   went = Appends-trans held now new h.written p.put.written h.went p.put.went;
-  lines = lines_printed h.entries h.written (entry_of item) now new waited waits h.lines p;
+  lines = lines_printed h.entries h.written entry now new waited waits h.lines p;
 }
 
 any_fault : (entries : List Entry) (entry : Entry) → list_any is_fault entries ≡ false → is_fault entry ≡ true → false ≡ not (list_any is_fault (entries ++ entry ∷ []))
@@ -91,13 +107,13 @@ fault_dump held now new waited old bytes all entry whole h tells fault p = recor
 }
 
 -- a fault is the last line that is printed
-pub printed_fault : (held now new : Option (List ℕ)) (waited waits : List ℕ) (old : Scanner) (piece : List ℕ) (at end : ℕ) (s : Scanner) (item : Scanned) (before : List ℕ)
-    → HasPrinted held now waited old (before ++ take at piece) → Goes old piece at end s (Some item) → is_fault (entry_of item) ≡ true → Prints (entry_of item) now new waited waits → waits ≡ []
+pub printed_fault : (held now new : Option (List ℕ)) (waited waits : List ℕ) (old : Scanner) (piece : List ℕ) (at end : ℕ) (s : Scanner) (entry : Entry) (before : List ℕ)
+    → HasPrinted held now waited old (before ++ take at piece) → Goes old piece at end s (Some entry) → is_fault entry ≡ true → Prints entry now new waited waits → waits ≡ []
     → IsDump held new (before ++ piece) false false
-printed_fault held now new waited waits old piece at end s item before h goes fault p none =
+printed_fault held now new waited waits old piece at end s entry before h goes fault p none =
     let tells = (goes before h.entries h.told).1 fault in
-    fault_dump held now new waited old (before ++ take at piece) (before ++ piece) (entry_of item) false h (λ more _. tells more) fault
-    (subst (λ (x : List ℕ). Prints (entry_of item) now new waited x) none p)
+    fault_dump held now new waited old (before ++ take at piece) (before ++ piece) entry false h (λ more _. tells more) fault
+    (subst (λ (x : List ℕ). Prints entry now new waited x) none p)
 
 -- nothing more was printed
 pub began : (held now new : Option (List ℕ)) (waiting : List ℕ) (s : Scanner) (before piece : List ℕ) (at : ℕ)
@@ -142,14 +158,14 @@ began_line held now new waited missing old bytes all entry whole h tells p = rec
 }
 
 -- a unit was told of, and its line may have been written in part
-pub began_unit : (held now new : Option (List ℕ)) (waited : List ℕ) (old : Scanner) (piece : List ℕ) (at end : ℕ) (s : Scanner) (item : Scanned) (before : List ℕ)
-    → HasPrinted held now waited old (before ++ take at piece) → Goes old piece at end s (Some item) → KeepsOrPrints (entry_of item) now new waited → BeginsDump held new (before ++ piece) false
-began_unit held now new waited old piece at end s item before h goes (inl k) = began held now new waited old before piece at h k
-began_unit held now new waited old piece at end s item before h goes (inr p) =
+pub began_unit : (held now new : Option (List ℕ)) (waited : List ℕ) (old : Scanner) (piece : List ℕ) (at end : ℕ) (s : Scanner) (entry : Entry) (before : List ℕ)
+    → HasPrinted held now waited old (before ++ take at piece) → Goes old piece at end s (Some entry) → KeepsOrPrints entry now new waited → BeginsDump held new (before ++ piece) false
+began_unit held now new waited old piece at end s entry before h goes (inl k) = began held now new waited old before piece at h k
+began_unit held now new waited old piece at end s entry before h goes (inr p) =
     let on = goes before h.entries h.told in
-    let tells = first_at (is_fault (entry_of item)) (before ++ piece) h.entries (entry_of item) refl
-    (λ clean. piece_first before piece end (h.entries ++ entry_of item ∷ []) (told_first s (before ++ take end piece) (h.entries ++ entry_of item ∷ []) (on.0 clean))) on.1 in
-    began_line held now new waited p.0 old (before ++ take at piece) (before ++ piece) (entry_of item) false h (λ more _. tells more) p.1
+    let tells = first_at (is_fault entry) (before ++ piece) h.entries entry refl
+    (λ clean. piece_first before piece end (h.entries ++ entry ∷ []) (told_first s (before ++ take end piece) (h.entries ++ entry ∷ []) (on.0 clean))) on.1 in
+    began_line held now new waited p.0 old (before ++ take at piece) (before ++ piece) entry false h (λ more _. tells more) p.1
 
 -- ---- the end of the stream
 

@@ -1,5 +1,5 @@
 -- What was told of a stream so far, and what is told of it at its end.
-use Rattle.std.proofs.Common.{◌≡◌, ℕ, zero-add, add-zero, ◌+◌, ◌-◌, ◌<◌, ◌≤◌, inl, inr, Bool, true, false, cond, ◌==◌, ◌||◌, List, [], ◌∷◌, ◌++◌, length, take, drop, Some, refl, sym, ap, subst, ◌∙◌}
+use Rattle.std.proofs.Common.{◌≡◌, ℕ, zero-add, add-zero, ◌+◌, ◌-◌, ◌<◌, ◌≤◌, inl, inr, Bool, true, false, cond, ◌==◌, ◌||◌, List, [], ◌∷◌, ◌++◌, length, take, drop, Option, Some, None, refl, sym, ap, subst, ◌∙◌}
 use Rattle.std.proofs.Common.{arith, rules}
 use Rattle.std.proofs.Math.Seq.{take-length, take-add}
 use Rattle.std.proofs.lemmas.Bool.{false≢true, cases_lt}
@@ -19,7 +19,7 @@ use Rattle.amqp_dump.specs.declared.scan.Scanner.{Scanner}
 use Rattle.amqp_dump.specs.declared.scanned.Scanned.{Scanned}
 use Rattle.amqp_dump.specs.declared.scanned.StreamFault.TheVariants as stream
 use Rattle.amqp_dump.specs.Entries.{Entry, HeaderEntry, FaultEntry, entry_of, is_fault, unit_entry, unit_entries, whole_entries, rest_entries, until_fault, TellsOf, Tells, TellsFirst}
-use Rattle.amqp_dump.specs.Steps.{TellsWaiting, IsReady, HasTold, GoesOn, taken_by}
+use Rattle.amqp_dump.specs.Steps.{TellsWaiting, IsWaiting, IsReady, HasTold, GoesOn, taken_by}
 
 -- less than a unit is held where no unit waits
 held_rest : (max : ℕ) (stage : Stage) (bytes : List ℕ) → (IsOver stage → ⊥) → IsHeld max stage bytes → (IsOne max stage bytes → ⊥) → IsRest max stage bytes
@@ -304,12 +304,17 @@ went_piece old now before piece at n entries t p =
 pub goes_unit : (old : Scanner) (now : SplitterState) (s : Scanner) (piece : List ℕ) (at n : ℕ) (item : Scanned)
     → Pushed old.splitter now (take n (take (length piece - at) (drop at piece))) → TellsWaiting old.place now item → Dropped now s.splitter
     → s.place ≡ old.place + length now.filled
-    → (before : List ℕ) (entries : List Entry) → HasTold old (before ++ take at piece) entries → GoesOn piece (at + n) s before entries (Some item)
+    → (before : List ℕ) (entries : List Entry) → HasTold old (before ++ take at piece) entries → GoesOn piece (at + n) s before entries (Some (entry_of item))
 goes_unit old now s piece at n item p w d e before entries t =
     let went = went_piece old now before piece at n entries t p in (
       λ clean. told_more now old.place (before ++ take (at + n) piece) entries s item went w d e clean,
       λ fault. piece_tells before piece (at + n) (entries ++ entry_of item ∷ []) (tells_fault now old.place (before ++ take (at + n) piece) entries item went w fault),
     )
+
+-- where nothing is told no unit waits
+pub none_waits : (place : ℕ) (s : SplitterState) (item : Option Scanned) → IsWaiting place s item → ((x : Scanned) → item ≡ Some x → ⊥) → (u : StreamUnit) → Waits s u → ⊥
+none_waits place s None h none = h
+none_waits place s (Some x) h none = absurd (none x refl)
 
 -- no unit waits, and the piece is taken
 pub goes_none : (old s : Scanner) (piece : List ℕ) (at n : ℕ) → s.place ≡ old.place → IsReady s → at ≤ length piece

@@ -1,12 +1,11 @@
 -- What is told of a stream: an entry for each of its units, up to the first fault (AMQP 1.0, part 2, sections 2.2 and 2.3).
-use Rattle.std.specs.Prelude.{◌≡◌, ℕ, ◌+◌, ◌*◌, ◌==◌, Bool, true, false, List, [], ◌∷◌, ◌++◌, length, Option, Some, None, option_map, is_some, Ok, Err, if◌then◌else◌}
+use Rattle.std.specs.Prelude.{◌≡◌, ℕ, ◌+◌, ◌*◌, ◌==◌, Bool, true, false, List, [], ◌∷◌, ◌++◌, length, Option, Some, None, is_some, Ok, Err, if◌then◌else◌}
 use Rattle.std.specs.List.{flat_map}
 use Rattle.std.specs.Str.{bytes_eq}
 use Rattle.amqp_frame.specs.declared.units.TheConstants.{HEADER}
 use Rattle.amqp_frame.specs.Units.{StreamUnit, HeaderUnit, FrameUnit, FaultUnit, Units, bytes_of, offset_of, channel_of, body_of}
 use Rattle.amqp_perform.specs.BodyReading.{body_at}
 use Rattle.amqp_types.specs.Trees.{Tree}
-use Rattle.amqp_types.specs.Values.{view}
 use Rattle.amqp_types.specs.Reading.{Read}
 use Rattle.amqp_types.specs.Decoding.{decoded}
 use Rattle.amqp_types.specs.Places.{place_of}
@@ -23,10 +22,19 @@ pub data Entry : Type 0 where
   FrameEntry : ℕ → ℕ → ℕ → Option Tree → Bool → ℕ → Entry
   FaultEntry : ℕ → StreamFault → Entry
 
+-- what was read, if a value was
+abbrev pub found : Read Tree → Option Tree
+found (Ok read) = Some read.0
+found (Err fault) = None
+
+-- the value that a body begins with
+abbrev pub value_in : List ℕ → Option Tree
+value_in body = if length body == 0 then None else found (decoded LIMITS.depth LIMITS.nodes body)
+
 -- the entry that a scanned unit stands for
 abbrev pub entry_of : Scanned → Entry
 entry_of scanned.Header = HeaderEntry
-entry_of (scanned.Frame frame) = FrameEntry frame.place frame.size frame.channel (option_map view frame.value) frame.is_performative frame.payload
+entry_of (scanned.Frame frame) = FrameEntry frame.place frame.size frame.channel (value_in frame.body.now) frame.is_performative frame.payload
 entry_of (scanned.Fault place fault) = FaultEntry place fault
 
 -- the entries of what was told of a place, if anything was

@@ -1,3 +1,4 @@
 pub mod Entries
+pub mod Pages
 pub mod Steps
 pub mod Printing

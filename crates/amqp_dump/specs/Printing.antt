@@ -6,12 +6,8 @@ use Rattle.amqp_frame.specs.Units.{StreamUnit, Units}
 use Rattle.amqp_dump.specs.declared.scan.Scanner.{Scanner}
 use Rattle.amqp_dump.specs.declared.scan.TheConstants.{MAX_FRAME}
 use Rattle.amqp_dump.specs.Entries.{Entry, is_fault, whole_entries, TellsOf}
+use Rattle.amqp_dump.specs.Pages.{IsLineOf}
 use Rattle.amqp_dump.specs.Steps.{HasTold}
-
--- a line for an entry: text, and then a newline
-pub record IsLineOf (entry : Entry) (line : List ℕ) : Type 0 where
-  pub text : List ℕ
-  pub whole : line ≡ text ++ 10 ∷ []
 
 -- one line for each entry, in order
 abbrev pub AreLines : List Entry → List ℕ → Type 0

@@ -1,11 +1,12 @@
 -- What was told of a stream while its bytes come.
-use Rattle.std.specs.Prelude.{◌≡◌, ℕ, ◌+◌, true, false, List, [], ◌∷◌, ◌++◌, length, take, Option, Some, None}
+use Rattle.std.specs.Prelude.{◌≡◌, ℕ, ◌+◌, Bool, true, false, List, [], ◌∷◌, ◌++◌, length, take, Option, Some, None}
 use Rattle.std.specs.List.{flat_map, list_any}
 use Rattle.amqp_frame.specs.Units.{StreamUnit, bytes_of}
 use Rattle.amqp_frame.specs.Splits.{SplitterState, Waits, WentBy, IsHeld, IsOver}
 use Rattle.amqp_dump.specs.declared.scan.Scanner.{Scanner}
 use Rattle.amqp_dump.specs.declared.scan.TheConstants.{MAX_FRAME}
 use Rattle.amqp_dump.specs.declared.scanned.Scanned.{Scanned}
+use Rattle.amqp_dump.specs.Pages.{Page, PutsLine}
 use Rattle.amqp_dump.specs.Entries.{Entry, entry_of, is_fault, unit_entry, whole_entries, Tells}
 
 -- this is told of the unit that waits
@@ -40,13 +41,22 @@ pub record HasTold (s : Scanner) (bytes : List ℕ) (entries : List Entry) : Typ
   pub clean : list_any is_fault entries ≡ false
 
 -- what is told of the bytes of a piece up to an end, where these bytes and entries came before: nothing once the piece is taken
-abbrev pub GoesOn : List ℕ → ℕ → Scanner → List ℕ → List Entry → Option Scanned → Type 0
+abbrev pub GoesOn : List ℕ → ℕ → Scanner → List ℕ → List Entry → Option Entry → Type 0
 GoesOn piece end s before entries None = HasTold s (before ++ piece) entries
-GoesOn piece end s before entries (Some item) =
-    (is_fault (entry_of item) ≡ false → HasTold s (before ++ take end piece) (entries ++ entry_of item ∷ []))
-    × (is_fault (entry_of item) ≡ true → Tells (before ++ piece) (entries ++ entry_of item ∷ []))
+GoesOn piece end s before entries (Some entry) =
+    (is_fault entry ≡ false → HasTold s (before ++ take end piece) (entries ++ entry ∷ []))
+    × (is_fault entry ≡ true → Tells (before ++ piece) (entries ++ entry ∷ []))
+
+-- the same of whatever came before the piece
+abbrev pub Goes : (old : Scanner) (piece : List ℕ) (at end : ℕ) (s : Scanner) → Option Entry → Type 0
+Goes old piece at end s entry = (before : List ℕ) (entries : List Entry) → HasTold old (before ++ take at piece) entries → GoesOn piece end s before entries entry
+
+-- the line of the unit that came to its end in a piece was put, and it is known whether that is a fault; nothing was put where none did
+abbrev pub PutsNext : (old : Scanner) (piece : List ℕ) (at end : ℕ) (s : Scanner) (waited waits : Page) → Option Bool → Type 0
+PutsNext old piece at end s waited waits None = Goes old piece at end s None × (waits ≡ waited)
+PutsNext old piece at end s waited waits (Some fault) = (entry : Entry) × (is_fault entry ≡ fault) × PutsLine entry waited waits × Goes old piece at end s (Some entry)
 
 -- behind what is no fault the scanner is ready again
-abbrev pub IsReadyBehind : Scanner → Option Scanned → Type 0
+abbrev pub IsReadyBehind : Scanner → Option Bool → Type 0
 IsReadyBehind s None = IsReady s
-IsReadyBehind s (Some item) = is_fault (entry_of item) ≡ false → IsReady s
+IsReadyBehind s (Some fault) = fault ≡ false → IsReady s

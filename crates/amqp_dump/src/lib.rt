@@ -2,12 +2,14 @@
 //! fault.
 //!
 //! [`dump`] (`printer`) reads a piece from a `Device`, has `scan` cut it into units and tell of each (`scanned`), prints
-//! their lines (`lines`, values by `text`), and reads again.
+//! their lines into one buffer (`lines`, values by `text`, into a `page`), writes them from there, and reads again.
 //! `specs/Entries.antt` has what is told of a stream, `specs/Printing.antt` what is printed of it.
-//! The tests stand in `amqp`, the program.
+//! The tests stand in `codec_rows` and `amqp_tests`.
 #![tactic(auto)]
 
+mod digits;
 mod lines;
+mod page;
 mod printer;
 mod scan;
 mod scanned;

@@ -1,16 +1,15 @@
 //! `amqp dump`: the header and the frames of one direction of a connection, printed as lines while they come.
 
-ghost use Rattle.std.specs.Prelude.{◌≡◌, ◌≢◌, ◌↔◌, ℕ, ◌+◌, ◌-◌, ◌^◌, ◌<◌, ◌≤◌, ◌⊎◌, ◌++◌, [], List, Option, true, false, length, take, IsTrue, IfOk, IfSome, OnOk, OnErr, Ok, Err, string_bytes};
+ghost use Rattle.std.specs.Prelude.{◌≡◌, ◌≢◌, ◌↔◌, ℕ, ◌+◌, ◌-◌, ◌^◌, ◌<◌, ◌≤◌, ◌++◌, [], List, Option, true, false, length, take, IsTrue, IfOk, IfSome, OnOk, OnErr, Ok, Err};
 ghost use Rattle.std.specs.Io.KnownBytes.{IsAtEnd, Consumes, Keeps, Appends};
 ghost use Rattle.amqp_frame.specs.Devices.{device_inner, has_failed, has_ended, reads_left, reads_ahead};
-ghost use Rattle.amqp_dump.specs.Entries.{entry_of, is_fault};
 ghost use Rattle.amqp_dump.specs.Steps.{IsReady, HasTold, taken_by};
-ghost use Rattle.amqp_dump.specs.Printing.{Puts, Prints, HasPrinted, IsDump, BeginsDump, Dumps, BreaksOff, Shows};
+ghost use Rattle.amqp_dump.specs.Printing.{Puts, HasPrinted, IsDump, BeginsDump, Dumps, BreaksOff, Shows};
 ghost use Rattle.amqp_dump.specs.declared.printer.DumpFault.TheVariants.{NoMemory};
 
-use crate::lines::line_of;
+use crate::lines::put_line;
+use crate::page::Page;
 use crate::scan::Scanner;
-use crate::scanned::Scanned;
 use amqp_frame::Device;
 use std::alloc::{AllocError, Global};
 use std::io::{Read, Write};
@@ -75,7 +74,7 @@ pub fn dump<R: Read + Drop, W: Write + Drop>(
     ensures whole { has_ended reader.old ≡ false → reads_left reader.old ≡ 2 ^ 64 - 1 → IfOk result (λ clean. IfSome (R.remaining (device_inner reader.old)) (λ stream. IsDump (W.contents (device_inner writer.old)) (W.contents (device_inner writer.new)) stream true clean)) }
 {
     let mut scanner = Scanner::new(alloc)?;
-    let mut lines = String::with_capacity(alloc, PIECE)?;
+    let mut lines = Page::with_capacity(alloc, PIECE)?;
     let mut piece = vec![in alloc; 0u8; PIECE]?;
     print_all(alloc, reader, &mut scanner, &mut piece, &mut lines, writer)
 }
@@ -87,14 +86,15 @@ fn print_all<R: Read + Drop, W: Write + Drop>(
     reader: &mut Device<R>,
     scanner: &mut Scanner,
     piece: &mut [u8],
-    lines: &mut String,
+    lines: &mut Page,
     writer: &mut Device<W>,
 ) -> Result<bool, DumpFault>
     requires reader { ¬ (IsTrue (has_failed reader.old)) }
     requires writer { ¬ (IsTrue (has_failed writer.old)) }
     requires some { 0 < length piece.old }
     requires none { HasTold scanner.old [] [] }
-    requires empty { string_bytes lines.old ≡ [] }
+    requires empty { lines.old.whole ≡ [] }
+    requires line { lines.old.begun ≡ [] }
     ensures read { (result ≡ Err DumpFault.Read) ↔ IsTrue (has_failed reader.new) }
     ensures write { (result ≡ Err DumpFault.Write) ↔ IsTrue (has_failed writer.new) }
     ensures ended { result ≡ Ok true → IsTrue (has_ended reader.new) }
@@ -119,7 +119,7 @@ fn print_all<R: Read + Drop, W: Write + Drop>(
             return Ok(false);
         }
     }
-    print_end(alloc, scanner, lines, writer)
+    print_end(scanner, lines, writer)
 }
 
 /// Reads into the front of `piece`, and answers how many bytes came. So many were taken before.
@@ -158,17 +158,19 @@ fn print_piece<W: Write + Drop>(
     alloc: Global,
     scanner: &mut Scanner,
     piece: &[u8],
-    lines: &mut String,
+    lines: &mut Page,
     writer: &mut Device<W>,
 ) -> Result<bool, DumpFault>
     requires unmarked { ¬ (IsTrue (has_failed writer.old)) }
     requires ready { IsReady scanner.old }
     requires fits { taken_by scanner.old + length piece.now < 2 ^ 64 }
-    requires empty { string_bytes lines.old ≡ [] }
+    requires empty { lines.old.whole ≡ [] }
+    requires line { lines.old.begun ≡ [] }
     ensures read { result ≢ Err DumpFault.Read }
     ensures short { result ≢ Err DumpFault.TooLong }
     ensures write { (result ≡ Err DumpFault.Write) ↔ IsTrue (has_failed writer.new) }
-    ensures empty { OnOk result (string_bytes lines.new ≡ []) }
+    ensures empty { OnOk result (lines.new.whole ≡ []) }
+    ensures line { OnOk result (lines.new.begun ≡ []) }
     ensures ready { result ≡ Ok false → IsReady scanner.new }
     ensures on { (held : Option (List ℕ)) (before : List ℕ) → HasPrinted held (W.contents (device_inner writer.old)) [] scanner.old before → result ≡ Ok false
         → HasPrinted held (W.contents (device_inner writer.new)) [] scanner.new (before ++ piece.now) }
@@ -178,8 +180,8 @@ fn print_piece<W: Write + Drop>(
         → OnErr result (BeginsDump held (W.contents (device_inner writer.new)) (before ++ piece.now) false) }
 {
     let mut at = 0;
-    while let Some(item) = scanner.next(alloc, piece, &mut at)? {
-        let is_fault = print_unit(alloc, item, lines, writer)?;
+    while let Some(is_fault) = scanner.next(alloc, piece, &mut at, lines)? {
+        write_many(is_fault, lines, writer)?;
         if is_fault {
             return Ok(true);
         }
@@ -190,14 +192,14 @@ fn print_piece<W: Write + Drop>(
 
 /// Prints what is told of a stream that ends here, and says whether it is no fault. No line waits.
 fn print_end<W: Write + Drop>(
-    alloc: Global,
     scanner: &Scanner,
-    lines: &mut String,
+    lines: &mut Page,
     writer: &mut Device<W>,
 ) -> Result<bool, DumpFault>
     requires unmarked { ¬ (IsTrue (has_failed writer.old)) }
     requires ready { IsReady scanner.now }
-    requires empty { string_bytes lines.old ≡ [] }
+    requires empty { lines.old.whole ≡ [] }
+    requires line { lines.old.begun ≡ [] }
     ensures read { result ≢ Err DumpFault.Read }
     ensures short { result ≢ Err DumpFault.TooLong }
     ensures write { (result ≡ Err DumpFault.Write) ↔ IsTrue (has_failed writer.new) }
@@ -208,58 +210,29 @@ fn print_end<W: Write + Drop>(
 {
     match scanner.end() {
         Some(item) => {
-            print_unit(alloc, item, lines, writer)?;
+            put_line(lines, &item)?;
+            write_lines(lines, writer)?;
             Ok(false)
         }
         None => Ok(true),
     }
 }
 
-/// Prints the line of a unit. Says whether that is a fault, which is the last line.
-fn print_unit<W: Write + Drop>(
-    alloc: Global,
-    item: Scanned,
-    lines: &mut String,
-    writer: &mut Device<W>,
-) -> Result<bool, DumpFault>
-    requires { ¬ (IsTrue (has_failed writer.old)) }
-    ensures read { result ≢ Err DumpFault.Read }
-    ensures short { result ≢ Err DumpFault.TooLong }
-    ensures write { (result ≡ Err DumpFault.Write) ↔ IsTrue (has_failed writer.new) }
-    ensures fault { IfOk result (λ b. b ≡ is_fault (entry_of item)) }
-    ensures empty { result ≡ Ok true → string_bytes lines.new ≡ [] }
-    ensures printed { OnOk result (Prints (entry_of item) (W.contents (device_inner writer.old)) (W.contents (device_inner writer.new)) (string_bytes lines.old) (string_bytes lines.new)) }
-    ensures begun { OnErr result (Keeps (W.contents (device_inner writer.old)) (W.contents (device_inner writer.new))
-        ⊎ ((missing : List ℕ) × Prints (entry_of item) (W.contents (device_inner writer.old)) (W.contents (device_inner writer.new)) (string_bytes lines.old) missing)) }
-{
-    let line = line_of(alloc, &item)?;
-    let is_fault = item.is_fault();
-    put_line(&line, is_fault, lines, writer)?;
-    Ok(is_fault)
-}
-
-/// Puts a line behind those that wait, and writes them where they are many or it is the last. A long line is
-/// written from where it stands, without a copy.
-fn put_line<W: Write + Drop>(
-    line: &str,
+/// Writes the lines that wait, where they are many or the last one is among them.
+fn write_many<W: Write + Drop>(
     is_last: bool,
-    lines: &mut String,
+    lines: &mut Page,
     writer: &mut Device<W>,
 ) -> Result<(), DumpFault>
-    requires { ¬ (IsTrue (has_failed writer.old)) }
-    ensures read { result ≢ Err DumpFault.Read }
-    ensures short { result ≢ Err DumpFault.TooLong }
-    ensures write { (result ≡ Err DumpFault.Write) ↔ IsTrue (has_failed writer.new) }
-    ensures empty { IsTrue is_last → OnOk result (string_bytes lines.new ≡ []) }
-    ensures put { OnOk result (Puts line.now (W.contents (device_inner writer.old)) (W.contents (device_inner writer.new)) (string_bytes lines.old) (string_bytes lines.new)) }
-    ensures begun { OnErr result (Keeps (W.contents (device_inner writer.old)) (W.contents (device_inner writer.new))
-        ⊎ ((missing : List ℕ) × Puts line.now (W.contents (device_inner writer.old)) (W.contents (device_inner writer.new)) (string_bytes lines.old) missing)) }
+    requires unmarked { ¬ (IsTrue (has_failed writer.old)) }
+    requires line { lines.old.begun ≡ [] }
+    ensures write { OnErr result (result ≡ Err DumpFault.Write) }
+    ensures failed { (result ≡ Err DumpFault.Write) ↔ IsTrue (has_failed writer.new) }
+    ensures empty { IsTrue is_last → OnOk result (lines.new.whole ≡ []) }
+    ensures line { OnOk result (lines.new.begun ≡ []) }
+    ensures put { OnOk result (Puts [] (W.contents (device_inner writer.old)) (W.contents (device_inner writer.new)) lines.old.whole lines.new.whole) }
+    ensures begun { OnErr result ((missing : List ℕ) × Puts [] (W.contents (device_inner writer.old)) (W.contents (device_inner writer.new)) lines.old.whole missing) }
 {
-    if line.len() >= PIECE {
-        write_lines(lines, writer)?;
-        return write_out(line.as_bytes(), writer);
-    }
-    lines.push_str(line)?;
     if is_last || lines.len() >= PIECE {
         write_lines(lines, writer)?;
     }
@@ -267,13 +240,15 @@ fn put_line<W: Write + Drop>(
 }
 
 /// Writes the lines that wait.
-fn write_lines<W: Write + Drop>(lines: &mut String, writer: &mut Device<W>) -> Result<(), DumpFault>
-    requires { ¬ (IsTrue (has_failed writer.old)) }
+fn write_lines<W: Write + Drop>(lines: &mut Page, writer: &mut Device<W>) -> Result<(), DumpFault>
+    requires unmarked { ¬ (IsTrue (has_failed writer.old)) }
+    requires line { lines.old.begun ≡ [] }
     ensures write { OnErr result (result ≡ Err DumpFault.Write) }
     ensures failed { (result ≡ Err DumpFault.Write) ↔ IsTrue (has_failed writer.new) }
-    ensures empty { OnOk result (string_bytes lines.new ≡ []) }
-    ensures written { OnOk result (Appends (W.contents (device_inner writer.old)) (W.contents (device_inner writer.new)) (string_bytes lines.old)) }
-    ensures begun { OnErr result ((written missing : List ℕ) × Appends (W.contents (device_inner writer.old)) (W.contents (device_inner writer.new)) written × (string_bytes lines.old ≡ written ++ missing)) }
+    ensures empty { OnOk result (lines.new.whole ≡ []) }
+    ensures line { OnOk result (lines.new.begun ≡ []) }
+    ensures written { OnOk result (Appends (W.contents (device_inner writer.old)) (W.contents (device_inner writer.new)) (lines.old.whole)) }
+    ensures begun { OnErr result ((written missing : List ℕ) × Appends (W.contents (device_inner writer.old)) (W.contents (device_inner writer.new)) written × (lines.old.whole ≡ written ++ missing)) }
 {
     write_out(lines.as_bytes(), writer)?;
     lines.clear();

@@ -1,17 +1,19 @@
 //! The units of a stream: its header and its frames, each with its place and the value that its body
-//! begins with.
+//! begins with. Nothing of a unit's line is put before its fault is known.
 
-ghost use Rattle.std.specs.Prelude.{◌≡◌, ◌≢◌, ℕ, ◌+◌, ◌-◌, ◌^◌, ◌<◌, ◌≤◌, true, List, [], ◌++◌, length, take, is_some, IfOk, OnOk, IfSome};
+ghost use Rattle.std.specs.Prelude.{◌≡◌, ◌≢◌, ℕ, ◌+◌, ◌-◌, ◌^◌, ◌<◌, ◌≤◌, true, List, [], ◌++◌, length, is_some, IfOk, OnOk, IfSome};
 ghost use Rattle.amqp_frame.specs.Splits.{IsOver};
 ghost use Rattle.amqp_perform.specs.BodyReading.{body_at};
 ghost use Rattle.amqp_types.specs.Places.{place_of};
 ghost use Rattle.amqp_dump.specs.Entries.{Entry, entry_of, is_fault, header_entry, body_entry, told_entries, TellsOf};
-ghost use Rattle.amqp_dump.specs.Steps.{IsWaiting, IsReady, IsReadyBehind, HasTold, GoesOn, taken_by};
+ghost use Rattle.amqp_dump.specs.Steps.{IsWaiting, IsReady, IsReadyBehind, HasTold, PutsNext, taken_by};
 
+use crate::lines::put_line;
+use crate::page::Page;
 use crate::scanned::{Scanned, ScannedFrame, StreamFault};
 use amqp_frame::{Frame, HEADER, Splitter};
 use amqp_perform::read_body;
-use amqp_types::{Limits, ReadFault, decode};
+use amqp_types::{Limits, ReadFault, check};
 use std::alloc::{AllocError, Global};
 
 /// The largest frame that is read, in bytes.
@@ -51,41 +53,46 @@ impl Scanner {
         self.place + self.splitter.len()
     }
 
-    /// Takes bytes of `piece` from `at` on, to the end of the unit that is due, and tells of that unit. `at`
-    /// goes to that end. None where the bytes end first, all of them taken. It is not called behind a fault.
+    /// Takes bytes of `piece` from `at` on, to the end of the unit that is due, puts the line of that unit into
+    /// `lines`, and says whether it is a fault. `at` goes to that end. None where the bytes end first, all of them
+    /// taken. It is not called behind a fault.
     ///
     /// # Errors
     ///
-    /// Memory for the value at the front of a body was refused. The scanner may then not be used again.
+    /// Memory was refused, for reading a value or for the line, of which a beginning may stand in `lines`. The
+    /// scanner may then not be used again.
     pub fn next(
         &mut self,
         alloc: Global,
         piece: &[u8],
         at: &mut usize,
-    ) -> Result<Option<Scanned>, AllocError>
+        lines: &mut Page,
+    ) -> Result<Option<bool>, AllocError>
         requires ready { IsReady self.old }
         requires within { at.old ≤ length piece.now }
         requires fits { taken_by self.old + (length piece.now - at.old) < 2 ^ 64 }
+        requires ended { lines.old.begun ≡ [] }
         ensures within { OnOk result (at.new ≤ length piece.now) }
-        ensures some { IfOk result (λ item. IfSome item (λ _. at.old < at.new)) }
+        ensures some { IfOk result (λ told. IfSome told (λ _. at.old < at.new)) }
         ensures taken { OnOk result (taken_by self.new + (length piece.now - at.new) ≡ taken_by self.old + (length piece.now - at.old)) }
         ensures ready { IfOk result (IsReadyBehind self.new) }
-        ensures told { (before : List ℕ) (entries : List Entry) → HasTold self.old (before ++ take at.old piece.now) entries → IfOk result (GoesOn piece.now at.new self.new before entries) }
+        ensures ended { OnOk result (lines.new.begun ≡ []) }
+        ensures told { IfOk result (PutsNext self.old piece.now at.old at.new self.new lines.old lines.new) }
     {
         let count = self.splitter.push(&piece[*at..]);
         *at += count;
-        match waiting_unit(alloc, &self.splitter, self.place)? {
-            Some(item) => {
-                self.place += self.splitter.len();
-                self.splitter.drop_frame();
-                Ok(Some(item))
-            }
-            None => Ok(None),
-        }
+        let Some(item) = waiting_unit(alloc, &self.splitter, self.place)? else {
+            return Ok(None);
+        };
+        let is_fault = item.is_fault();
+        put_line(lines, &item)?;
+        self.place += self.splitter.len();
+        self.splitter.drop_frame();
+        Ok(Some(is_fault))
     }
 
     /// What is told of a stream that ends here: a fault, or nothing where it ends behind a unit.
-    pub fn end(&self) -> Option<Scanned>
+    pub fn end(&self) -> Option<Scanned<'_>>
         requires ready { IsReady self.now }
         ensures fault { IfSome result (λ item. is_fault (entry_of item) ≡ true) }
         ensures told { (bytes : List ℕ) (entries : List Entry) → HasTold self.now bytes entries → TellsOf bytes (entries ++ told_entries result) }
@@ -105,7 +112,7 @@ fn waiting_unit(
     alloc: Global,
     splitter: &Splitter,
     place: usize,
-) -> Result<Option<Scanned>, AllocError>
+) -> Result<Option<Scanned<'_>>, AllocError>
     requires fits { place + length splitter.now.filled < 2 ^ 64 }
     requires due { IsOver splitter.now.stage → ⊥ }
     ensures { IfOk result (IsWaiting place splitter.now) }
@@ -121,7 +128,7 @@ fn waiting_unit(
 }
 
 /// The eight bytes in the header's place.
-fn told_header(place: usize, header: &[u8]) -> Scanned
+fn told_header<'a>(place: usize, header: &[u8]) -> Scanned<'a>
     ensures { entry_of result ≡ header_entry place header.now }
 {
     if header == HEADER.as_slice() {
@@ -137,7 +144,7 @@ fn told_frame(
     place: usize,
     size: usize,
     frame: Frame<'_>,
-) -> Result<Scanned, AllocError>
+) -> Result<Scanned<'_>, AllocError>
     requires fits { place + size < 2 ^ 64 }
     requires body { length frame.body.now ≤ size }
     ensures { IfOk result (λ item. entry_of item ≡ body_entry place size frame.entry.channel (size - length frame.entry.body.now) frame.entry.body.now) }
@@ -147,17 +154,17 @@ fn told_frame(
             place,
             size,
             channel: frame.channel,
-            value: None,
+            body: frame.body,
             is_performative: false,
             payload: 0,
         }));
     }
-    match decode(alloc, frame.body, LIMITS) {
-        Ok((value, length)) => Ok(Scanned::Frame(ScannedFrame {
+    match check(alloc, frame.body, LIMITS) {
+        Ok(length) => Ok(Scanned::Frame(ScannedFrame {
             place,
             size,
             channel: frame.channel,
-            value: Some(value),
+            body: frame.body,
             is_performative: says_performative(frame.body),
             payload: frame.body.len() - length,
         })),

@@ -4,32 +4,31 @@ ghost use Rattle.std.specs.Prelude.{◌≡◌};
 ghost use Rattle.amqp_dump.specs.Entries.{entry_of, is_fault};
 
 use amqp_frame::FrameFault;
-use amqp_types::{ReadFault, Value};
+use amqp_types::ReadFault;
 
 /// A unit of a stream, or the fault that ends it.
-#[derive(Debug, Drop)]
-pub enum Scanned {
+#[derive(Clone, Copy, Debug)]
+pub enum Scanned<'a> {
     /// The header of AMQP 1.0, which is the first unit. [2.2]
     Header,
     /// A frame. [2.3.1]
-    Frame(ScannedFrame),
+    Frame(ScannedFrame<'a>),
     /// A fault, and its place: bytes from the first one of the stream.
     Fault(usize, StreamFault),
 }
 
-/// A frame and what its body begins with.
-#[derive(Debug, Drop)]
-pub struct ScannedFrame {
+/// A frame, whose body is empty or begins with a value within the limits.
+#[derive(Clone, Copy, Debug)]
+pub struct ScannedFrame<'a> {
     /// Where the frame begins: bytes from the first one of the stream.
     pub place: usize,
     /// The length of the whole frame, in bytes.
     pub size: usize,
     pub channel: u16,
-    /// The value at the front of the body; none where there is no body.
-    pub value: Option<Value>,
+    pub body: &'a [u8],
     /// Whether the body begins with a performative whose fields are valid. [2.7]
     pub is_performative: bool,
-    /// How many bytes follow the value.
+    /// How many bytes of the body follow the value.
     pub payload: usize,
 }
 
@@ -47,7 +46,7 @@ pub enum StreamFault {
     Value(ReadFault),
 }
 
-impl Scanned {
+impl Scanned<'_> {
     /// Whether the stream is not read on behind this.
     pub fn is_fault(&self) -> bool
         ensures { result ≡ is_fault (entry_of self.now) }

@@ -1,17 +1,15 @@
 //! The text of values, as `dump` prints it.
+//!
+//! A value is printed from its bytes, which are known to spell one: of other bytes nothing is said. What a call
+//! answers are the bytes behind what it printed. Lines that wait stay as they are.
 
-ghost use Rattle.std.specs.Prelude.{◌≡◌, ◌<◌, ◌≤◌, ◌++◌, length, take, IsTrue, IsAscii, OnOk, string_bytes};
-ghost use Rattle.hex.specs.Hex.{encode_lower};
+ghost use Rattle.std.specs.Prelude.{◌≡◌, ◌≤◌, length, OnOk};
 
-use amqp_types::{Kind, Value};
+use crate::digits::{number_in, put_hex, put_number, put_quoted, put_signed, put_uuid};
+use crate::page::Page;
 use std::alloc::AllocError;
-use std::fmt::Write;
-use uuid::Uuid;
 
-/// How many bytes of a binary are turned into digits at a time.
-const RUN: usize = 64;
-
-/// Appends the text of `value`.
+/// Appends the text of the value at the front.
 ///
 /// A value that holds no others is the name of its kind, a colon and its content: numbers are decimal,
 /// floats, decimals and binaries are lower-case hex, a char is eight hex digits, a uuid has its hyphenated
@@ -21,173 +19,278 @@ const RUN: usize = 64;
 ///
 /// Where memory is refused, a beginning of the text may stand in `out`.
 #[cycle(text)]
-pub fn write_value(out: &mut String, value: &Value) -> Result<(), AllocError> {
-    match value {
-        Value::Null => write!(out, "null"),
-        Value::Boolean(flag) => write!(out, "{flag}"),
-        Value::Ubyte(number) => write!(out, "ubyte:{number}"),
-        Value::Ushort(number) => write!(out, "ushort:{number}"),
-        Value::Uint(number) => write!(out, "uint:{number}"),
-        Value::Ulong(number) => write!(out, "ulong:{number}"),
-        Value::Byte(number) => write!(out, "byte:{number}"),
-        Value::Short(number) => write!(out, "short:{number}"),
-        Value::Int(number) => write!(out, "int:{number}"),
-        Value::Long(number) => write!(out, "long:{number}"),
-        Value::Timestamp(milliseconds) => write!(out, "timestamp:{milliseconds}"),
-        Value::Float(bytes) => write_hex(out, "float", bytes),
-        Value::Double(bytes) => write_hex(out, "double", bytes),
-        Value::Decimal32(bytes) => write_hex(out, "decimal32", bytes),
-        Value::Decimal64(bytes) => write_hex(out, "decimal64", bytes),
-        Value::Decimal128(bytes) => write_hex(out, "decimal128", bytes),
-        Value::Binary(bytes) => write_hex(out, "binary", bytes),
-        Value::Char(scalar) => write!(out, "char:{:08x}", u32::from(*scalar)),
-        Value::Uuid(bytes) => write!(out, "uuid:{}", Uuid::from_bytes(*bytes).hyphenated()),
-        Value::String(text) => write_quoted(out, "string", text.as_bytes()),
-        Value::Symbol(symbol) => write_quoted(out, "symbol", symbol.as_bytes()),
-        Value::List(items) => write_items(out, items),
-        Value::Map(entries) => write_entries(out, entries),
-        Value::Array {
-            descriptors,
-            kind,
-            items,
-        } => {
-            write_element(out, descriptors, *kind)?;
-            write_items(out, items)
+pub fn put_value<'a>(out: &mut Page, depth: usize, bytes: &'a [u8]) -> Result<&'a [u8], AllocError>
+    ensures { OnOk result (out.new.whole ≡ out.old.whole) }
+{
+    let Some((code, rest)) = bytes.split_first() else {
+        return Ok(bytes);
+    };
+    if *code == 0 {
+        return put_described(out, depth, rest);
+    }
+    put_data(out, depth, *code, rest)
+}
+
+/// Appends `@D(V)`.
+#[cycle(text)]
+fn put_described<'a>(out: &mut Page, depth: usize, bytes: &'a [u8]) -> Result<&'a [u8], AllocError>
+    ensures { OnOk result (out.new.whole ≡ out.old.whole) }
+{
+    if depth == 0 {
+        return Ok(bytes);
+    }
+    out.put_byte(b'@')?;
+    let described = put_value(out, depth - 1, bytes)?;
+    out.put_byte(b'(')?;
+    let rest = put_value(out, depth - 1, described)?;
+    out.put_byte(b')')?;
+    Ok(rest)
+}
+
+/// Appends the text of the value whose data stand behind the code. [1.6]
+#[cycle(text)]
+fn put_data<'a>(
+    out: &mut Page,
+    depth: usize,
+    code: u8,
+    bytes: &'a [u8],
+) -> Result<&'a [u8], AllocError>
+    ensures { OnOk result (out.new.whole ≡ out.old.whole) }
+{
+    match code {
+        0x45 => {
+            out.put(b"[]")?;
+            Ok(bytes)
         }
-        Value::Described(descriptor, described) => {
-            write_descriptor(out, descriptor)?;
-            write_described(out, described)
-        }
+        0xa0 | 0xa1 | 0xa3 => put_octets(out, code, 1, bytes),
+        0xb0 | 0xb1 | 0xb3 => put_octets(out, code, 4, bytes),
+        0xc0 | 0xc1 | 0xe0 => put_parts(out, depth, code, 1, bytes),
+        0xd0 | 0xd1 | 0xf0 => put_parts(out, depth, code, 4, bytes),
+        _ => put_fixed(out, code, bytes),
     }
 }
 
-/// Appends `[a, b]`.
+/// Appends the text of a list, a map or an array, whose size and count have that width.
 #[cycle(text)]
-fn write_items(out: &mut String, items: &Vec<Value>) -> Result<(), AllocError> {
-    out.push('[')?;
-    let mut is_first = true;
-    for item in items {
-        if !is_first {
-            write!(out, ", ")?;
-        }
-        is_first = false;
-        write_value(out, item)?;
+fn put_parts<'a>(
+    out: &mut Page,
+    depth: usize,
+    code: u8,
+    width: usize,
+    bytes: &'a [u8],
+) -> Result<&'a [u8], AllocError>
+    ensures { OnOk result (out.new.whole ≡ out.old.whole) }
+{
+    if depth == 0 {
+        return Ok(bytes);
     }
-    out.push(']')
+    let (_size, body) = front(bytes, width);
+    let (count, parts) = front(body, width);
+    let count = number_in(count) as usize;
+    match code {
+        0xc0 | 0xd0 => put_items(out, depth - 1, None, count, parts),
+        0xc1 | 0xd1 => put_map(out, depth - 1, count / 2, parts),
+        _ => put_array(out, depth - 1, count, parts),
+    }
 }
 
 /// Appends `{k=v, k=v}`.
 #[cycle(text)]
-fn write_entries(out: &mut String, entries: &Vec<(Value, Value)>) -> Result<(), AllocError> {
-    out.push('{')?;
-    let mut is_first = true;
-    for (key, value) in entries {
-        if !is_first {
-            write!(out, ", ")?;
+fn put_map<'a>(
+    out: &mut Page,
+    depth: usize,
+    count: usize,
+    bytes: &'a [u8],
+) -> Result<&'a [u8], AllocError>
+    ensures { OnOk result (out.new.whole ≡ out.old.whole) }
+{
+    out.put_byte(b'{')?;
+    let mut rest = bytes;
+    for i in 0..count {
+        if i > 0 {
+            out.put(b", ")?;
         }
-        is_first = false;
-        write_value(out, key)?;
-        out.push('=')?;
-        write_value(out, value)?;
+        let value = put_value(out, depth, rest)?;
+        out.put_byte(b'=')?;
+        rest = put_value(out, depth, value)?;
     }
-    out.push('}')
+    out.put_byte(b'}')?;
+    Ok(rest)
 }
 
-/// Appends `array:`, `@D ` for each descriptor, and the name of the items' kind.
+/// Appends `array:`, `@D ` for each descriptor, the name of the items' kind and `[a, b]`.
 #[cycle(text)]
-fn write_element(out: &mut String, descriptors: &Vec<Value>, kind: Kind) -> Result<(), AllocError> {
-    write!(out, "array:")?;
-    for descriptor in descriptors {
-        write_descriptor(out, descriptor)?;
-        out.push(' ')?;
-    }
-    write!(out, "{}", kind.name())
-}
-
-/// Appends `@D`.
-#[cycle(text)]
-fn write_descriptor(out: &mut String, descriptor: &Value) -> Result<(), AllocError> {
-    out.push('@')?;
-    write_value(out, descriptor)
-}
-
-/// Appends `(V)`.
-#[cycle(text)]
-fn write_described(out: &mut String, described: &Value) -> Result<(), AllocError> {
-    out.push('(')?;
-    write_value(out, described)?;
-    out.push(')')
-}
-
-/// Appends `name:` and the bytes in lower-case hex.
-fn write_hex(out: &mut String, name: &str, bytes: &[u8]) -> Result<(), AllocError> {
-    write!(out, "{name}:")?;
-    for run in bytes.chunks(RUN) {
-        write_digits(out, run)?;
-    }
-    Ok(())
-}
-
-/// Appends two digits for each of at most [`RUN`] bytes.
-fn write_digits(out: &mut String, bytes: &[u8]) -> Result<(), AllocError>
-    requires { length bytes.now ≤ RUN }
-    ensures { OnOk result (string_bytes out.new ≡ string_bytes out.old ++ encode_lower bytes.now) }
+fn put_array<'a>(
+    out: &mut Page,
+    depth: usize,
+    count: usize,
+    bytes: &'a [u8],
+) -> Result<&'a [u8], AllocError>
+    ensures { OnOk result (out.new.whole ≡ out.old.whole) }
 {
-    let mut room = [0u8; 2 * RUN];
-    let digits = &mut room[..2 * bytes.len()];
-    match hex::encode_to_slice(bytes, digits) {
-        Ok(()) => {}
-        Err(_) => unreachable!(),
-    }
-    match str::from_utf8(digits) {
-        Ok(digits) => out.push_str(digits),
-        Err(_) => unreachable!(),
-    }
+    out.put(b"array:")?;
+    let element = put_descriptors(out, depth, bytes)?;
+    let Some((code, items)) = element.split_first() else {
+        return Ok(element);
+    };
+    put_kind(out, *code)?;
+    put_items(out, depth, Some(*code), count, items)
 }
 
-/// Appends `name:"bytes"`. Printable ASCII stands for itself, but a quote, a backslash and every other
-/// byte are written as `\x` and two hex digits.
-fn write_quoted(out: &mut String, name: &str, bytes: &[u8]) -> Result<(), AllocError> {
-    write!(out, "{name}:\"")?;
-    let mut at = 0;
-    while at < bytes.len() {
-        let plain = plain_front(&bytes[at..]);
-        out.push_str(plain)?;
-        at += plain.len();
-        if at < bytes.len() {
-            out.push_str("\\x")?;
-            write_digits(out, &bytes[at..at + 1])?;
-            at += 1;
+/// Appends `@D ` for each descriptor in front of an element constructor.
+#[cycle(text)]
+fn put_descriptors<'a>(
+    out: &mut Page,
+    depth: usize,
+    bytes: &'a [u8],
+) -> Result<&'a [u8], AllocError>
+    ensures { OnOk result (out.new.whole ≡ out.old.whole) }
+{
+    let mut rest = bytes;
+    for _ in 0..bytes.len() {
+        let Some((0, descriptor)) = rest.split_first() else {
+            break;
+        };
+        out.put_byte(b'@')?;
+        rest = put_value(out, depth, descriptor)?;
+        out.put_byte(b' ')?;
+    }
+    Ok(rest)
+}
+
+/// Appends `[a, b]`. The items of an array have no codes of their own, but one for all.
+#[cycle(text)]
+fn put_items<'a>(
+    out: &mut Page,
+    depth: usize,
+    code: Option<u8>,
+    count: usize,
+    bytes: &'a [u8],
+) -> Result<&'a [u8], AllocError>
+    ensures { OnOk result (out.new.whole ≡ out.old.whole) }
+{
+    out.put_byte(b'[')?;
+    let mut rest = bytes;
+    for i in 0..count {
+        if i > 0 {
+            out.put(b", ")?;
+        }
+        rest = match code {
+            Some(code) => put_data(out, depth, code, rest)?,
+            None => put_value(out, depth, rest)?,
+        };
+    }
+    out.put_byte(b']')?;
+    Ok(rest)
+}
+
+/// Appends the text of a binary, a string or a symbol, whose size has that width.
+fn put_octets<'a>(
+    out: &mut Page,
+    code: u8,
+    width: usize,
+    bytes: &'a [u8],
+) -> Result<&'a [u8], AllocError>
+    ensures { OnOk result (out.new.whole ≡ out.old.whole) }
+{
+    let (size, rest) = front(bytes, width);
+    let (octets, rest) = front(rest, number_in(size) as usize);
+    out.put(label(code))?;
+    match code {
+        0xa0 | 0xb0 => put_hex(out, octets)?,
+        _ => put_quoted(out, octets)?,
+    }
+    Ok(rest)
+}
+
+/// Appends the text of a value of fixed width. The first digit of its code says how wide that is. [1.2]
+fn put_fixed<'a>(out: &mut Page, code: u8, bytes: &'a [u8]) -> Result<&'a [u8], AllocError>
+    ensures { OnOk result (out.new.whole ≡ out.old.whole) }
+{
+    let width = match code >> 4 {
+        5 => 1,
+        6 => 2,
+        7 => 4,
+        8 => 8,
+        9 => 16,
+        _ => 0,
+    };
+    let (data, rest) = front(bytes, width);
+    match code {
+        0x40 => out.put(b"null")?,
+        0x41 | 0x42 | 0x56 => put_boolean(out, code == 0x41 || number_in(data) == 1)?,
+        0x72 | 0x73 | 0x74 | 0x82 | 0x84 | 0x94 => {
+            out.put(label(code))?;
+            put_hex(out, data)?;
+        }
+        0x98 => {
+            out.put(label(code))?;
+            put_uuid(out, data)?;
+        }
+        0x51 | 0x54 | 0x55 | 0x61 | 0x71 | 0x81 | 0x83 => {
+            out.put(label(code))?;
+            put_signed(out, width, number_in(data))?;
+        }
+        _ => {
+            out.put(label(code))?;
+            put_number(out, number_in(data))?;
         }
     }
-    out.push('"')
+    Ok(rest)
 }
 
-/// The bytes at the front that stand for themselves.
-fn plain_front(bytes: &[u8]) -> &str
-    ensures { result.now ≡ take (length result.now) bytes.now }
+fn put_boolean(out: &mut Page, flag: bool) -> Result<(), AllocError>
+    ensures { OnOk result (out.new.whole ≡ out.old.whole) }
 {
-    match str::from_utf8(&bytes[..plain_len(bytes)]) {
-        Ok(text) => text,
-        Err(_) => unreachable!(),
+    if flag {
+        out.put(b"true")
+    } else {
+        out.put(b"false")
     }
 }
 
-/// How many bytes at the front stand for themselves.
-fn plain_len(bytes: &[u8]) -> usize
-    ensures within { result ≤ length bytes.now }
-    ensures plain { IsAscii (take result bytes.now) }
+/// Appends the name of the kind that a code makes. [1.6]
+fn put_kind(out: &mut Page, code: u8) -> Result<(), AllocError>
+    ensures { OnOk result (out.new.whole ≡ out.old.whole) }
 {
-    let mut len = 0;
-    while len < bytes.len() && is_plain(bytes[len]) {
-        len += 1;
-    }
-    len
+    let label = label(code);
+    out.put(&label[..label.len().saturating_sub(1)])
 }
 
-/// Whether a byte stands for itself in a quoted text.
-fn is_plain(byte: u8) -> bool
-    ensures { IsTrue result → byte < 128 }
+/// The name of the kind that a code makes, and a colon. [1.6]
+fn label(code: u8) -> &'static [u8] {
+    match code {
+        0x40 => b"null:",
+        0x41 | 0x42 | 0x56 => b"boolean:",
+        0x50 => b"ubyte:",
+        0x60 => b"ushort:",
+        0x43 | 0x52 | 0x70 => b"uint:",
+        0x44 | 0x53 | 0x80 => b"ulong:",
+        0x51 => b"byte:",
+        0x61 => b"short:",
+        0x54 | 0x71 => b"int:",
+        0x55 | 0x81 => b"long:",
+        0x72 => b"float:",
+        0x82 => b"double:",
+        0x74 => b"decimal32:",
+        0x84 => b"decimal64:",
+        0x94 => b"decimal128:",
+        0x73 => b"char:",
+        0x83 => b"timestamp:",
+        0x98 => b"uuid:",
+        0xa0 | 0xb0 => b"binary:",
+        0xa1 | 0xb1 => b"string:",
+        0xa3 | 0xb3 => b"symbol:",
+        0x45 | 0xc0 | 0xd0 => b"list:",
+        0xc1 | 0xd1 => b"map:",
+        0xe0 | 0xf0 => b"array:",
+        _ => b"",
+    }
+}
+
+/// So many bytes at the front, or all where there are fewer, and those behind them.
+fn front(bytes: &[u8], n: usize) -> (&[u8], &[u8])
+    ensures { length result.0.now ≤ n }
 {
-    matches!(byte, 0x20..=0x7e) && byte != b'"' && byte != b'\\'
+    bytes.split_at(n.min(bytes.len()))
 }

@@ -1,6 +1,7 @@
 -- What becomes of a call for a session, seen from the session, from its place, and from the connection with its output.
 use Rattle.std.specs.Prelude.{◌≡◌, ℕ, List, [], ◌∷◌, ◌++◌, Some, None, Result, Ok, Err}
 use Rattle.amqp_perform.specs.declared.performative.Disposition.{Disposition}
+use Rattle.amqp_perform.specs.declared.performative.Flow.{Flow}
 use Rattle.amqp_perform.specs.declared.performative.Performative.TheVariants as performative
 use Rattle.amqp_perform.specs.Said.{Said, said}
 use Rattle.amqp_link.specs.declared.link.Taken.{Taken}
@@ -23,7 +24,6 @@ use Rattle.amqp_endpoint.specs.Replies.{on_channel, joined}
 -- the call that a request is
 abbrev pub asked_of : Request → session.Call
 asked_of (request.Widen n) = session.Widen n
-asked_of (request.Grant handle n) = session.Grant handle n
 asked_of (request.Drain handle) = session.Drain handle
 asked_of (request.Detach handle) = session.Detach handle
 
@@ -34,6 +34,10 @@ asked_said (asked.Detach p) = said (performative.Detach p)
 
 abbrev pub all_said : Asked → List Said
 all_said a = asked_said a ∷ []
+
+-- a grant says what credit there is
+abbrev pub credit_said : Flow → List Said
+credit_said p = said (performative.Flow p) ∷ []
 
 -- a settle says what became of a delivery
 abbrev pub outcome_said : Disposition → List Said

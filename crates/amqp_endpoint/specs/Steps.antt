@@ -1,6 +1,7 @@
 -- One step of an endpoint, from the bytes of a piece, or a call, to the bytes added to its output, the answer, and the new state.
 use Rattle.std.specs.Prelude.{◌≡◌, ℕ, ◌≤◌, ◌⊎◌, Bool, true, false, if◌then◌else◌, List, ◌++◌, Option, Some, None}
-use Rattle.amqp_frame.specs.Splits.{SplitterState, Asks, Waits, IsTaken, IsUnchanged, IsEmptied}
+use Rattle.amqp_frame.specs.declared.units.Stage.{Stage}
+use Rattle.amqp_frame.specs.Splits.{SplitterState, IsAsked, Waits, IsTaken, IsUnchanged, IsEmptied}
 use Rattle.amqp_frame.specs.Units.{StreamUnit, HeaderUnit, FrameUnit, FaultUnit, due_after}
 use Rattle.amqp_endpoint.specs.declared.event.Event.{Event}
 use Rattle.amqp_endpoint.specs.declared.event.Outcome.{Outcome}
@@ -18,13 +19,13 @@ pub record EndpointState : Type 0 where
 
 -- Taking bytes. -------------------------------------------------------------------------------------------------------
 
--- So many bytes of the unit that is due are asked for next; none once the connection is over, which comes first here.
-abbrev pub AsksIf : Bool → SplitterState → ℕ → Type 0
-AsksIf true input n = n ≡ 0
-AsksIf false input n = Asks input n
+-- So many bytes of the unit that is due are asked for next; once the connection is over none, whatever its splitter asks for.
+abbrev pub AsksIf : Bool → ℕ → Stage → List ℕ → ℕ → Type 0
+AsksIf true max stage bytes n = n ≡ 0
+AsksIf false max stage bytes n = IsAsked max stage bytes n
 
 abbrev pub AsksFor : EndpointState → ℕ → Type 0
-AsksFor s n = AsksIf (is_dead s.connection.phase) s.input n
+AsksFor s n = AsksIf (is_dead s.connection.phase) s.input.limit s.input.stage s.input.filled n
 
 -- so many bytes may have been read: none, or at most as many as are asked for
 abbrev pub MayRead : EndpointState → ℕ → Type 0

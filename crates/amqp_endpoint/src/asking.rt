@@ -43,7 +43,16 @@ pub fn grant<A: Allocator + Copy>(
 ) -> Result<(), CallFault>
     ensures { CallAnswered connection.old connection.new out.old out.new channel (Grant handle n) result }
 {
-    ask(connection, out, channel, Request::Grant { handle, n })
+    answers_fit_their_room();
+    if takes_no_call(connection) {
+        return Err(CallFault::Dead);
+    }
+    if !out.has_room() {
+        return Err(grant_fault(connection, channel, handle, n).unwrap_or(CallFault::Full));
+    }
+    let flow = connection.grant(channel, handle, n)?;
+    out.put_flow(channel, &flow);
+    Ok(())
 }
 
 /// Asks the sender on the link at a handle to use its credit up [2.6.7]. Refused, with nothing changed, with the first
@@ -179,6 +188,24 @@ fn fault<A: Allocator + Copy>(
     }
 }
 
+/// Why the session on a channel would refuse to grant a link credit; `NoSession` where none is live.
+fn grant_fault<A: Allocator + Copy>(
+    connection: &Connection<A>,
+    channel: u16,
+    handle: u32,
+    n: u32,
+) -> Option<CallFault>
+    ensures { result ≡ at_session (slot_at connection.now channel) (Grant handle n) }
+{
+    match connection.session(channel) {
+        Some(session) => match session.grant_fault(handle, n) {
+            Some(fault) => Some(fault_of(fault)),
+            None => None,
+        },
+        None => Some(CallFault::NoSession),
+    }
+}
+
 /// Why the session on a channel would refuse a settle, with any outcome; `NoSession` where none is live.
 fn settle_fault<A: Allocator + Copy>(
     connection: &Connection<A>,
@@ -205,7 +232,6 @@ fn session_fault<A: Allocator + Copy>(
 {
     match request {
         Request::Widen { n } => session.widen_fault(n),
-        Request::Grant { handle, n } => session.grant_fault(handle, n),
         Request::Drain { handle } | Request::Detach { handle } => session.link_fault(handle),
     }
 }

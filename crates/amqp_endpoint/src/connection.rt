@@ -2,7 +2,7 @@
 ghost use Rattle.std.specs.Prelude.{◌≡◌, ◌≤◌, ◌<◌, ◌+◌, ◌^◌, true, false, Some, None, slice_get, IfOk, OnOk, OnErr, IfSome, IfNone, option_map};
 ghost use Rattle.amqp_link.specs.Links.{sent_of};
 ghost use Rattle.amqp_session.specs.declared.slot.Slot.TheVariants.{Free, Live, Waits};
-ghost use Rattle.amqp_session.specs.Calls.{Settle};
+ghost use Rattle.amqp_session.specs.Calls.{Grant, Settle};
 ghost use Rattle.amqp_session.specs.Frames.{Frame, Transfers, frame_of};
 ghost use Rattle.std.specs.Option.{option_copied_mut};
 ghost use Rattle.std.specs.Borrow.{sem};
@@ -10,7 +10,7 @@ ghost use Rattle.amqp_session.specs.Places.{live_in};
 ghost use Rattle.amqp_endpoint.specs.ConnectionLending.{LendsChannel};
 ghost use Rattle.amqp_session.specs.Sessions.{SessionState};
 ghost use Rattle.amqp_endpoint.specs.Acting.{IsLive, TakesIn, FrameDone, TransferDone};
-ghost use Rattle.amqp_endpoint.specs.Asking.{IsAsked, SessionAsked, all_said, outcome_said, asked_of};
+ghost use Rattle.amqp_endpoint.specs.Asking.{IsAsked, SessionAsked, all_said, credit_said, outcome_said, asked_of};
 ghost use Rattle.amqp_endpoint.specs.Connections.{connection_begins, connection_after, connection_ready, connection_bytes, channel_ready, channel_limit, slot_at, Opened, Broken, Failed, CloseAsked, PeerClosed, Lost, HeaderRefused, Finished, Begun, SessionFailed, SessionEnded};
 
 use crate::channels::{self, KeptSession, Place};
@@ -18,7 +18,7 @@ use crate::config::Config;
 use crate::fault::CallFault;
 use crate::phase::Phase;
 use crate::request::{Asked, Request, fault_of};
-use amqp_perform::{Disposition, Outcome, Performative, Transfer};
+use amqp_perform::{Disposition, Flow, Outcome, Performative, Transfer};
 use amqp_session::{
     CallFault as SessionCallFault, Done, Report, Session, SessionFault, SessionTerms, Slot,
 };
@@ -329,6 +329,20 @@ impl<A: Allocator + Copy> Connection<A> {
     }
 
     #[tactic(auto, using(crate::proofs::Lent::went_on, crate::proofs::Lent::stayed))]
+    /// Credit for the link at a handle of the session on a channel. Where it is refused nothing has changed.
+    pub fn grant(&mut self, channel: u16, handle: u32, n: u32) -> Result<Flow<'static>, CallFault>
+        ensures { IsAsked credit_said self.old self.new channel (Grant handle n) result }
+    {
+        let Some(session) = self.session_mut(channel) else {
+            return Err(CallFault::NoSession);
+        };
+        match session.grant(handle, n) {
+            Ok(flow) => Ok(flow),
+            Err(fault) => Err(fault_of(fault)),
+        }
+    }
+
+    #[tactic(auto, using(crate::proofs::Lent::went_on, crate::proofs::Lent::stayed))]
     /// What became of a delivery of the session on a channel. Where that is refused nothing has changed.
     pub fn settle(
         &mut self,
@@ -357,7 +371,6 @@ fn ask<A: Allocator + Copy>(
 {
     match request {
         Request::Widen { n } => Ok(Asked::Flow(session.widen(n)?)),
-        Request::Grant { handle, n } => Ok(Asked::Flow(session.grant(handle, n)?)),
         Request::Drain { handle } => Ok(Asked::Flow(session.drain(handle)?)),
         Request::Detach { handle } => Ok(Asked::Detach(session.detach(handle)?.0)),
     }

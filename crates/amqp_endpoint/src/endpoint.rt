@@ -30,8 +30,8 @@ use std::marker::Model;
 
 /// The receiving endpoint of one connection [2.2 to 2.7].
 ///
-/// The peer's bytes go in by [`Endpoint::feed`], which tells what they come to, and the bytes for the peer come out by
-/// [`Endpoint::output`]. In between the application grants credit, widens windows, takes messages and settles them.
+/// The peer's bytes go in by [`Endpoint::feed`], or by [`Endpoint::spare`] and [`Endpoint::filled`], which tell what they come
+/// to, and the bytes for the peer come out by [`Endpoint::output`], or by [`Endpoint::unsent_front`] and [`Endpoint::sent`]. In between the application grants credit, widens windows, takes messages and settles them.
 /// A call that is refused changes nothing. Memory is taken by [`Endpoint::new`], and by the begin, attach and
 /// transfer frames that are fed.
 #[derive(Drop)]
@@ -153,6 +153,7 @@ impl<A: Allocator + Copy> Endpoint<A> {
     }
 
     /// Acts upon the unit that waits, if one does.
+    #[inline(always)]
     fn act(&mut self) -> Outcome
         requires { is_dead self.old.connection.phase ≡ false }
         ensures { Comes self.old self.new result }

@@ -213,8 +213,8 @@ pub fn what_follows_is_accepted()
     runs_have_a_history();
 }
 
-/// What stands in the buffer's room before a feed counts for nothing: what was read into it and then taken is fed as a
-/// piece of it would have been before [2.3.1].
+/// What stands in the room of the buffer changes no feed: a feed behind a read into it is that feed of the endpoint before
+/// the read.
 #[tactic(auto, using(crate::proofs::Fills::fed_read))]
 pub fn fills_are_feeds()
     ensures { (s read new : EndpointState) (piece : List ℕ) (used : ℕ) (o : Outcome) → IsKept s read → IsFed read new piece used o → Does s new (runs.Feed piece) (runs.Fed used o) }

@@ -4,7 +4,8 @@
 //! [`Endpoint::new`] with a [`Config`]; then [`Endpoint::feed`] until a piece is used up, what its [`Event`]s ask for by
 //! [`Endpoint::grant`], [`Endpoint::widen`], [`Endpoint::drain`], [`Endpoint::take`], [`Endpoint::settle`] and
 //! [`Endpoint::detach`], and [`Endpoint::output`] for the peer; [`Endpoint::close`], and at the end of the input
-//! [`Endpoint::finish`]. [`replay`] makes a list of calls, and its contract is the theorem over all such lists; `amqp_serve`
+//! [`Endpoint::finish`]. A reader may fill the buffer itself ([`Endpoint::spare`], [`Endpoint::filled`]), and a writer be handed
+//! what waits ([`Endpoint::unsent_front`], [`Endpoint::sent`]). [`replay`] makes a list of calls, and its contract is the theorem over all such lists; `amqp_serve`
 //! does this over a reader, a writer and a sink.
 //!
 //! A frame goes through `endpoint`, `units` (a unit), `bodies` (a performative), `sessions` (a frame of a live session),

@@ -8,7 +8,7 @@ ghost use Rattle.amqp_endpoint.specs.Calls.{output_size, reply_room, has_room, h
 
 use crate::laws::frames_are_as_long;
 use amqp_perform::{
-    Attach, Detach, Disposition, Flow, Performative, write_disposition, write_frame,
+    Attach, Detach, Disposition, Flow, Performative, write_disposition, write_flow, write_frame,
 };
 use amqp_session::Session;
 use circular_buffer::HeapCircularBuffer;
@@ -106,7 +106,9 @@ impl<A: Allocator + Copy> Output<A> {
         requires room { length self.old + length (said_frame channel (said (performative.Flow flow.now)) []) ≤ output_size }
         ensures { self.new ≡ self.old ++ said_frame channel (said (performative.Flow flow.now)) [] }
     {
-        self.put_frame(channel, &Performative::Flow(*flow));
+        if let Some(len) = write_flow(channel, flow, &[], &mut self.scratch) {
+            self.pipe.fill_from_slice(&self.scratch[..len]);
+        }
     }
 
     /// The same of a disposition.

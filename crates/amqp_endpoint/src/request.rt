@@ -11,8 +11,6 @@ use amqp_session::CallFault as SessionCallFault;
 pub enum Request {
     /// The window gets so many places more.
     Widen { n: u32 },
-    /// The link at a handle gets so much credit more.
-    Grant { handle: u32, n: u32 },
     /// Its sender is asked to use its credit up.
     Drain { handle: u32 },
     /// The link at a handle is ended.

@@ -1,12 +1,8 @@
 -- What a marked reader or writer shows.
-use Rattle.std.specs.Prelude.{ℕ, ◌+◌, ◌++◌, ◌≡◌, Bool, List, Option, if◌then◌else◌, nat_lt, length}
+use Rattle.std.specs.Prelude.{ℕ, ◌+◌, ◌++◌, ◌≡◌, ◌==◌, ◌||◌, Bool, List, [], Option, if◌then◌else◌}
 use Rattle.std.specs.Io.KnownBytes.{Appends}
 use Rattle.amqp_frame.specs.declared.device.Device.{Device}
 use Rattle.amqp_frame.specs.declared.device.Direct.{Direct}
-
--- there are some
-abbrev pub has_any : List ℕ → Bool
-has_any bytes = nat_lt 0 (length bytes)
 
 -- the reader or writer itself
 abbrev pub direct_inner : {T : Type 0} → Direct T → T
@@ -32,6 +28,10 @@ module _ {T : Type 0} where
   -- how many reads it may still ask of the reader
   abbrev pub reads_left : Device T → ℕ
   reads_left d = d.reads_left
+
+  -- the bytes that its reader has at hand; none where it is asked nothing any more
+  abbrev pub device_hand : (T → List ℕ) → Device T → List ℕ
+  device_hand hand d = if d.failed || d.ended || (d.reads_left == 0) then [] else hand d.inner
 
   -- a number that falls with each read into some room until the reader has ended
   abbrev pub reads_ahead : Device T → ℕ

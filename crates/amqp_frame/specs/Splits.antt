@@ -105,7 +105,7 @@ Waits s u = Stands s.limit s.stage s.filled u
 abbrev pub TakesNothing : SplitterState → Type 0
 TakesNothing s = IsOne s.limit s.stage s.filled ⊎ IsOver s.stage
 
--- nothing but the reserved bytes may differ
+-- nothing but what stands in the room behind the filled bytes may differ
 pub record IsUnchanged (old new : SplitterState) : Type 0 where
   pub limit : new.limit ≡ old.limit
   pub stage : new.stage ≡ old.stage

@@ -1,44 +1,45 @@
 //! A reader or a writer that keeps its first failure.
-ghost use Rattle.std.specs.Prelude.{◌≡◌, ℕ, Bool, ◌+◌, ◌-◌, ◌^◌, ◌<◌, ◌≤◌, ◌↔◌, true, false, length, take, IfOk, IsErr, IsTrue, MatchResult, Err, Ok, OnErr, OnOk};
+ghost use Rattle.std.specs.Prelude.{◌≡◌, ℕ, List, [], ◌+◌, ◌-◌, ◌^◌, ◌<◌, ◌≤◌, ◌↔◌, true, false, length, take, IfOk, IsErr, IsTrue, MatchResult, Err, Ok, OnErr, OnOk};
 ghost use Rattle.std.specs.Io.KnownBytes.{IsAtEnd, Appends, Consumes, Keeps, WriteAppends};
 ghost use Rattle.std.specs.Io.Buffered.{reader_buffer, writer_buffer, writer_capacity};
-ghost use Rattle.amqp_frame.specs.Devices.{has_any, direct_inner, device_inner, has_failed, has_ended, is_flushed, reads_left, reads_ahead, AppendsFront};
+ghost use Rattle.amqp_frame.specs.Devices.{direct_inner, device_inner, device_hand, has_failed, has_ended, is_flushed, reads_left, reads_ahead, AppendsFront};
 
 use std::alloc::Allocator;
-use std::io::{self, BufReader, BufWriter, ErrorKind, Read, Write};
+use std::io::{self, BufRead, BufReader, BufWriter, ErrorKind, Read, Write};
 
-/// A reader that may know of bytes that stand ready, so that the next read doesn't wait for its peer.
-pub trait AtHand {
-    // whether it knows of some
-    ghost has_some: { Self → Bool };
+/// A reader that may have bytes at hand: it read them ahead, and gives them without asking its peer.
+pub trait AtHand: Read {
+    // the bytes that come next, as far as it has them
+    ghost hand: { Self → List ℕ };
 
-    /// Whether it knows of some. False is always right.
-    fn at_hand(&self) -> bool
-        ensures { result ≡ has_some self.now };
+    /// These bytes. None is always right.
+    fn at_hand(&self) -> &[u8]
+        ensures { result.now ≡ hand self.now };
+
+    /// Takes the first `n` of them.
+    fn took(&mut self, n: usize)
+        requires { n ≤ length (hand self.old) }
+        ensures { Consumes (Self.remaining self.old) (Self.remaining self.new) (take n (hand self.old)) };
 }
 
 impl<R: Read, A: Allocator> AtHand for BufReader<R, A> {
-    ghost has_some = { λ r. has_any (reader_buffer r) };
+    ghost hand = { reader_buffer };
 
-    fn at_hand(&self) -> bool {
-        !self.buffer().is_empty()
+    fn at_hand(&self) -> &[u8] {
+        self.buffer()
     }
-}
 
-impl AtHand for &[u8] {
-    ghost has_some = { λ r. has_any r.now };
-
-    fn at_hand(&self) -> bool {
-        !self.is_empty()
+    fn took(&mut self, n: usize) {
+        self.consume(n);
     }
 }
 
 /// A writer that may know how many bytes it keeps to itself before it passes any on.
 pub trait HoldsBack {
-    // how many more it keeps
+    // at least so many more it keeps
     ghost room: { Self → ℕ };
 
-    /// How many more it keeps. 0 is always right.
+    /// How many more it keeps at least. 0 is always right.
     fn holds_back(&self) -> usize
         ensures { result ≡ room self.now };
 }
@@ -46,7 +47,7 @@ pub trait HoldsBack {
 impl<W: Write + Drop, A: Allocator> HoldsBack for BufWriter<W, A> {
     ghost room = { λ w. writer_capacity w - length (writer_buffer w) - 1 };
 
-    // A write that fills the buffer is passed on.
+    // A write that fills the buffer may be passed on: where the buffer was empty it is.
     fn holds_back(&self) -> usize {
         self.capacity()
             .saturating_sub(self.buffer().len())
@@ -54,7 +55,8 @@ impl<W: Write + Drop, A: Allocator> HoldsBack for BufWriter<W, A> {
     }
 }
 
-/// A reader or a writer that can't say what it keeps: it knows of no bytes at hand, and promises to hold none back.
+/// A reader or a writer that can't say what it keeps: it has no bytes at hand, and doesn't promise to keep any to
+/// itself.
 #[derive(Drop)]
 pub struct Direct<T> {
     inner: T,
@@ -76,14 +78,6 @@ impl<T> Direct<T> {
     }
 }
 
-impl<T> AtHand for Direct<T> {
-    ghost has_some = { λ _. false };
-
-    fn at_hand(&self) -> bool {
-        false
-    }
-}
-
 impl<T> HoldsBack for Direct<T> {
     ghost room = { λ _. 0 };
 
@@ -98,6 +92,16 @@ impl<R: Read> Read for Direct<R> {
     fn read(&mut self, buf: &mut [u8]) -> io::Result<usize> {
         self.inner.read(buf)
     }
+}
+
+impl<R: Read> AtHand for Direct<R> {
+    ghost hand = { λ _. [] };
+
+    fn at_hand(&self) -> &[u8] {
+        &[]
+    }
+
+    fn took(&mut self, _n: usize) {}
 }
 
 impl<W: Write> Write for Direct<W> {
@@ -240,11 +244,28 @@ impl<R: Read> Device<R> {
 }
 
 impl<R: AtHand> Device<R> {
-    /// Whether its reader knows of bytes at hand.
-    pub fn at_hand(&self) -> bool
-        ensures { result ≡ R.has_some (device_inner self.now) }
+    /// The bytes that its reader has at hand; none where it would not be asked any more.
+    pub fn at_hand(&self) -> &[u8]
+        ensures { result.now ≡ device_hand R.hand self.now }
     {
+        if self.failed || self.ended || self.reads_left == 0 {
+            return &[];
+        }
         self.inner.at_hand()
+    }
+
+    /// Takes the first `n` of them. It counts as a read.
+    pub fn took(&mut self, n: usize)
+        requires some { 0 < length (device_hand R.hand self.old) }
+        requires within { n ≤ length (device_hand R.hand self.old) }
+        ensures bytes { Consumes (R.remaining (device_inner self.old)) (R.remaining (device_inner self.new)) (take n (device_hand R.hand self.old)) }
+        ensures failed { has_failed self.new ≡ false }
+        ensures ended { has_ended self.new ≡ false }
+        ensures counts { reads_left self.new ≡ reads_left self.old - 1 }
+        ensures fewer { reads_ahead self.new < reads_ahead self.old }
+    {
+        self.reads_left -= 1;
+        self.inner.took(n);
     }
 }
 

@@ -90,7 +90,7 @@ impl<A: Allocator + Copy> Splitter<A> {
         wanted(self.limit, self.stage, self.progress, self.bytes.as_slice())
     }
 
-    /// Lends room for them, to be read into. What stands in it says nothing.
+    /// Lends room for the bytes that [`Splitter::wants`] asks for, to be read into. What stands in it says nothing.
     pub fn spare(&mut self) -> &mut [u8]
         ensures* writes_back { sem 𝓛 (LendsRoom A.row A.Allocator self.entry result) }
         ensures asks { Asks self.old (length result.now) }
@@ -100,7 +100,7 @@ impl<A: Allocator + Copy> Splitter<A> {
         self.spare_front(wants)
     }
 
-    /// Lends room for the first `n` of them.
+    /// The same for no more than `n` of them.
     pub fn spare_front(&mut self, n: usize) -> &mut [u8]
         requires { MayCome self.old n }
         ensures* writes_back { sem 𝓛 (LendsRoom A.row A.Allocator self.entry result) }
@@ -110,7 +110,7 @@ impl<A: Allocator + Copy> Splitter<A> {
         self.bytes.spare(n)
     }
 
-    /// Takes the first `n` bytes of the room that it lends, as [`Splitter::push`] takes a piece of them.
+    /// Takes the first `n` bytes of the room that [`Splitter::spare`] lends, as [`Splitter::push`] takes a piece of them.
     pub fn filled(&mut self, n: usize)
         requires { MayCome self.old n }
         ensures taken { IsTaken self.old self.new (take n self.old.spare) n }

@@ -8,6 +8,8 @@ pub mod Counts
 pub mod Ranges
 pub mod Drains
 pub mod Tags
+pub mod Joined
+pub mod Writings
 pub mod Keys
 pub mod KeptKeys
 pub mod PlaceKeys

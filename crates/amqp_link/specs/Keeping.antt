@@ -78,7 +78,7 @@ module _ {A : Type 0} where
     rcv_settle_mode = d.rcv_settle_mode;
     settled = d.settled;
     told = d.told;
-    message = d.message.items;
+    message = d.message;
   }
 
   -- the delivery under a key; where there is none any would do

@@ -14,6 +14,7 @@ mod link;
 mod message;
 mod open_deliveries;
 mod open_delivery;
+mod pieces;
 mod places;
 mod settlement;
 mod tag;

@@ -231,7 +231,7 @@ impl<A: Allocator + Copy> Link<A> {
             delivery_tag: delivery.delivery_tag,
             message_format: delivery.message_format,
             settled: delivery.settled,
-            message: Message::from_vec(delivery.message),
+            message: delivery.message,
         })
     }
 
@@ -388,7 +388,7 @@ fn apply<A: Allocator + Copy>(
     if deliveries.has_unfinished() {
         deliveries.extend(judge::is_settled(transfer), payload)?;
     } else {
-        deliveries.begin(begun(alloc, terms, transfer, payload)?)?;
+        deliveries.begin(begun(alloc, terms, transfer), payload)?;
     }
     if !transfer.more {
         deliveries.finish();
@@ -396,29 +396,24 @@ fn apply<A: Allocator + Copy>(
     Ok(())
 }
 
-/// The delivery that a transfer begins.
-fn begun<A: Allocator + Copy>(
-    alloc: A,
-    terms: &Terms,
-    transfer: &Transfer<'_>,
-    payload: &[u8],
-) -> Result<OpenDelivery<A>, AllocError>
+/// The delivery that a transfer begins, with no bytes yet.
+fn begun<A: Allocator + Copy>(alloc: A, terms: &Terms, transfer: &Transfer<'_>) -> OpenDelivery<A>
     requires tag { IfSome transfer.now.delivery_tag (λ tag. length tag.now ≤ 32) }
     requires whole { IsFalse transfer.now.aborted }
-    ensures { IfOk result (λ d. delivery_of d ≡ spec.begun terms.now (sent_of transfer.now payload.now)) }
+    ensures { delivery_of result ≡ spec.begun terms.now (sent_of transfer.now []) }
 {
     let settled = judge::is_settled(transfer);
     let rcv_settle_mode = match transfer.rcv_settle_mode {
         Some(mode) if !settled => mode,
         _ => terms.rcv_settle_mode,
     };
-    Ok(OpenDelivery {
+    OpenDelivery {
         delivery_id: transfer.delivery_id.unwrap_or(0),
         delivery_tag: Tag::new(transfer.delivery_tag.unwrap_or(&[])),
         message_format: transfer.message_format.unwrap_or(0),
         rcv_settle_mode,
         settled,
         told: false,
-        message: Vec::from_slice(alloc, payload)?,
-    })
+        message: Message::new(alloc),
+    }
 }

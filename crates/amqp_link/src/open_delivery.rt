@@ -3,6 +3,7 @@ ghost use Rattle.std.specs.Prelude.{◌≡◌, ◌||◌, ◌++◌, [], not, OnOk
 ghost use Rattle.amqp_link.specs.Links.{delivery_bytes, is_first};
 ghost use Rattle.amqp_link.specs.Keeping.{delivery_of, asks_of, ends, turned, counts};
 
+use crate::message::Message;
 use crate::tag::Tag;
 use amqp_perform::ReceiverSettleMode;
 use amqp_serial::Serial;
@@ -20,7 +21,7 @@ pub struct OpenDelivery<A: Allocator + Copy = Global> {
     pub settled: bool,
     /// The sender was told what became of it.
     pub told: bool,
-    pub message: Vec<u8, A>,
+    pub message: Message<A>,
 }
 
 /// Ids from a first to a last one; none where the last is behind the first [2.7.6].
@@ -73,16 +74,16 @@ impl<A: Allocator + Copy> OpenDelivery<A> {
             told: _,
             message,
         } = self;
-        64 + delivery_tag.as_bytes().len() as u64 + message.len() as u64
+        64 + delivery_tag.as_bytes().len() as u64 + message.size()
     }
 
     /// One transfer more.
     pub fn extend(&mut self, settled: bool, payload: &[u8]) -> Result<(), AllocError>
-        ensures ok { OnOk result (delivery_of self.new ≡ record (delivery_of self.old) { settled = self.old.settled || settled; message = self.old.message.items ++ payload.now }) }
+        ensures ok { OnOk result (delivery_of self.new ≡ record (delivery_of self.old) { settled = self.old.settled || settled; message = self.old.message ++ payload.now }) }
         ensures err { OnErr result (delivery_of self.new ≡ delivery_of self.old) }
         ensures empty { payload.now ≡ [] → IsOk result }
     {
-        self.message.extend_from_slice(payload)?;
+        self.message.extend(payload)?;
         self.settled = self.settled || settled;
         Ok(())
     }
@@ -99,7 +100,7 @@ impl<A: Allocator + Copy> OpenDelivery<A> {
             rcv_settle_mode: self.rcv_settle_mode,
             settled: self.settled,
             told: self.told,
-            message: mem::replace(&mut self.message, Vec::new(alloc)),
+            message: mem::replace(&mut self.message, Message::new(alloc)),
         }
     }
 

@@ -2,9 +2,10 @@
 use Rattle.std.proofs.Common.{◌≡◌, ℕ, ◌+◌, ◌<◌, ◌≤◌, List, ◌++◌, length, get_or, take, drop, [], refl, sym, ap, subst, ◌∙◌, append_assoc, arith}
 use Rattle.std.proofs.Math.Seq.{take-append-add, drop-append-add, take-append_seam}
 use Rattle.std.specs.List.{concat}
-use Rattle.std.proofs.lemmas.List.{drop-drop, length-append, length-take-le, length-drop, take-append-drop, at_drop_more, at_drop_all}
+use Rattle.std.proofs.lemmas.List.{get_or-map, length-map, drop-drop, length-append, length-take-le, length-drop, take-append-drop, at_drop_more, at_drop_all}
 use Rattle.amqp_perform.specs.declared.field_text.FieldText.{FieldText}
-use Rattle.amqp_perform.specs.Frames.{Writes, field_spelling, field_spellings}
+use Rattle.amqp_perform.specs.declared.field_text.FieldText.TheVariants as value
+use Rattle.amqp_perform.specs.Frames.{Writes, field_spelling, field_spellings, number_values}
 
 -- the buffer keeps its length
 pub writes-length : (at : ℕ) (text old new : List ℕ) → at + length text ≤ length old → Writes at text old new → length new ≡ length old
@@ -103,3 +104,43 @@ five_written values d at n4 n5 old o4 o5 five room place same rest e5 w5 =
     let a = values_more values 4 d at n4 n5 old o4 o5 (omega arith) place same room e5 w5 rest in
     let none : joined (drop 5 values) ≡ [] = at_drop_all joined values 5 (omega arith) in
     (omega (arith, a.0, ap length none), a.2 o5 (values_end values 5 n5 o5 (omega arith)))
+
+-- Numbers. ------------------------------------------------------------------------------------------------------------
+
+number_at : (numbers : List ℕ) (i : ℕ) → i < length numbers → get_or (number_values numbers) i (value.Uint 0) ≡ value.Uint (get_or numbers i 0)
+number_at numbers i lt = get_or-map (λ n. value.Uint n) numbers i 0 (value.Uint 0) lt
+
+-- what is left of numbers from a place on
+number_first : (numbers : List ℕ) (i : ℕ) → i < length numbers
+    → joined (drop i (number_values numbers)) ≡ field_spelling (value.Uint (get_or numbers i 0)) ++ joined (drop (i + 1) (number_values numbers))
+number_first numbers i lt =
+    at_drop_more joined (number_values numbers) i (value.Uint 0) (omega (arith, lt, length-map numbers (λ n. value.Uint n)))
+    ∙ ap (λ (v : FieldText). field_spelling v ++ joined (drop (i + 1) (number_values numbers))) (number_at numbers i lt)
+
+-- there is room for the next number
+pub number_fits : (numbers : List ℕ) (i at end : ℕ) (old out : List ℕ) → i < length numbers → end + length (joined (drop i (number_values numbers))) ≡ at + length (joined (number_values numbers))
+    → length out ≡ length old → at + length (joined (number_values numbers)) ≤ length old → end + length (field_spelling (value.Uint (get_or numbers i 0))) ≤ length out
+number_fits numbers i at end old out lt place same room =
+    omega (arith, ap length (number_first numbers i lt), length-append (field_spelling (value.Uint (get_or numbers i 0))) (joined (drop (i + 1) (number_values numbers))), place, same, room)
+
+-- one more number is written
+pub number_more : (numbers : List ℕ) (i at end next : ℕ) (old out mid : List ℕ) → i < length numbers
+    → end + length (joined (drop i (number_values numbers))) ≡ at + length (joined (number_values numbers)) → length out ≡ length old → at + length (joined (number_values numbers)) ≤ length old
+    → next ≡ end + length (field_spelling (value.Uint (get_or numbers i 0))) → Writes end (field_spelling (value.Uint (get_or numbers i 0))) out mid
+    → ((new : List ℕ) → Writes end (joined (drop i (number_values numbers))) out new → Writes at (joined (number_values numbers)) old new)
+    → (next + length (joined (drop (i + 1) (number_values numbers))) ≡ at + length (joined (number_values numbers))) × (length mid ≡ length old)
+    × ((new : List ℕ) → Writes next (joined (drop (i + 1) (number_values numbers))) mid new → Writes at (joined (number_values numbers)) old new)
+number_more numbers i at end next old out mid lt place same room behind w rest =
+    let e = number_at numbers i lt in
+    values_more (number_values numbers) i (value.Uint 0) at end next old out mid (omega (arith, lt, length-map numbers (λ n. value.Uint n))) place same room
+    (behind ∙ ap (λ (v : FieldText). end + length (field_spelling v)) (sym e)) (subst (λ (v : FieldText). Writes end (field_spelling v) out mid) (sym e) w) rest
+
+-- one more number is counted
+pub number_counted : (numbers : List ℕ) (i width more : ℕ) → i < length numbers → width + length (joined (drop i (number_values numbers))) ≡ length (joined (number_values numbers))
+    → more ≡ length (field_spelling (value.Uint (get_or numbers i 0))) → width + more + length (joined (drop (i + 1) (number_values numbers))) ≡ length (joined (number_values numbers))
+number_counted numbers i width more lt before is =
+    omega (arith, ap length (number_first numbers i lt), length-append (field_spelling (value.Uint (get_or numbers i 0))) (joined (drop (i + 1) (number_values numbers))), before, is)
+
+-- no number is left
+pub numbers_none : (numbers : List ℕ) (i : ℕ) → length numbers ≤ i → joined (drop i (number_values numbers)) ≡ []
+numbers_none numbers i le = at_drop_all joined (number_values numbers) i (omega (arith, le, length-map numbers (λ n. value.Uint n)))

@@ -105,6 +105,10 @@ field_spelling (value.Span bytes) = bytes.now
 abbrev pub field_spellings : List FieldText → List (List ℕ)
 field_spellings xs = map field_spelling xs
 
+-- fields that hold these numbers
+abbrev pub number_values : List ℕ → List FieldText
+number_values numbers = map (λ n. value.Uint n) numbers
+
 -- new is old with the text put into it at a place
 abbrev pub Writes : ℕ → List ℕ → List ℕ → List ℕ → Type 0
 Writes at text old new = new ≡ take at old ++ (text ++ drop (at + length text) old)

@@ -175,8 +175,9 @@ impl<'a> FieldText<'a> {
 
 /// How many bytes spell a uint. [1.6.7]
 #[inline(always)]
-fn uint_width(number: u32) -> usize
-    ensures { result ≡ length (canonical (Number Kind.Uint number)) }
+pub fn uint_width(number: u32) -> usize
+    ensures value { result ≡ length (canonical (Number Kind.Uint number)) }
+    ensures most { result ≤ 5 }
 {
     match number {
         0 => 1,
@@ -187,7 +188,7 @@ fn uint_width(number: u32) -> usize
 
 /// Writes a uint at `at`, and answers the place behind it. [1.6.7]
 #[inline(always)]
-fn put_uint(out: &mut [u8], at: usize, number: u32) -> usize
+pub fn put_uint(out: &mut [u8], at: usize, number: u32) -> usize
     requires { at + length (canonical (Number Kind.Uint number)) ≤ length out.old }
     ensures behind { result ≡ at + length (canonical (Number Kind.Uint number)) }
     ensures written { Writes at (canonical (Number Kind.Uint number)) out.old out.new }

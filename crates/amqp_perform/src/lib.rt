@@ -30,4 +30,4 @@ pub use performative::{
     Attach, Begin, Close, Detach, Disposition, End, Flow, Open, Performative, Transfer,
 };
 pub use reader::{read_body, read_transfer_body};
-pub use writer::{write_disposition, write_frame};
+pub use writer::{write_disposition, write_flow, write_frame};

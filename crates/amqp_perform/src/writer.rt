@@ -3,20 +3,20 @@
 //! Each function lists the fields of one performative in their order. A field that is equal to its default is
 //! null.
 
-ghost use Rattle.std.specs.Prelude.{◌≡◌, ◌↔◌, ℕ, ◌+◌, ◌^◌, ◌<◌, ◌≤◌, List, ◌++◌, length, take, drop, IsSome, IfSome, IfNone};
+ghost use Rattle.std.specs.Prelude.{◌≡◌, ◌↔◌, ℕ, ◌+◌, ◌*◌, ◌^◌, ◌<◌, ◌≤◌, List, ◌++◌, length, take, drop, IsSome, IfSome, IfNone};
 ghost use Rattle.std.specs.List.{concat};
 ghost use Rattle.std.specs.Option.{SomeIff, option_map};
 ghost use Rattle.amqp_types.specs.declared.shell.Shell.{Shell};
 ghost use Rattle.amqp_types.specs.Canonical.{shortest};
 ghost use Rattle.amqp_perform.specs.declared.descriptor.Descriptor.{Descriptor};
 ghost use Rattle.amqp_perform.specs.declared.performative.Performative.TheVariants as performative;
-ghost use Rattle.amqp_perform.specs.Frames.{cell_text, field_texts, field_spelling, field_spellings, trimmed, list_text, last_written, disposition_written, head_text, list_head, list_frame, frame_of, Writes, FitsFrame, IsWritten};
+ghost use Rattle.amqp_perform.specs.Frames.{cell_text, field_texts, field_spelling, field_spellings, number_values, trimmed, list_text, last_written, disposition_written, head_text, list_head, list_frame, frame_of, Writes, FitsFrame, IsWritten};
 ghost use Rattle.amqp_perform.specs.Performatives.{receiver_mode, optional_whole, open_cells, begin_cells, attach_cells, flow_cells, transfer_cells, detach_cells, end_cells, close_cells};
 ghost use Rattle.amqp_perform.specs.Tables.{uint, receiver_settle_mode, open_fields, begin_fields, attach_fields, flow_fields, transfer_fields, disposition_fields, detach_fields, end_fields, close_fields};
 
 use crate::bytes::put;
 use crate::descriptor::Descriptor;
-use crate::field_text::FieldText;
+use crate::field_text::{FieldText, put_uint, uint_width};
 use crate::modes::ReceiverSettleMode;
 use crate::performative::{
     Attach, Begin, Close, Detach, Disposition, End, Flow, Open, Performative, Transfer,
@@ -104,6 +104,29 @@ fn flow_texts<'a>(p: &Flow<'a>) -> [FieldText<'a>; 11]
         FieldText::flag(p.echo),
         FieldText::span(p.properties),
     ]
+}
+
+/// All that stands in a flow that states each number of its session and its link up to the credit, and nothing else.
+#[inline(always)]
+fn numbers_of_link(p: &Flow<'_>) -> Option<[u32; 7]>
+    ensures { IfSome result (λ numbers. trimmed (field_texts flow_fields (flow_cells p.now)) ≡ field_spellings (number_values numbers)) }
+{
+    if p.available.is_some() || p.drain || p.echo || !p.properties.is_empty() {
+        return None;
+    }
+    let next_incoming_id = p.next_incoming_id?;
+    let handle = p.handle?;
+    let delivery_count = p.delivery_count?;
+    let link_credit = p.link_credit?;
+    Some([
+        next_incoming_id,
+        p.incoming_window,
+        p.next_outgoing_id,
+        p.outgoing_window,
+        handle,
+        delivery_count,
+        link_credit,
+    ])
 }
 
 fn transfer_texts<'a>(p: &Transfer<'a>) -> [FieldText<'a>; 11]
@@ -233,7 +256,7 @@ fn write_any(
         Performative::Open(p) => write_open(head, p, payload, out),
         Performative::Begin(p) => write_begin(head, p, payload, out),
         Performative::Attach(p) => write_attach(head, p, payload, out),
-        Performative::Flow(p) => write_flow(head, p, payload, out),
+        Performative::Flow(p) => write_flow(channel, p, payload, out),
         Performative::Transfer(p) => write_transfer(head, p, payload, out),
         Performative::Disposition(p) => write_disposition(channel, p, payload, out),
         Performative::Detach(p) => write_detach(head, p, payload, out),
@@ -260,7 +283,23 @@ fn write_attach(head: Head, p: &Attach<'_>, payload: &[u8], out: &mut [u8]) -> O
     write_list(head, &attach_texts(p), payload, out)
 }
 
-fn write_flow(head: Head, p: &Flow<'_>, payload: &[u8], out: &mut [u8]) -> Option<usize>
+/// Writes the frame of a flow, as [`write_frame`] does. One that ends with the credit of a link is written quicker.
+pub fn write_flow(channel: u16, p: &Flow<'_>, payload: &[u8], out: &mut [u8]) -> Option<usize>
+    ensures { IsWritten (frame_of channel (performative.Flow p.now) payload.now) result out.old out.new }
+{
+    let head = Head {
+        channel,
+        descriptor: Descriptor::Flow,
+    };
+    match numbers_of_link(p) {
+        Some(numbers) => write_numbers(head, &numbers, payload, out),
+        None => write_eleven(head, p, payload, out),
+    }
+}
+
+/// The same of any flow.
+#[inline(never)]
+fn write_eleven(head: Head, p: &Flow<'_>, payload: &[u8], out: &mut [u8]) -> Option<usize>
     ensures { IsWritten (list_frame head.channel head.descriptor (field_texts flow_fields (flow_cells p.now)) payload.now) result out.old out.new }
 {
     write_list(head, &flow_texts(p), payload, out)
@@ -362,6 +401,52 @@ fn write_full_list(
     let room = out.len().min(MAX_FRAME);
     let content = total_width(values, room)?;
     write_sized(head, values, content, payload, out)
+}
+
+/// Writes the frame of a list of numbers, where it fits.
+#[inline(always)]
+fn write_numbers(head: Head, numbers: &[u32], payload: &[u8], out: &mut [u8]) -> Option<usize>
+    requires { length numbers.now < 256 }
+    ensures { (texts : List (List ℕ)) → trimmed texts ≡ field_spellings (number_values numbers.now) → IsWritten (list_frame head.channel head.descriptor texts payload.now) result out.old out.new }
+{
+    let content = numbers_width(numbers);
+    let len = HEAD_LEN + list_width(numbers.len(), content) + payload.len();
+    let room = out.len().min(MAX_FRAME);
+    if room < len {
+        return None;
+    }
+    let at = write_head(head, len as u32, out);
+    let at = write_list_head(numbers.len(), content, out, at);
+    let at = put_numbers(numbers, out, at);
+    Some(put(out, at, payload))
+}
+
+/// How many bytes spell these numbers.
+#[inline(always)]
+fn numbers_width(numbers: &[u32]) -> usize
+    requires { length numbers.now < 256 }
+    ensures value { result ≡ length (concat (field_spellings (number_values numbers.now))) }
+    ensures bound { result ≤ 5 * length numbers.now }
+{
+    let mut width = 0;
+    for number in numbers {
+        width += uint_width(*number);
+    }
+    width
+}
+
+/// Writes these numbers at `at`, and answers the place behind them.
+#[inline(always)]
+fn put_numbers(numbers: &[u32], out: &mut [u8], at: usize) -> usize
+    requires { at + length (concat (field_spellings (number_values numbers.now))) ≤ length out.old }
+    ensures behind { result ≡ at + length (concat (field_spellings (number_values numbers.now))) }
+    ensures written { Writes at (concat (field_spellings (number_values numbers.now))) out.old out.new }
+{
+    let mut end = at;
+    for number in numbers {
+        end = put_uint(out, end, *number);
+    }
+    end
 }
 
 /// Writes the frame of a list of values of so many bytes, where it fits.

@@ -49,6 +49,3 @@ impl Serial {
         length < HALF && first.distance(self) <= length
     }
 }
-
-#[cfg(test)]
-mod tests;

@@ -4,7 +4,6 @@ use Rattle.std.proofs.KnownBytes.{Appends-nil}
 use Rattle.std.specs.Prelude.{if◌then◌else◌}
 use Rattle.std.proofs.lemmas.List.{take_all, length-take, take-take, take-append-le}
 use Rattle.amqp_frame.specs.Rooms.{over}
-use Rattle.amqp_frame.specs.SplitLends.{with_read}
 use Rattle.amqp_frame.specs.Splits.{SplitterState, Waits, IsOver, TakesNothing, IsUnchanged}
 use Rattle.amqp_frame.specs.Units.{StreamUnit, HeaderUnit, FrameUnit, FaultUnit, bytes_of, IsUnit}
 use Rattle.amqp_frame.specs.declared.units.Stage.{Stage}
@@ -19,7 +18,7 @@ use Rattle.amqp_endpoint.specs.Lines.{line_of, told_on, may_grow_on}
 use Rattle.amqp_endpoint.specs.Runs.{Feed, Fed, Does}
 use Rattle.amqp_serve.specs.Serving.{reading, stand_told, Rests, Feeds, Served, IsIdle, IsStarved}
 use Rattle.amqp_endpoint.specs.Steps as steps
-use Rattle.amqp_endpoint.specs.Steps.{EndpointState, AsksIf, IsKept, IsFed, TakesAndActs, Acts, acted_after, room_for, told_outcome}
+use Rattle.amqp_endpoint.specs.Steps.{EndpointState, IsKept, IsFed, TakesAndActs, Acts, acted_after, room_for, told_outcome}
 
 unit_some : (max : ℕ) (stage : Stage) (u : StreamUnit) → IsUnit max stage u → 4 ≤ length (bytes_of u)
 unit_some max Header u is = omega (arith, header_exact max u is)
@@ -111,11 +110,6 @@ bytes_in_front (x ∷ xs) (suc n) bytes (suc i) = bytes_in_front xs n (λ j. byt
 take_twice : (n : ℕ) (xs : List ℕ) → take n (take n xs) ≡ take n xs
 take_twice n xs = let long = length-take n xs in take_all n (take n xs) (omega (arith, long))
 
--- what was read into the room says nothing
-pub asks_still : (over : Bool) (s : SplitterState) (ws : List ℕ) (n : ℕ) → AsksIf over s n → AsksIf over (with_read s ws) n
-asks_still true s ws n x = x
-asks_still false s ws n x = record { none = x.none; some = x.some }
-
 -- what was read stands at the front of the room
 pub front_read : (n : ℕ) (ws bytes : List ℕ) → n ≤ length ws → length ws ≤ length bytes → take n (over ws bytes) ≡ take n ws
 front_read n ws bytes few within =
@@ -125,16 +119,22 @@ front_read n ws bytes few within =
 pub front_short : (front bytes : List ℕ) → front ≡ take (length front) bytes → length front ≤ length bytes
 front_short front bytes is = let long = length-take (length front) bytes in let same = ap length is in omega (arith, long, same)
 
--- what was read is fed
+-- what a feed took of a piece was served
+pub fed_served : ((s t u : EndpointState) (piece : List ℕ) (used : ℕ) (told : Outcome) → IsKept s t → IsFed t u piece used told → Does s u (Feed piece) (Fed used told))
+    → (p : Policy) (s t u : EndpointState) (piece : List ℕ) (used : ℕ) (told : Outcome) (w k : Option (List ℕ)) → t.unsent ≡ [] → ((i : ℕ) → slice_index piece i < 256) → IsKept s t
+    → IsFed t u piece used told → Served p reading (stand_told u.connection.config told) (take used piece) s u w w k k
+fed_served law p s t u piece used told w k none bytes kept x = record {
+  steps = record { call = Feed piece; answer = Fed used told } ∷ [];
+  serves = Feeds u piece used told (sym kept.unsent ∙ none) bytes (law s t u piece used told kept x) Rests;
+  fed = append-nil (take used piece);
+  written = Appends-nil w;
+  recorded = Appends-nil k;
+}
+
+-- what was read into the room and fed was
 pub read_served : ((s t u : EndpointState) (piece : List ℕ) (used : ℕ) (told : Outcome) → IsKept s t → IsFed t u piece used told → Does s u (Feed piece) (Fed used told))
     → (p : Policy) (s t u : EndpointState) (n : ℕ) (told : Outcome) (w k : Option (List ℕ)) → t.unsent ≡ [] → ((i : ℕ) → slice_index t.input.spare i < 256) → IsKept s t
     → IsFed t u (take n t.input.spare) n told → Served p reading (stand_told u.connection.config told) (take n t.input.spare) s u w w k k
 read_served law p s t u n told w k none bytes kept x =
-    let piece = take n t.input.spare in
-    record {
-      steps = record { call = Feed piece; answer = Fed n told } ∷ [];
-      serves = Feeds u piece n told (sym kept.unsent ∙ none) (bytes_in_front t.input.spare n bytes) (law s t u piece n told kept x) Rests;
-      fed = append-nil (take n piece) ∙ take_twice n t.input.spare;
-      written = Appends-nil w;
-      recorded = Appends-nil k;
-    }
+    subst (λ (l : List ℕ). Served p reading (stand_told u.connection.config told) l s u w w k k) (take_twice n t.input.spare)
+    (fed_served law p s t u (take n t.input.spare) n told w k none (bytes_in_front t.input.spare n bytes) kept x)

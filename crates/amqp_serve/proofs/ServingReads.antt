@@ -8,20 +8,31 @@ use Rattle.amqp_serve.specs.declared.serving.ServeFault.{ServeFault}
 use Rattle.amqp_serve.specs.declared.serving.ServeFault.TheVariants as fault
 use Rattle.amqp_endpoint.specs.Connections.{ConnectionState, is_dead}
 use Rattle.amqp_endpoint.specs.Runs.{Finish, Ended, Does}
-use Rattle.amqp_serve.specs.Serving.{reading, Over, Serves, Rests, Finishes, finish_of, Served, BrokeOff, Works, IsServed, IsIdle, recorded}
+use Rattle.amqp_serve.specs.Serving.{reading, Over, Serves, Rests, Finishes, finish_of, Served, HasRead, BrokeOff, HasBroken, Works, IsServed, IsIdle, recorded}
 use Rattle.amqp_endpoint.specs.Steps.{EndpointState, IsKept}
 use Rattle.amqp_serve.proofs.ServingFeeds.{waits_before}
 use Rattle.amqp_serve.proofs.Servings.{serves_on, run_of, ranges_of, served_on, broke_on, works_none}
 
--- these bytes were read, and fed
-pub record HasRead (p : Policy) (s t : EndpointState) (r r1 w w1 k k1 : Option (List ℕ)) : Type 0 where
-  pub bytes : List ℕ
-  pub read : Consumes r r1 bytes
-  pub served : Served p reading reading bytes s t w w1 k k1
-
 -- nothing was read
 pub read_none : (p : Policy) (s : EndpointState) (r w k : Option (List ℕ)) → HasRead p s s r r w w k k
 read_none p s r w k = record { bytes = []; read = Consumes-nil r; served = (works_none p reading s w k).served }
+
+-- what waited was written before it
+pub read_behind : {p : Policy} {s t u : EndpointState} {r r1 w w1 w2 k k1 k2 : Option (List ℕ)} → Works p reading reading s t w w1 k k1 → HasRead p t u r r1 w1 w2 k1 k2 → HasRead p s u r r1 w w2 k k2
+read_behind x y = record { bytes = y.bytes; read = y.read; served = served_on x.served y.served }
+
+pub broken_behind : {p : Policy} {e : ServeFault} {s t u : EndpointState} {w w1 w2 k k1 k2 : Option (List ℕ)} (r r1 : Option (List ℕ)) → Works p reading reading s t w w1 k k1
+    → HasBroken p e t u r r1 w1 w2 k1 k2 → HasBroken p e s u r r1 w w2 k k2
+broken_behind r r1 x y = (y.0, y.1, broke_on x.served y.2)
+
+-- more was read
+pub read_more : {p : Policy} {s t u : EndpointState} {w w1 w2 k k1 k2 : Option (List ℕ)} (r r1 r2 : Option (List ℕ)) → HasRead p s t r r1 w w1 k k1 → HasRead p t u r1 r2 w1 w2 k1 k2
+    → HasRead p s u r r2 w w2 k k2
+read_more r r1 r2 x y = record { bytes = x.bytes ++ y.bytes; read = Consumes-trans r r1 r2 x.bytes y.bytes x.read y.read; served = served_on x.served y.served }
+
+pub broken_more : {p : Policy} {e : ServeFault} {s t u : EndpointState} {w w1 w2 k k1 k2 : Option (List ℕ)} (r r1 r2 : Option (List ℕ)) → HasRead p s t r r1 w w1 k k1
+    → HasBroken p e t u r1 r2 w1 w2 k1 k2 → HasBroken p e s u r r2 w w2 k k2
+broken_more r r1 r2 x y = (x.bytes ++ y.0, Consumes-trans r r1 r2 x.bytes y.0 x.read y.1, broke_on x.served y.2)
 
 -- what waited was written, a piece of nothing fed, and nothing read
 pub read_first : (p : Policy) (s t u : EndpointState) (r w w1 w2 k k1 k2 : Option (List ℕ)) → Works p reading reading s t w w1 k k1 → Served p reading reading [] t u w1 w2 k1 k2

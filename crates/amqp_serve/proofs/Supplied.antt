@@ -208,6 +208,13 @@ next_at p s t channel i x at none = record {
         let away : h ≡ i → ⊥ = λ same. true≢false (sym (eq-eqb h i same) ∙ is) in
         x.others (CreditOf channel h) (λ e. away (ap (λ (y : Supply). handle_in y) e)) ∙ at.credit h (omega (arith, l, away))
 
+-- and one less
+pub back_at : (p : Policy) (s t : ConnectionState) (channel i : ℕ) → IsOnlyOf p (CreditOf channel i) s t → IsSuppliedAt p (i + 1) channel t → IsSuppliedAt p i channel s
+back_at p s t channel i x at = record {
+  window = sym (x.others (WindowOf channel) (λ e. true≢false (ap (λ (y : Supply). is_window y) e))) ∙ at.window;
+  credit = λ h l. sym (x.others (CreditOf channel h) (λ e. absurd (omega (arith, l, ap (λ (y : Supply). handle_in y) e)))) ∙ at.credit h (omega (arith, l));
+}
+
 -- fewer handles
 pub fewer_at : (p : Policy) (t : ConnectionState) (channel a b : ℕ) → a ≤ b → IsSuppliedAt p b channel t → IsSuppliedAt p a channel t
 fewer_at p t channel a b few at = record { window = at.window; credit = λ h l. at.credit h (omega (arith, few, l)) }
@@ -232,6 +239,12 @@ next_channel p s t handles i only all at before x listed l = by (nat_eq (supply_
         let away : supply_channel x ≡ i → ⊥ = λ same. true≢false (sym (eq-eqb (supply_channel x) i same) ∙ is) in
         only.others x away ∙ before x (subst (λ (k : Configured). IsListed k x) only.config listed) (omega (arith, l, away))
 
+-- and one less
+pub back_channel : (p : Policy) (s t : ConnectionState) (i : ℕ) → IsOnlyIn p i s t → ((x : Supply) → IsListed t.config x → supply_channel x < i + 1 → lack p t x ≡ 0) → (x : Supply) →
+    IsListed s.config x → supply_channel x < i → lack p s x ≡ 0
+back_channel p s t i only before x listed l =
+    sym (only.others x (λ same. absurd (omega (arith, l, same)))) ∙ before x (subst (λ (k : Configured). IsListed k x) (sym only.config) listed) (omega (arith, l))
+
 -- those further on are left as they were
 pub further_on : (p : Policy) (s t : ConnectionState) (i end : ℕ) → IsOnlyIn p i s t → i < end → ((x : Supply) → IsListed s.config x → end ≤ supply_channel x → lack p s x ≡ 0) →
     (x : Supply) → IsListed t.config x → end ≤ supply_channel x → lack p t x ≡ 0
@@ -242,6 +255,10 @@ further_on p s t i end only less before x listed l =
 pub both : (a b : Bool) → (a && b) ≡ true → (a ≡ true) × (b ≡ true)
 both true b is = (refl, is)
 both false b is = absurd (true≢false (sym is))
+
+pub both_set : (a b : Bool) → a ≡ true → b ≡ true → (a && b) ≡ true
+both_set true b first second = second
+both_set false b first second = first
 
 -- Feeds. ----------------------------------------------------------------------------------------------------------------------
 

@@ -1,7 +1,7 @@
 -- How an endpoint is served over a reader, a writer and a sink: which call follows which, and what is written and recorded (AMQP 1.0, part 2, sections 2.5.6, 2.6.7, 2.6.12 and 2.6.14).
 use Rattle.std.specs.Prelude.{◌≡◌, ℕ, suc, ◌-◌, ◌*◌, ◌^◌, ◌<◌, ◌⊎◌, Bool, true, false, min, nat_le, if◌then◌else◌, List, [], ◌∷◌, ◌++◌, length, map, Option, IsTrue}
 use Rattle.std.specs.Int.{w16, w32, to_be_bytes}
-use Rattle.std.specs.Io.KnownBytes.{Appends}
+use Rattle.std.specs.Io.KnownBytes.{Appends, Consumes}
 use Rattle.std.specs.List.{flat_map}
 use Rattle.amqp_frame.specs.Splits.{Waits, IsUnchanged}
 use Rattle.amqp_frame.specs.Units.{StreamUnit}
@@ -194,6 +194,16 @@ pub record BrokeOff (p : Policy) (e : ServeFault) (a : Stand) (bytes : List ℕ)
   pub records : recorded steps ≡ noted ++ unnoted
   pub sink : Appends kept keeps noted
   pub left : IsLeft e stand steps noted unnoted
+
+-- These bytes were read and fed.
+pub record HasRead (p : Policy) (old new : EndpointState) (input left held now kept keeps : Option (List ℕ)) : Type 0 where
+  pub bytes : List ℕ
+  pub read : Consumes input left bytes
+  pub served : Served p reading reading bytes old new held now kept keeps
+
+-- They were read, and serving broke off with this fault.
+abbrev pub HasBroken : Policy → ServeFault → EndpointState → EndpointState → Option (List ℕ) → Option (List ℕ) → Option (List ℕ) → Option (List ℕ) → Option (List ℕ) → Option (List ℕ) → Type 0
+HasBroken p e old new input left held now kept keeps = (bytes : List ℕ) × Consumes input left bytes × BrokeOff p e reading bytes old new held now kept keeps
 
 -- no unit waits
 abbrev pub IsIdle : EndpointState → Type 0

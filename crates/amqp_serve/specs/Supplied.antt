@@ -54,8 +54,9 @@ pub record IsOnlyOf (p : Policy) (supply : Supply) (old new : ConnectionState) :
   pub config : new.config ≡ old.config
   pub others : (x : Supply) → (x ≡ supply → ⊥) → lack p new x ≡ lack p old x
 
--- These channels, of so many, have all sessions that may lack something, where one channel may be named.
+-- Of so many channels those from the first one to before the end are gone through: the one that is named, where it is one of them, and else all.
 pub record IsSpan (only : Option ℕ) (channels first end : ℕ) : Type 0 where
   pub ordered : first ≤ end
   pub within : end ≤ channels
+  pub one : (channel : ℕ) → only ≡ Some channel → channel < channels → (first ≡ channel) × (end ≡ suc channel)
   pub others : (k : ℕ) → k < channels → (first ≤ k → k < end → ⊥) → (channel : ℕ) × (only ≡ Some channel) × (k ≡ channel → ⊥)

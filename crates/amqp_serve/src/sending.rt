@@ -9,13 +9,13 @@ ghost use Rattle.amqp_serve.specs.Serving.{Stand, Works, BrokeOff};
 
 use crate::{Policy, ServeFault};
 use amqp_endpoint::Endpoint;
-use amqp_frame::{AtHand, Device, HoldsBack};
+use amqp_frame::{Device, HoldsBack};
 use std::alloc::Allocator;
 use std::io::{Read, Write};
 
-/// Reads into the endpoint's room. It may wait for the peer, so that it needs a reader that knows of bytes at hand, or that
-/// all answers have gone out, and the records before them.
-pub fn read_in<A: Allocator + Copy, R: Read + AtHand + Drop, W: Write + Drop, S: Write + Drop>(
+/// Reads into the endpoint's room. It may wait for the peer, so that it needs that all answers have gone out, and the records
+/// before them.
+pub fn read_in<A: Allocator + Copy, R: Read + Drop, W: Write + Drop, S: Write + Drop>(
     endpoint: &mut Endpoint<A>,
     reader: &mut Device<R>,
     writer: &Device<W>,
@@ -25,7 +25,8 @@ pub fn read_in<A: Allocator + Copy, R: Read + AtHand + Drop, W: Write + Drop, S:
     requires alive { is_dead endpoint.old.connection.phase ≡ false }
     requires wants { TakesNothing endpoint.old.input → ⊥ }
     requires sent { endpoint.old.unsent ≡ [] }
-    requires flushed { (R.has_some (device_inner reader.old) ≡ true) ⊎ ((is_flushed writer.now ≡ true) × (is_flushed sink.now ≡ true)) }
+    requires flushed { is_flushed writer.now ≡ true }
+    requires recorded { is_flushed sink.now ≡ true }
     ensures fault { OnErr result (result ≡ Err ServeFault.Read) }
     ensures failed { IsErr result ↔ IsTrue (has_failed reader.new) }
     ensures read { IfOk result (λ n. MayRead endpoint.new n × IsKept endpoint.old endpoint.new
@@ -39,11 +40,9 @@ pub fn read_in<A: Allocator + Copy, R: Read + AtHand + Drop, W: Write + Drop, S:
     }
 }
 
-/// Writes all that waits to be sent; and where no bytes are at hand, so that the next read may wait for the peer, flushes
-/// the records, and then it.
+/// Writes all that waits to be sent, and flushes the records, and then it.
 pub fn send_out<A: Allocator + Copy, W: Write + HoldsBack + Drop, S: Write + Drop>(
     endpoint: &mut Endpoint<A>,
-    at_hand: bool,
     writer: &mut Device<W>,
     sink: &mut Device<S>,
 ) -> Result<(), ServeFault>
@@ -53,7 +52,7 @@ pub fn send_out<A: Allocator + Copy, W: Write + HoldsBack + Drop, S: Write + Dro
     ensures memory { result ≢ Err ServeFault.NoMemory }
     ensures write { (result ≡ Err ServeFault.Write) ↔ IsTrue (has_failed writer.new) }
     ensures sink { (result ≡ Err ServeFault.Sink) ↔ IsTrue (has_failed sink.new) }
-    ensures flushed { at_hand ≡ false → OnOk result ((is_flushed writer.new ≡ true) × (is_flushed sink.new ≡ true)) }
+    ensures flushed { OnOk result ((is_flushed writer.new ≡ true) × (is_flushed sink.new ≡ true)) }
     ensures empty { OnOk result (endpoint.new.unsent ≡ []) }
     ensures connection { OnOk result (endpoint.new.connection ≡ endpoint.old.connection) }
     ensures works { OnOk result ((p : Policy) (a : Stand) → Works p a a endpoint.old endpoint.new (W.contents (device_inner writer.old)) (W.contents (device_inner writer.new))
@@ -62,9 +61,6 @@ pub fn send_out<A: Allocator + Copy, W: Write + HoldsBack + Drop, S: Write + Dro
         (W.contents (device_inner writer.new)) (S.contents (device_inner sink.old)) (S.contents (device_inner sink.new))) }
 {
     write_out(endpoint, writer, sink)?;
-    if at_hand {
-        return Ok(());
-    }
     flush_both(writer, sink)
 }
 
@@ -88,6 +84,21 @@ pub fn flush_both<W: Write + Drop, S: Write + Drop>(
     if sink.flush().is_err() {
         return Err(ServeFault::Sink);
     }
+    flush_answers(writer, sink)
+}
+
+/// Flushes what the writer keeps to itself, which answers to records: they must be flushed.
+fn flush_answers<W: Write + Drop, S: Write + Drop>(
+    writer: &mut Device<W>,
+    sink: &Device<S>,
+) -> Result<(), ServeFault>
+    requires writer { ¬ (IsTrue (has_failed writer.old)) }
+    requires recorded { is_flushed sink.now ≡ true }
+    ensures fault { OnErr result (result ≡ Err ServeFault.Write) }
+    ensures failed { IsErr result ↔ IsTrue (has_failed writer.new) }
+    ensures flushed { OnOk result (is_flushed writer.new ≡ true) }
+    ensures answers { Keeps (W.contents (device_inner writer.old)) (W.contents (device_inner writer.new)) }
+{
     match writer.flush() {
         Ok(()) => Ok(()),
         Err(_) => Err(ServeFault::Write),

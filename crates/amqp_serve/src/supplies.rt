@@ -14,7 +14,7 @@ use std::alloc::Allocator;
 use std::io::Write;
 
 /// Tops up the windows and the credit of all sessions and their links, by rising channel and handle; where only one session
-/// may lack something, its own. Answers whether nothing is lacking then: only what was refused may be.
+/// may lack something, its own. Answers whether nothing is lacking then, which is so unless something was refused.
 pub fn top_up<A: Allocator + Copy, W: Write + HoldsBack + Drop, S: Write + Drop>(
     endpoint: &mut Endpoint<A>,
     writer: &mut Device<W>,
@@ -29,7 +29,7 @@ pub fn top_up<A: Allocator + Copy, W: Write + HoldsBack + Drop, S: Write + Drop>
     ensures memory { result ≢ Err ServeFault.NoMemory }
     ensures write { (result ≡ Err ServeFault.Write) ↔ IsTrue (has_failed writer.new) }
     ensures sink { (result ≡ Err ServeFault.Sink) ↔ IsTrue (has_failed sink.new) }
-    ensures supplied { IfOk result (λ b. b ≡ true → IsSupplied policy endpoint.new.connection) }
+    ensures supplied { IfOk result (λ b. (b ≡ true) ↔ IsSupplied policy endpoint.new.connection) }
     ensures works { OnOk result (Works policy (ToppingUp (all_supplies endpoint.old.connection.config)) reading endpoint.old endpoint.new
         (W.contents (device_inner writer.old)) (W.contents (device_inner writer.new)) (S.contents (device_inner sink.old)) (S.contents (device_inner sink.new))) }
     ensures begun { IfErr result (λ e. BrokeOff policy e (ToppingUp (all_supplies endpoint.old.connection.config)) [] endpoint.old endpoint.new
@@ -72,7 +72,7 @@ fn top_up_session<A: Allocator + Copy, W: Write + HoldsBack + Drop, S: Write + D
     ensures memory { result ≢ Err ServeFault.NoMemory }
     ensures write { (result ≡ Err ServeFault.Write) ↔ IsTrue (has_failed writer.new) }
     ensures sink { (result ≡ Err ServeFault.Sink) ↔ IsTrue (has_failed sink.new) }
-    ensures supplied { IfOk result (λ b. b ≡ true → IsSuppliedAt policy handles channel endpoint.new.connection) }
+    ensures supplied { IfOk result (λ b. (b ≡ true) ↔ IsSuppliedAt policy handles channel endpoint.new.connection) }
     ensures only { OnOk result (IsOnlyIn policy channel endpoint.old.connection endpoint.new.connection) }
     ensures works { OnOk result ((rest : List Supply) → Works policy (ToppingUp (session_supplies handles channel ++ rest)) (ToppingUp rest) endpoint.old
         endpoint.new (W.contents (device_inner writer.old)) (W.contents (device_inner writer.new)) (S.contents (device_inner sink.old)) (S.contents (device_inner sink.new))) }
@@ -100,7 +100,7 @@ fn top_up_window<A: Allocator + Copy, W: Write + HoldsBack + Drop, S: Write + Dr
     ensures memory { result ≢ Err ServeFault.NoMemory }
     ensures write { (result ≡ Err ServeFault.Write) ↔ IsTrue (has_failed writer.new) }
     ensures sink { (result ≡ Err ServeFault.Sink) ↔ IsTrue (has_failed sink.new) }
-    ensures supplied { IfOk result (λ b. b ≡ true → lack policy endpoint.new.connection (WindowOf channel) ≡ 0) }
+    ensures supplied { IfOk result (λ b. (b ≡ true) ↔ (lack policy endpoint.new.connection (WindowOf channel) ≡ 0)) }
     ensures only { OnOk result (IsOnlyOf policy (WindowOf channel) endpoint.old.connection endpoint.new.connection) }
     ensures works { OnOk result ((rest : List Supply) → Works policy (ToppingUp (WindowOf channel ∷ rest)) (ToppingUp rest) endpoint.old endpoint.new
         (W.contents (device_inner writer.old)) (W.contents (device_inner writer.new)) (S.contents (device_inner sink.old)) (S.contents (device_inner sink.new))) }
@@ -133,7 +133,7 @@ fn top_up_credit<A: Allocator + Copy, W: Write + HoldsBack + Drop, S: Write + Dr
     ensures memory { result ≢ Err ServeFault.NoMemory }
     ensures write { (result ≡ Err ServeFault.Write) ↔ IsTrue (has_failed writer.new) }
     ensures sink { (result ≡ Err ServeFault.Sink) ↔ IsTrue (has_failed sink.new) }
-    ensures supplied { IfOk result (λ b. b ≡ true → lack policy endpoint.new.connection (CreditOf channel handle) ≡ 0) }
+    ensures supplied { IfOk result (λ b. (b ≡ true) ↔ (lack policy endpoint.new.connection (CreditOf channel handle) ≡ 0)) }
     ensures only { OnOk result (IsOnlyOf policy (CreditOf channel handle) endpoint.old.connection endpoint.new.connection) }
     ensures works { OnOk result ((rest : List Supply) → Works policy (ToppingUp (CreditOf channel handle ∷ rest)) (ToppingUp rest) endpoint.old endpoint.new
         (W.contents (device_inner writer.old)) (W.contents (device_inner writer.new)) (S.contents (device_inner sink.old)) (S.contents (device_inner sink.new))) }

@@ -5,6 +5,7 @@ pub mod Smalls
 pub mod Levels
 pub mod Walks
 pub mod Reaches
+pub mod Counted
 pub mod Keeps
 pub mod Sets
 pub mod Sound

@@ -39,7 +39,8 @@ at_big w n bytes le = rw (le-ltb (length bytes) n le) refl
 
 -- ---- values that hold no others
 
-plain_number : (w : Window) (k : Kind) (f : Form) (bytes : List ℕ) (n : ℕ)
+-- so is a number whose width is plain
+pub plain_number : (w : Window) (k : Kind) (f : Form) (bytes : List ℕ) (n : ℕ)
     → cond (is_partial k && not (is_still (Fixed k f))) None (Some (form_len f (width k))) ≡ Some n → n ≤ length bytes
     → rest_of (number_at w k f bytes) ≡ Ok (drop n bytes)
 plain_number w k f bytes n e le = by_partial (is_partial k) refl e
@@ -85,7 +86,8 @@ sized_rest w k s bytes n is le fine =
 
 -- ---- the constructor in front
 
-allowed_anywhere : (at : ℕ) (holds : Bool) (o : Option Constructor) (c : Constructor) → allowed 0 holds o ≡ Ok c → allowed at holds o ≡ Ok c
+-- the place matters to faults alone
+pub allowed_anywhere : (at : ℕ) (holds : Bool) (o : Option Constructor) (c : Constructor) → allowed 0 holds o ≡ Ok c → allowed at holds o ≡ Ok c
 allowed_anywhere at holds None c e = absurd cc
 allowed_anywhere at holds (Some d) c e = chosen (is_container (kind_of d) && not holds) e
   where
@@ -93,7 +95,8 @@ allowed_anywhere at holds (Some d) c e = chosen (is_container (kind_of d) && not
     chosen true h = absurd cc
     chosen false h = h
 
-not_described : (holds : Bool) (code : ℕ) (c : Constructor) → allowed 0 holds (find_code code) ≡ Ok c → code ≡ 0 → ⊥
+-- no constructor has the code of a description
+pub not_described : (holds : Bool) (code : ℕ) (c : Constructor) → allowed 0 holds (find_code code) ≡ Ok c → code ≡ 0 → ⊥
 not_described holds code c e zero_is =
     let h : allowed 0 holds (find_code 0) ≡ Ok c = subst (λ (k : ℕ). allowed 0 holds (find_code k) ≡ Ok c) zero_is e in
     absurd cc
@@ -105,7 +108,8 @@ unfolding value_by
 coded inner w code c rest total e h =
     rw (ne_eqb code 0 (not_described (is_some inner) code c e), allowed_anywhere (place w (code ∷ rest)) (is_some inner) (find_code code) c e) h
 
-one_on : (n code : ℕ) (bytes rest : List ℕ) → bytes ≡ code ∷ rest → drop n rest ≡ drop (1 + n) bytes
+-- the rest behind a code and so many bytes
+pub one_on : (n code : ℕ) (bytes rest : List ℕ) → bytes ≡ code ∷ rest → drop n rest ≡ drop (1 + n) bytes
 one_on n code bytes rest parts = let more : 1 + n ≡ suc n = omega arith in rw (parts, more) refl
 
 -- a value is passed as its constructor's data are
@@ -115,7 +119,8 @@ pub value_coded : (inner : Option Level) (w : Window) (code : ℕ) (c : Construc
 value_coded inner w code c bytes rest n parts e h =
     ap (λ (b : List ℕ). after (value_by inner w 0 None b)) parts ∙ coded inner w code c rest (Ok (drop n rest)) e h ∙ ap (λ (r : List ℕ). Ok r) (one_on n code bytes rest parts)
 
-plain_found : (o : Option Constructor) (holds : Bool) (n : ℕ) → plain_width o ≡ Some n
+-- a plain width is that of a fixed form
+pub plain_found : (o : Option Constructor) (holds : Bool) (n : ℕ) → plain_width o ≡ Some n
     → (j : Kind) × (g : Form) × (allowed 0 holds o ≡ Ok (Fixed j g)) × (cond (is_partial j && not (is_still (Fixed j g))) None (Some (form_len g (width j))) ≡ Some n)
 plain_found None holds n e = absurd cc
 plain_found (Some (Fixed k f)) holds n e = by_kind (is_container k) refl e
@@ -197,10 +202,11 @@ octets_item inner w k s bytes at n e = uncharged_rest (sized_at w k s (drop at b
 -- ---- what a size counts
 
 -- the block of a body
-abbrev body_block : Window → SizeWidth → List ℕ → Block
+abbrev pub body_block : Window → SizeWidth → List ℕ → Block
 body_block w s bytes = block_of w bytes (counted s bytes, drop (size_len s + big_number (size_len s) bytes) bytes)
 
-block_is : (w : Window) (s : SizeWidth) (least : ℕ) (bytes : List ℕ) → size_len s + big_number (size_len s) bytes ≤ length bytes → least ≤ big_number (size_len s) bytes
+-- it stands there
+pub block_is : (w : Window) (s : SizeWidth) (least : ℕ) (bytes : List ℕ) → size_len s + big_number (size_len s) bytes ≤ length bytes → least ≤ big_number (size_len s) bytes
     → block_at w s least bytes ≡ Ok (body_block w s bytes)
 unfolding block_at
 block_is w s least bytes le some =
@@ -213,7 +219,8 @@ block_is w s least bytes le some =
 counted_len : (s : SizeWidth) (bytes : List ℕ) → size_len s + big_number (size_len s) bytes ≤ length bytes → length (counted s bytes) ≡ big_number (size_len s) bytes
 counted_len s bytes le = length-take-le (big_number (size_len s) bytes) (drop (size_len s) bytes) (omega (arith, length-drop (size_len s) bytes))
 
-count_is : (w : Window) (s : SizeWidth) (paired : Bool) (bytes : List ℕ) (count : ℕ) (parts : List ℕ) → IsBody s bytes count parts → (paired && eqb (count % 2) 1) ≡ false
+-- and so does its count
+pub count_is : (w : Window) (s : SizeWidth) (paired : Bool) (bytes : List ℕ) (count : ℕ) (parts : List ℕ) → IsBody s bytes count parts → (paired && eqb (count % 2) 1) ≡ false
     → count_at w s paired (counted s bytes) ≡ Ok (count, parts)
 unfolding count_at
 count_is w s paired bytes count parts body even =
@@ -223,7 +230,8 @@ count_is w s paired bytes count parts body even =
 whole_len : (s : SizeWidth) (bytes : List ℕ) (count : ℕ) (parts : List ℕ) → IsBody s bytes count parts → (size_len s + length parts ≡ big_number (size_len s) bytes)
 whole_len s bytes count parts body = omega (arith, body.least, counted_len s bytes body.within, ap length body.behind, length-drop (size_len s) (counted s bytes))
 
-behind_body : (s : SizeWidth) (bytes : List ℕ) (count : ℕ) (parts : List ℕ) → IsBody s bytes count parts
+-- what is behind it
+pub behind_body : (s : SizeWidth) (bytes : List ℕ) (count : ℕ) (parts : List ℕ) → IsBody s bytes count parts
     → drop (size_len s + big_number (size_len s) bytes) bytes ≡ drop (2 * size_len s + length parts) bytes
 behind_body s bytes count parts body = ap (λ (n : ℕ). drop n bytes) (omega (arith, whole_len s bytes count parts body))
 

@@ -38,3 +38,7 @@ pub record IsBody (s : SizeWidth) (bytes : List ℕ) (count : ℕ) (parts : List
   pub least : size_len s ≤ big_number (size_len s) bytes
   pub counts : count ≡ big_number (size_len s) (counted s bytes)
   pub behind : parts ≡ drop (size_len s) (counted s bytes)
+
+-- something is read there, which leaves so many nodes and these bytes
+abbrev pub Leaves : {A : Type 0} → Part A → ℕ → List ℕ → Type 0
+Leaves {A = A} read left rest = (x : A) × (read ≡ Ok (x, Some left, rest))

@@ -1,7 +1,8 @@
 //! The type system of AMQP 1.0 (part 1): values, how bytes spell them, reading and writing them.
 //!
 //! `decode` answers exactly the value that the front of the bytes spells, within limits of depth and nodes;
-//! `skip` how many bytes that is, with no memory; either the first fault from the left with its place.
+//! `check` its length alone, and `skip` its length by the depth alone, without memory; each the first fault from
+//! the left with its place.
 //! `encode` appends the one canonical spelling of a value. Without memory, `peek` answers the outermost case of
 //! a spelled value, its parts lent, and `put` writes a scalar into a buffer. `specs/Spelling.antt` says what a
 //! spelling is, by cases on the value, and `specs/Misreading.antt` what is wrong where there is none;
@@ -11,6 +12,7 @@
 #![tactic(auto)]
 
 mod block;
+mod checker;
 mod checks;
 mod code;
 mod decoder;
@@ -25,6 +27,7 @@ mod part;
 mod peeked;
 mod peeker;
 mod putter;
+mod quick_check;
 mod quick_skip;
 mod scalar;
 mod scalar_value;
@@ -36,6 +39,7 @@ mod value;
 mod window;
 mod write_fault;
 
+pub use checker::check;
 pub use decoder::decode;
 pub use encoder::encode;
 pub use fault::ReadFault;

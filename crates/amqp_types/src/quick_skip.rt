@@ -7,7 +7,7 @@ ghost use Rattle.byteorder.specs.Endian.{big_number};
 ghost use Rattle.amqp_types.specs.Codes.{FitsItsKind, find_code};
 ghost use Rattle.amqp_types.specs.Spelling.{size_len};
 ghost use Rattle.amqp_types.specs.Reading.{Level, after, octets_fault, number_at, sized_at, trees_at, list_at, map_at, array_at, item_by, described_at, value_by, level_by, inside};
-ghost use Rattle.amqp_types.specs.Skipping.{rest_of, plain_width, IsBody};
+ghost use Rattle.amqp_types.specs.Skipping.{rest_of, plain_width, IsBody, Leaves};
 ghost use Rattle.amqp_types.specs.declared.window.Window.{Window};
 
 use crate::code::{Constructor, Form, SizeWidth};
@@ -35,9 +35,10 @@ fn plain_width(code: u8) -> Option<usize>
 
 /// The length of the value in front, where its code has a plain width.
 #[inline(always)]
-fn plain_len(bytes: &[u8]) -> Option<usize>
+pub fn plain_len(bytes: &[u8]) -> Option<usize>
     ensures within { IfSome result (λ n. n ≤ length bytes.now) }
     ensures read { IfSome result (λ n. (inner : Option Level) (w : Window) → after (value_by inner w 0 None bytes.now) ≡ Ok (drop n bytes.now)) }
+    ensures kept { IfSome result (λ n. (inner : Option Level) (w : Window) (nodes : ℕ) → Leaves (value_by inner w 0 (Some nodes) bytes.now) nodes (drop n bytes.now)) }
 {
     let (code, rest) = bytes.split_first()?;
     let width = plain_width(*code)?;
@@ -48,7 +49,7 @@ fn plain_len(bytes: &[u8]) -> Option<usize>
 }
 
 /// The length of a boolean's or a char's full form.
-fn partial_len(kind: Kind, form: Form, bytes: &[u8]) -> Option<usize>
+pub fn partial_len(kind: Kind, form: Form, bytes: &[u8]) -> Option<usize>
     ensures within { IfSome result (λ n. n ≤ length bytes.now) }
     ensures read { IfSome result (λ n. (w : Window) → rest_of (number_at w kind form bytes.now) ≡ Ok (drop n bytes.now)) }
 {
@@ -103,7 +104,7 @@ fn are_octets(kind: Kind, octets: &[u8]) -> bool
 }
 
 /// The length of a size and the bytes that it counts.
-fn octets_len(kind: Kind, size: SizeWidth, bytes: &[u8]) -> Option<usize>
+pub fn octets_len(kind: Kind, size: SizeWidth, bytes: &[u8]) -> Option<usize>
     ensures within { IfSome result (λ n. n ≤ length bytes.now) }
     ensures read { IfSome result (λ n. (w : Window) → rest_of (sized_at w kind size bytes.now) ≡ Ok (drop n bytes.now)) }
 {
@@ -148,7 +149,7 @@ fn elements_len(constructor: Constructor, count: usize, bytes: &[u8]) -> Option<
 
 /// The count in a list, a map or an array behind its code, and the bytes behind the count.
 #[inline(always)]
-fn body_at(size: SizeWidth, bytes: &[u8]) -> Option<(usize, &[u8])>
+pub fn body_at(size: SizeWidth, bytes: &[u8]) -> Option<(usize, &[u8])>
     ensures { IfSome result (λ x. IsBody size bytes.now x.0 x.1.now) }
 {
     let len = number_in(size, bytes)?;

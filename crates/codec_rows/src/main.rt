@@ -5,8 +5,10 @@
 
 mod bodies;
 mod bytes;
+mod checking;
 mod devices;
 mod dumps;
+mod generated;
 mod hands;
 mod peeking;
 mod states;
@@ -104,6 +106,8 @@ fn of_values(alloc: Global, name: &str, words: &str) -> Result<String, Miss> {
         "decode" => values::decode(alloc, words),
         "limits" => values::limits(alloc, words),
         "skip" => values::skip(alloc, words),
+        "check" => checking::check(alloc, words),
+        "alike" => checking::alike(alloc, words),
         "depth" => values::least(alloc, Limited::Depth, words),
         "nodes" => values::least(alloc, Limited::Nodes, words),
         "codes" => values::codes(alloc),

@@ -1,6 +1,7 @@
-//! Values, read by `decode` and `skip`.
+//! Values, read by `decode`, `check` and `skip`.
 
 use crate::bytes::{bytes_of, words_of};
+use crate::checking;
 use crate::words::parsed;
 use amqp_types::{Limits, ReadFault, Symbol, Value, laws};
 use row_files::Miss;
@@ -39,34 +40,52 @@ fn told(alloc: Global, answer: &Result<(Value, usize), ReadFault>) -> Result<Str
 }
 
 /// A length, or a fault.
-fn told_len(alloc: Global, answer: Result<usize, ReadFault>) -> Result<String, AllocError> {
+pub fn told_len(alloc: Global, answer: Result<usize, ReadFault>) -> Result<String, AllocError> {
     match answer {
         Ok(len) => format!(in alloc; "{len}"),
         Err(fault) => format!(in alloc; "{fault:?}"),
     }
 }
 
-/// What `decode` answers of bytes, and where `skip` answers another length or fault, that too.
+/// Appends what `check` answers where that is not what `decode` does.
+fn put_checked(
+    alloc: Global,
+    text: &mut String,
+    read_len: Result<usize, ReadFault>,
+    bytes: &[u8],
+    limits: Limits,
+) -> Result<(), AllocError> {
+    let checked = checking::len_of(alloc, bytes, limits);
+    if read_len != checked {
+        let checked = told_len(alloc, checked)?;
+        write!(text, ", check {checked}")?;
+    }
+    Ok(())
+}
+
+/// What `decode` answers of bytes, and where `check` or `skip` answers another length or fault, that too.
 #[derive(Drop)]
 pub struct Answer {
     is_read: bool,
     pub text: String,
 }
 
-/// What both calls answer.
+/// What the calls answer.
 fn both(alloc: Global, bytes: &[u8], limits: Limits) -> Result<Answer, Miss> {
     let answer = read(alloc, bytes, limits);
     let mut text = told(alloc, &answer)?;
     let is_read = answer.is_ok();
+    let read_len = answer.map(|(_, len)| len);
+    put_checked(alloc, &mut text, read_len, bytes, limits)?;
     let skipped = len_of(bytes, limits.depth);
-    if answer.map(|(_, len)| len) != skipped {
+    if read_len != skipped {
         let skipped = told_len(alloc, skipped)?;
         write!(text, ", skip {skipped}")?;
     }
     Ok(Answer { is_read, text })
 }
 
-/// What both calls answer within limits that are not reached.
+/// What the calls answer within limits that are not reached.
 pub fn answer_of(alloc: Global, bytes: &[u8]) -> Result<Answer, Miss> {
     both(alloc, bytes, LIMITS)
 }
@@ -77,7 +96,7 @@ pub fn decode(alloc: Global, words: &str) -> Result<String, Miss> {
     Ok(answer_of(alloc, &bytes)?.text)
 }
 
-/// A depth, a number of nodes, and bytes, which `decode` alone reads.
+/// A depth, a number of nodes, and bytes, which `skip` does not read.
 pub fn limits(alloc: Global, words: &str) -> Result<String, Miss> {
     let (depth, words) = cut(words, ' ')?;
     let (nodes, words) = cut(words, ' ')?;
@@ -85,7 +104,11 @@ pub fn limits(alloc: Global, words: &str) -> Result<String, Miss> {
         depth: parsed(depth)?,
         nodes: parsed(nodes)?,
     };
-    told(alloc, &read(alloc, &bytes_of(alloc, words)?, limits))
+    let bytes = bytes_of(alloc, words)?;
+    let answer = read(alloc, &bytes, limits);
+    let mut text = told(alloc, &answer)?;
+    put_checked(alloc, &mut text, answer.map(|(_, len)| len), &bytes, limits)?;
+    Ok(text)
 }
 
 /// A depth, and bytes, which `skip` alone reads.

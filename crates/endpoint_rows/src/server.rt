@@ -1,6 +1,6 @@
 //! Whole connections, served over readers and writers in memory.
 //!
-//! `serve HEX by N` serves a peer that sends these bytes, at most N of them at a time, and answers how it ended. It shows
+//! `serve HEX by N` serves a peer that sends these bytes, at most N of them at a time into a buffer, and answers how it ended. It shows
 //! what was written to the peer, and what was recorded. `serve HEX and M of MORE by N` has M bytes of some more besides;
 //! `nothing` may stand for no bytes.
 
@@ -11,7 +11,7 @@ use amqp_serve::{Policy, ServeFault, serve};
 use row_files::words::{bytes_of, hex_of, number};
 use row_files::{Heap, Miss, Subject};
 use std::alloc::Global;
-use std::io::{self, Read};
+use std::io::{self, BufReader, Read};
 
 /// What came of the last connection.
 #[derive(Drop)]
@@ -72,7 +72,7 @@ impl<'a> Server<'a> {
         let (mut written, mut recorded) = (Vec::new(alloc), Vec::new(alloc));
         let end = serve(
             &mut endpoint,
-            &mut Device::new(Direct::new(source)),
+            &mut Device::new(BufReader::new(alloc, source)?),
             &mut Device::new(Direct::new(&mut written)),
             &mut Device::new(&mut recorded),
             policy,

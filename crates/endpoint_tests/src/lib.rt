@@ -1,12 +1,18 @@
 //! Tests of `amqp_endpoint`, `amqp_script` and `amqp_serve` that are no rows of `endpoint_rows`: memory that is refused,
-//! devices that fail, and what a type in hand shows. They stand apart, since a crate is proved again with its tests. The
-//! library itself is empty.
+//! devices that fail, and what a type in hand shows; and those of the small crates `amqp_serial`, `one_link` and `test_heap`.
+//! They stand apart, since a crate is proved again with its tests. The library itself is empty.
 #![tactic(auto)]
 
 #[cfg(test)]
+mod heap;
+#[cfg(test)]
 mod memory;
 #[cfg(test)]
+mod receiver;
+#[cfg(test)]
 mod scripts;
+#[cfg(test)]
+mod serials;
 #[cfg(test)]
 mod serving;
 #[cfg(test)]

@@ -99,6 +99,9 @@ fn config<A: Allocator + Copy>(alloc: A) -> Option<Config<A>> {
     Config::checked(name, 512, 0, 1, 4, 10, 100)
 }
 
+/// An endpoint whose heap refuses a request.
+type Refused<'a> = Endpoint<&'a TestHeap<Global>>;
+
 /// What became of a run in which one request was refused.
 #[derive(Clone, Copy, Debug, PartialEq, Eq)]
 enum Met {
@@ -127,18 +130,9 @@ fn run_on(rt: &impl Abort, heap: &TestHeap<Global>, number: u64) -> Result<Met, 
     };
     let mut met = Met::Nothing;
     for (index, (unit, wanted)) in UNITS.into_iter().enumerate() {
-        let held = endpoint.held();
-        let fed = endpoint.feed(unit);
-        assert_eq!(rt; fed.used, unit.len(), "{index} at {number}");
-        let mut outcome = fed.outcome;
-        if outcome == Outcome::NoMemory {
+        let (outcome, has_waited) = fed(&mut endpoint, unit)?;
+        if has_waited {
             met = Met::Unit(index);
-            assert_eq!(rt;
-                endpoint.held(),
-                held.saturating_add(unit.len() as u64),
-                "{index} at {number}"
-            );
-            outcome = endpoint.feed(&[]).outcome;
         }
         assert_eq!(rt; outcome, wanted, "{index} at {number}");
         after(rt, &mut endpoint, index)?;
@@ -147,12 +141,24 @@ fn run_on(rt: &impl Abort, heap: &TestHeap<Global>, number: u64) -> Result<Met, 
     Ok(met)
 }
 
+/// What becomes of a unit, and whether it waited first, whole, for memory that was refused.
+fn fed(endpoint: &mut Refused<'_>, unit: &[u8]) -> Result<(Outcome, bool), Fail> {
+    let held = endpoint.held();
+    let fed = endpoint.feed(unit);
+    if fed.used != unit.len() {
+        return Err(Fail::from("not all of a unit was used"));
+    }
+    if fed.outcome != Outcome::NoMemory {
+        return Ok((fed.outcome, false));
+    }
+    if endpoint.held() != held.saturating_add(unit.len() as u64) {
+        return Err(Fail::from("a unit that waits is not all that was added"));
+    }
+    Ok((endpoint.feed(&[]).outcome, true))
+}
+
 /// What the application does after a unit.
-fn after(
-    rt: &impl Abort,
-    endpoint: &mut Endpoint<&TestHeap<Global>>,
-    index: usize,
-) -> Result<(), Fail> {
+fn after(rt: &impl Abort, endpoint: &mut Refused<'_>, index: usize) -> Result<(), Fail> {
     match index {
         3 => assert_eq!(rt; endpoint.grant(0, 0, 3), Ok(())),
         6 => {

@@ -2,8 +2,8 @@
 
 use amqp_frame::Device;
 use amqp_script::{ScriptFault, replay_script};
+use std::alloc::Global;
 use std::io::{self, Read, Write};
-use std::test::Fail;
 
 /// Gives its bytes, and fails at the read of this number, from 0 on.
 #[derive(Drop)]
@@ -60,24 +60,26 @@ const ANSWERS: &[u8] = b"used=8 More\noutput 414d515000010000\nheld 0\n";
 
 /// The script comes in five reads, of which the last gives nothing.
 #[test]
-fn a_reader_that_fails_is_asked_no_more(rt: HostRuntime) -> Result<(), Fail> {
+fn a_reader_that_fails_is_asked_no_more(rt: HostRuntime) {
     for failing in 0..7 {
-        let mut reader = Device::new(Flaky {
+        let mut printed = Vec::new(rt.alloc());
+        let reader = Flaky {
             rest: SCRIPT,
             reads: 0,
             failing,
-        });
-        let mut printed = Vec::new(rt.alloc());
-        let result = replay_script(rt.alloc(), &mut reader, &mut Device::new(&mut printed));
-        let (wanted, lines) = if failing < READS {
+        };
+        let result = replay_script(
+            rt.alloc(),
+            &mut Device::new(reader),
+            &mut Device::new(&mut printed),
+        );
+        let wanted = if failing < READS {
             (Err(ScriptFault::Read), b"".as_slice())
         } else {
             (Ok(()), ANSWERS)
         };
-        assert_eq!(rt; result, wanted, "{failing}");
-        assert_eq!(rt; printed.as_slice(), lines, "{failing}");
+        assert_eq!(rt; (result, printed.as_slice()), wanted, "{failing}");
     }
-    Ok(())
 }
 
 /// The reads of the script: four of its bytes, and one of nothing.
@@ -85,28 +87,30 @@ const READS: usize = 5;
 
 /// What was written before a failure begins the answers, which come in ten writes.
 #[test]
-fn a_writer_that_fails_ends_the_script(rt: HostRuntime) -> Result<(), Fail> {
+fn a_writer_that_fails_ends_the_script(rt: HostRuntime) {
     for failing in 0..12 {
-        let mut script = SCRIPT;
-        let mut printed = Full {
-            taken: Vec::new(rt.alloc()),
-            writes: 0,
-            failing,
-        };
-        let result = replay_script(
-            rt.alloc(),
-            &mut Device::new(&mut script),
-            &mut Device::new(&mut printed),
-        );
+        let (result, taken) = over_a_full_writer(rt.alloc(), failing);
         let wanted = match failing {
             0 => (Err(ScriptFault::Write), 0),
             3 => (Err(ScriptFault::Write), 12),
             8 => (Err(ScriptFault::Write), 36),
-            1..10 => (Err(ScriptFault::Write), printed.taken.len()),
+            1..10 => (Err(ScriptFault::Write), taken.len()),
             _ => (Ok(()), 43),
         };
-        assert_eq!(rt; (result, printed.taken.len()), wanted, "{failing}");
-        assert!(rt; ANSWERS.starts_with(&printed.taken), "{failing}");
+        assert_eq!(rt; (result, taken.len()), wanted, "{failing}");
+        assert!(rt; ANSWERS.starts_with(&taken), "{failing}");
     }
-    Ok(())
+}
+
+/// What comes of the script where the write of this number fails, and what was written.
+fn over_a_full_writer(alloc: Global, failing: usize) -> (Result<(), ScriptFault>, Vec<u8>) {
+    let mut script = SCRIPT;
+    let mut printed = Full {
+        taken: Vec::new(alloc),
+        writes: 0,
+        failing,
+    };
+    let mut writer = Device::new(&mut printed);
+    let result = replay_script(alloc, &mut Device::new(&mut script), &mut writer);
+    (result, printed.taken)
 }

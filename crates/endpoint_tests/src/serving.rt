@@ -9,6 +9,7 @@ use amqp_serve::{Policy, ServeFault, serve};
 use std::alloc::{AllocError, Global};
 use std::cell::{Cell, RefCell};
 use std::io::{self, BufReader, BufWriter, Read, Write};
+use std::process::Abort;
 use std::test::Fail;
 
 /// The peer's header, open, begin and attach, two deliveries in one transfer each, and a close: 130 bytes.
@@ -24,6 +25,9 @@ const WRITTEN: &[u8] =
 const RECORDS: &[u8] =
     b"\x00\x00\x00\x00\x00\x00\x00\x00\x00\x00\x00\x00\x00\x00\x00\x00\x00\x01\x78\x00\x00\x00\x00\x00\x00\x00\x00\x00\x01\x00\x00\x00\x00\x00\x00\x00\x01\x78";
 
+/// The bytes of each.
+const RECORD: usize = 19;
+
 /// The lengths of the stream at which a unit ends.
 const ENDS: [usize; 7] = [8, 25, 45, 77, 97, 118, 130];
 
@@ -34,8 +38,8 @@ const ANSWERS: [usize; 8] = [0, 8, 34, 57, 114, 161, 209, 221];
 /// four behind them, and what is left.
 const READS: [usize; 19] = [8, 4, 4, 9, 4, 4, 12, 4, 4, 24, 4, 4, 12, 4, 4, 13, 4, 4, 4];
 
-/// How often the writer is asked, where it keeps nothing: for ten frames, and to be flushed at first, at its end, and before each
-/// of the six reads behind some of them.
+/// How often the writer is asked, where it keeps nothing: for the header and nine frames, and to be flushed at first, at its
+/// end, and before each of the six reads behind some of them.
 const WRITER_CALLS: usize = 18;
 
 /// How often the sink is: to be flushed at first, and twice a record, with a flush behind it.
@@ -108,7 +112,7 @@ fn keeper(alloc: Global, failing: usize) -> Kept {
 }
 
 /// Serves the front of the stream, with one place of credit.
-fn serve_stream<R: Read + AtHand + Drop, W: Write + HoldsBack + Drop>(
+fn serve_stream<R: AtHand + Drop, W: Write + HoldsBack + Drop>(
     alloc: Global,
     source: R,
     writer: W,
@@ -123,7 +127,7 @@ fn serve_stream<R: Read + AtHand + Drop, W: Write + HoldsBack + Drop>(
 }
 
 /// The same over devices in hand.
-fn serve_over<R: Read + AtHand + Drop, W: Write + HoldsBack + Drop, S: Write + Drop>(
+fn serve_over<R: AtHand + Drop, W: Write + HoldsBack + Drop, S: Write + Drop>(
     alloc: Global,
     reader: &mut Device<R>,
     writer: &mut Device<W>,
@@ -145,57 +149,130 @@ fn serve_over<R: Read + AtHand + Drop, W: Write + HoldsBack + Drop, S: Write + D
     Ok(serve(&mut endpoint, reader, writer, sink, policy))
 }
 
+/// The stream, in pieces of so many bytes at most, with a failure at the read of this number.
+fn stream_by(most: usize, failing: usize) -> Source<'static> {
+    Source {
+        rest: STREAM,
+        most,
+        reads: 0,
+        failing,
+    }
+}
+
 /// One device fails at one call: what was written begins what would be.
 #[test]
 fn a_device_that_fails_ends_it(rt: HostRuntime) -> Result<(), Fail> {
     for failing in 0..20 {
-        for (reads, writes, sinks) in [
-            (failing, NEVER, NEVER),
-            (NEVER, failing, NEVER),
-            (NEVER, NEVER, failing),
-        ] {
-            let source = Source {
-                rest: STREAM,
-                most: 50,
-                reads: 0,
-                failing: reads,
-            };
-            let mut writer = keeper(rt.alloc(), writes);
-            let mut sink = keeper(rt.alloc(), sinks);
-            let end = serve_stream(
-                rt.alloc(),
-                Direct::new(source),
-                Direct::new(&mut writer),
-                &mut sink,
-            )?;
-            let wanted = if reads < READS.len() {
-                Err(ServeFault::Read)
-            } else if writes < WRITER_CALLS {
-                Err(ServeFault::Write)
-            } else if sinks < SINK_CALLS {
-                Err(ServeFault::Sink)
-            } else {
-                Ok(End::Closed)
-            };
-            assert_eq!(rt; end, wanted, "{reads} {writes} {sinks}");
-            assert!(rt;
-                WRITTEN.starts_with(&writer.bytes),
-                "{reads} {writes} {sinks}"
-            );
-            assert!(rt;
-                RECORDS.starts_with(&sink.bytes),
-                "{reads} {writes} {sinks}"
-            );
-            let recorded = sink.bytes.len() / (RECORDS.len() / 2);
-            let answers = ANSWERS.get(4_usize.saturating_add(recorded));
-            match end {
-                Ok(_) => {
-                    assert_eq!(rt; writer.bytes.as_slice(), WRITTEN);
-                    assert_eq!(rt; sink.bytes.as_slice(), RECORDS);
-                }
-                Err(ServeFault::Sink) => assert!(rt; Some(&writer.bytes.len()) <= answers),
-                Err(_) => {}
-            }
+        assert_failing(&rt, rt.alloc(), failing, NEVER, NEVER)?;
+        assert_failing(&rt, rt.alloc(), NEVER, failing, NEVER)?;
+        assert_failing(&rt, rt.alloc(), NEVER, NEVER, failing)?;
+    }
+    Ok(())
+}
+
+/// Serves the stream where the calls of these numbers fail, of the reader, the writer and the sink.
+fn assert_failing(
+    rt: &impl Abort,
+    alloc: Global,
+    reads: usize,
+    writes: usize,
+    sinks: usize,
+) -> Result<(), Fail> {
+    let mut writer = keeper(alloc, writes);
+    let mut sink = keeper(alloc, sinks);
+    let reader = Direct::new(stream_by(NEVER, reads));
+    let end = serve_stream(alloc, reader, Direct::new(&mut writer), &mut sink)?;
+    assert_eq!(rt;
+        end,
+        end_of(reads, writes, sinks),
+        "{reads} {writes} {sinks}"
+    );
+    assert!(rt;
+        is_kept(end, &writer.bytes, &sink.bytes),
+        "{reads} {writes} {sinks}"
+    );
+    Ok(())
+}
+
+fn end_of(reads: usize, writes: usize, sinks: usize) -> Result<End, ServeFault> {
+    if reads < READS.len() {
+        Err(ServeFault::Read)
+    } else if writes < WRITER_CALLS {
+        Err(ServeFault::Write)
+    } else if sinks < SINK_CALLS {
+        Err(ServeFault::Sink)
+    } else {
+        Ok(End::Closed)
+    }
+}
+
+/// Whether this begins what is written and recorded in all, is all of it where nothing failed, and has no answer whose record
+/// the sink does not have.
+fn is_kept(end: Result<End, ServeFault>, written: &[u8], recorded: &[u8]) -> bool {
+    if !WRITTEN.starts_with(written) || !RECORDS.starts_with(recorded) {
+        return false;
+    }
+    let records = recorded.len() / RECORD;
+    match end {
+        Ok(_) => written.len() == WRITTEN.len() && recorded.len() == RECORDS.len(),
+        Err(ServeFault::Sink) => written.len() <= answers_to(4_usize.saturating_add(records)),
+        Err(_) => true,
+    }
+}
+
+/// How much answers so many units of the stream.
+fn answers_to(units: usize) -> usize {
+    ANSWERS.get(units).copied().unwrap_or(0)
+}
+
+/// How many units end in so many bytes of the stream.
+fn units_in(given: usize) -> usize {
+    ENDS.iter().filter(|end| **end <= given).count()
+}
+
+/// Behind a reader that fails all that was read is recorded and answered, however much the sink and the writer keep.
+#[test]
+fn what_was_read_is_recorded_and_answered(rt: HostRuntime) -> Result<(), Fail> {
+    let mut given = 0_usize;
+    for (read, count) in READS.iter().enumerate() {
+        let (written, recorded) = kept_before(&rt, rt.alloc(), read)?;
+        let units = units_in(given);
+        let records = units.saturating_sub(4).saturating_mul(RECORD);
+        let answers = WRITTEN.get(..answers_to(units));
+        assert!(rt; Some(written.as_slice()) == answers, "{read}");
+        assert!(rt;
+            Some(recorded.as_slice()) == RECORDS.get(..records),
+            "{read}"
+        );
+        given = given.saturating_add(*count);
+    }
+    Ok(())
+}
+
+/// What is written and recorded through buffers where the read of this number fails.
+fn kept_before(rt: &impl Abort, alloc: Global, read: usize) -> Result<(Vec<u8>, Vec<u8>), Fail> {
+    let (mut written, mut recorded) = (keeper(alloc, NEVER), keeper(alloc, NEVER));
+    let mut reader = Device::new(Direct::new(stream_by(NEVER, read)));
+    let mut writer = Device::new(BufWriter::new(alloc, &mut written)?);
+    let mut sink = Device::new(BufWriter::new(alloc, &mut recorded)?);
+    let end = serve_over(alloc, &mut reader, &mut writer, &mut sink)?;
+    let _ = writer.into_inner().into_parts(); // they flush nothing more
+    let _ = sink.into_inner().into_parts();
+    assert_eq!(rt; end, Err(ServeFault::Read), "{read}");
+    Ok((written.bytes, recorded.bytes))
+}
+
+/// What a reader has at hand is served as what is read.
+#[test]
+fn what_is_at_hand_is_served_the_same(rt: HostRuntime) -> Result<(), Fail> {
+    for room in [1, 3, 50, 8192] {
+        for most in [1, 3, NEVER] {
+            let mut writer = keeper(rt.alloc(), NEVER);
+            let mut sink = keeper(rt.alloc(), NEVER);
+            let reader = BufReader::with_capacity(rt.alloc(), room, stream_by(most, NEVER))?;
+            let end = serve_stream(rt.alloc(), reader, Direct::new(&mut writer), &mut sink)?;
+            assert_eq!(rt; end, Ok(End::Closed), "{room} {most}");
+            assert!(rt; is_kept(end, &writer.bytes, &sink.bytes), "{room} {most}");
         }
     }
     Ok(())
@@ -243,8 +320,7 @@ struct Asker<'a> {
 
 impl Read for Asker<'_> {
     fn read(&mut self, buf: &mut [u8]) -> io::Result<usize> {
-        let units = ENDS.iter().filter(|end| **end <= self.given).count();
-        if ANSWERS.get(units) != Some(&self.wire.flushed.get()) {
+        if answers_to(units_in(self.given)) != self.wire.flushed.get() {
             return Err(io::Error::from(io::ErrorKind::WouldBlock));
         }
         let rest = STREAM.get(self.given..).unwrap_or(&[]);
@@ -258,43 +334,46 @@ impl Read for Asker<'_> {
 /// Nothing waits in a writer that buffers while it reads, nor at the end.
 #[test]
 fn output_is_flushed_before_each_read(rt: HostRuntime) -> Result<(), Fail> {
-    for most in [1, 3, 50, 4096] {
+    for most in [1, 3, NEVER] {
         for room in [0, 1, 16, 8192] {
-            let wire = Wire::new();
-            let source = Asker {
-                given: 0,
-                most,
-                wire: &wire,
-            };
-            let writer = BufWriter::with_capacity(rt.alloc(), room, &wire)?;
-            let mut sink = keeper(rt.alloc(), NEVER);
-            let end = serve_stream(rt.alloc(), Direct::new(source), writer, &mut sink)?;
-            assert_eq!(rt; end, Ok(End::Closed), "{most} {room}");
-            assert_eq!(rt; wire.flushed.get(), WRITTEN.len(), "{most} {room}");
+            assert_flushed(&rt, rt.alloc(), most, room)?;
         }
     }
     Ok(())
 }
 
+fn asking<'a>(most: usize, wire: &'a Wire) -> Asker<'a> {
+    Asker {
+        given: 0,
+        most,
+        wire,
+    }
+}
+
+fn assert_flushed(rt: &impl Abort, alloc: Global, most: usize, room: usize) -> Result<(), Fail> {
+    let wire = Wire::new();
+    let reader = Direct::new(asking(most, &wire));
+    let writer = BufWriter::with_capacity(alloc, room, &wire)?;
+    let end = serve_stream(alloc, reader, writer, &mut keeper(alloc, NEVER))?;
+    assert_eq!(rt; end, Ok(End::Closed), "{most} {room}");
+    assert_eq!(rt; wire.flushed.get(), WRITTEN.len(), "{most} {room}");
+    Ok(())
+}
+
 /// All that answers what one read brought goes out at once, and so do its records.
 #[test]
-fn a_piece_is_answered_by_one_write(rt: HostRuntime) -> Result<(), Fail> {
+fn what_a_read_brought_is_answered_by_one_write(rt: HostRuntime) -> Result<(), Fail> {
     for (most, writes, records) in [(4096, 1, 1), (65, 2, 1), (26, 5, 2)] {
         let (wire, recorded) = (Wire::new(), Wire::new());
-        let source = Asker {
-            given: 0,
-            most,
-            wire: &wire,
-        };
         let end = serve_over(
             rt.alloc(),
-            &mut Device::new(BufReader::new(rt.alloc(), source)?),
+            &mut Device::new(BufReader::new(rt.alloc(), asking(most, &wire))?),
             &mut Device::new(BufWriter::new(rt.alloc(), &wire)?),
             &mut Device::new(BufWriter::new(rt.alloc(), &recorded)?),
         )?;
         assert_eq!(rt; end, Ok(End::Closed), "{most}");
-        assert_eq!(rt; wire.writes.get(), writes, "{most}");
-        assert_eq!(rt; recorded.writes.get(), records, "{most}");
+        let counted = (wire.writes.get(), recorded.writes.get());
+        assert_eq!(rt; counted, (writes, records), "{most}");
     }
     Ok(())
 }
@@ -356,8 +435,9 @@ impl Write for Broken {
     }
 }
 
-/// No disposition leaves before the record that it answers. Where the sink buffers and fails, the peer has heard of the 114
-/// bytes before the first at most, as far as the writer's buffer had no room for them; of the second read's end nothing.
+/// No disposition leaves before the record that it answers. The first one answers 114 bytes of the peer's. Where the sink buffers
+/// and fails at its first write, the peer got those of them that a writer with so much room could not keep: all, or all but the
+/// last 57, or none; and none where the sink failed at the flush before the second read, which comes before the writer's.
 #[test]
 fn no_answer_leaves_before_its_record(rt: HostRuntime) -> Result<(), Fail> {
     for (most, room, sent) in [
@@ -369,19 +449,23 @@ fn no_answer_leaves_before_its_record(rt: HostRuntime) -> Result<(), Fail> {
         (104, 8192, 0),
     ] {
         let wire = Wire::new();
-        let source = Source {
-            rest: STREAM,
-            most,
-            reads: 0,
-            failing: NEVER,
-        };
-        let mut reader = Device::new(BufReader::new(rt.alloc(), source)?);
-        let mut writer = Device::new(BufWriter::with_capacity(rt.alloc(), room, &wire)?);
-        let mut sink = Device::new(BufWriter::new(rt.alloc(), Broken)?);
-        let end = serve_over(rt.alloc(), &mut reader, &mut writer, &mut sink)?;
+        let end = over_a_broken_sink(rt.alloc(), most, room, &wire)?;
         assert_eq!(rt; end, Err(ServeFault::Sink), "{most} {room}");
         assert_eq!(rt; wire.written.get(), sent, "{most} {room}");
-        let _ = writer.into_inner().into_parts(); // what it holds back is thrown away
     }
     Ok(())
+}
+
+fn over_a_broken_sink(
+    alloc: Global,
+    most: usize,
+    room: usize,
+    wire: &Wire,
+) -> Result<Result<End, ServeFault>, Fail> {
+    let mut reader = Device::new(BufReader::new(alloc, stream_by(most, NEVER))?);
+    let mut writer = Device::new(BufWriter::with_capacity(alloc, room, wire)?);
+    let mut sink = Device::new(BufWriter::new(alloc, Broken)?);
+    let end = serve_over(alloc, &mut reader, &mut writer, &mut sink)?;
+    let _ = writer.into_inner().into_parts(); // what it holds back is thrown away
+    Ok(end)
 }

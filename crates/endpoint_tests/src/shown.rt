@@ -1,7 +1,9 @@
 //! What an endpoint shows of itself, and what `replay` answers.
 
 use amqp_endpoint::{Answer, Call, Config, Endpoint, Event, Outcome, replay};
+use amqp_session::LinkView;
 use std::alloc::Allocator;
+use std::process::Abort;
 use std::test::Fail;
 
 /// The peer's header, open, begin and attach.
@@ -40,38 +42,47 @@ fn feed_all<A: Allocator + Copy>(endpoint: &mut Endpoint<A>, stream: &[u8]) -> O
 fn an_endpoint_shows_its_windows_and_links(rt: HostRuntime) -> Result<(), Fail> {
     let alloc = rt.alloc();
     let mut endpoint = Endpoint::new(alloc, config(alloc)?.copy(alloc)?)?;
-    assert_eq!(rt; endpoint.window(0), None);
-    assert!(rt; endpoint.link(0, 0).is_none());
+    assert_shown(&rt, &endpoint, None, &[]);
     let attached = Outcome::Event(Event::Attached {
         channel: 0,
         handle: 0,
     });
     assert_eq!(rt; feed_all(&mut endpoint, STREAM), attached);
-    assert_eq!(rt; endpoint.window(0), Some(100));
-    assert_eq!(rt; endpoint.window(1), None);
-    assert!(rt; endpoint.link(0, 1).is_none());
-    assert!(rt; endpoint.link(65535, 0).is_none());
+    assert_shown(&rt, &endpoint, Some(100), &[0]);
     assert_eq!(rt; endpoint.grant(0, 0, 1), Ok(()));
     for part in PARTS {
         let _ = endpoint.feed(part);
     }
-    let link = endpoint.link(0, 0).ok_or("no link")?;
-    assert_eq!(rt;
-        (link.name, link.source, link.target),
-        (
-            b"l".as_slice(),
-            b"\x00\x53\x28\x45".as_slice(),
-            b"\x00\x53\x29\x45".as_slice()
-        )
-    );
-    assert_eq!(rt; (link.credit, link.opened, link.ready), (0, 1, 1));
-    assert_eq!(rt; endpoint.window(0), Some(97));
+    assert_link(&rt, endpoint.link(0, 0).ok_or("no link")?);
+    assert_shown(&rt, &endpoint, Some(97), &[0]);
     let taken = endpoint.take(0, 0).ok().ok_or("nothing taken")?;
     let message = taken.message.to_vec(alloc)?;
     assert_eq!(rt; message.as_slice(), b"abcde".as_slice());
     assert_eq!(rt; endpoint.detach(0, 0), Ok(0));
-    assert!(rt; endpoint.link(0, 0).is_none());
+    assert_shown(&rt, &endpoint, Some(97), &[]);
     Ok(())
+}
+
+/// Asserts that channel 0 has this window, and the links at these handles; and that there are no others.
+fn assert_shown(rt: &impl Abort, endpoint: &Endpoint, window: Option<u32>, handles: &[u32]) {
+    assert_eq!(rt; (endpoint.window(0), endpoint.window(1)), (window, None));
+    for handle in 0..2 {
+        let is_there = handles.contains(&handle);
+        assert_eq!(rt; endpoint.link(0, handle).is_some(), is_there, "{handle}");
+        assert!(rt; endpoint.link(65535, handle).is_none());
+    }
+}
+
+/// Asserts that a link has these names, and has used its credit for one delivery.
+fn assert_link(rt: &impl Abort, link: LinkView<'_>) {
+    let terms = (link.name, link.source, link.target);
+    let wanted = (
+        b"l".as_slice(),
+        b"\x00\x53\x28\x45".as_slice(),
+        b"\x00\x53\x29\x45".as_slice(),
+    );
+    assert_eq!(rt; terms, wanted);
+    assert_eq!(rt; (link.credit, link.opened, link.ready), (0, 1, 1));
 }
 
 #[test]

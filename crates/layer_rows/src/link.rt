@@ -1,9 +1,10 @@
 //! A link on the bench: its calls, and all that it shows.
 //!
 //! `attach first 4 10 0` is a new link: its mode, how many deliveries and bytes of one it allows, and the sender's first
-//! count. The first delivery that was handed up is kept, and read by `message`, `piece`, `pieces` and `write`.
+//! count. The first delivery that was handed up is kept, and read by `message`, `piece`, `pieces`,
+//! `sizes` and `write`.
 
-use crate::messages::{copied, joined, piece, shown_taken, written};
+use crate::messages::{copied, joined, piece, shown_taken, sizes, written};
 use crate::words::{mode_of, payload_of, transfer_of};
 use amqp_link::{Link, LinkBounds, Taken, Terms};
 use amqp_perform::ReceiverSettleMode;
@@ -111,6 +112,7 @@ impl<'a> LinkRows<'a> {
             "message" => copied(alloc, self.heap, message),
             "piece" => piece(alloc, message, words),
             "pieces" => joined(alloc, message),
+            "sizes" => sizes(alloc, message),
             _ => written(alloc, message, words),
         }
     }
@@ -171,7 +173,7 @@ impl Subject for LinkRows<'_> {
             }
             "transfer" => self.transfer(alloc, words),
             "take" => self.take(alloc),
-            "message" | "piece" | "pieces" | "write" => self.read(alloc, name, words),
+            "message" | "piece" | "pieces" | "sizes" | "write" => self.read(alloc, name, words),
             _ => self.plain_call(alloc, name, words),
         }
     }

@@ -61,6 +61,25 @@ pub fn joined<A: Allocator + Copy>(alloc: Global, message: &Message<A>) -> Resul
     told(alloc, bytes.as_slice())
 }
 
+/// How many bytes each piece of a message has, in their order; `none` where there is none.
+pub fn sizes<A: Allocator + Copy>(alloc: Global, message: &Message<A>) -> Result<String, Miss> {
+    let mut text = String::new(alloc);
+    let mut at = 0_usize;
+    for _ in 0..message.len() {
+        let len = message.piece(at).len();
+        if len == 0 {
+            break;
+        }
+        let mark = if at == 0 { "" } else { " " };
+        text.push_str(&format!(in alloc; "{mark}{len}")?)?;
+        at = at.saturating_add(len);
+    }
+    if at == 0 {
+        return Ok(String::from_str(alloc, "none")?);
+    }
+    Ok(text)
+}
+
 /// Writes a message to a vector for `whole`, and else in pieces of at most so many bytes, as `2`, to a writer that may
 /// fail at a call, as in `2 failing 3 Other`.
 pub fn written<A: Allocator + Copy>(

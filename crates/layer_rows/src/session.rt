@@ -1,8 +1,11 @@
 //! A session on the bench: it is fed the bytes of frames, and what it says is written as frames.
 //!
 //! `begin 100 4` is a new session: the places of its window, and how many deliveries of ten bytes a link allows. It has
-//! the handles 0 and 1. A third number is the peer's largest frame. `said` is what the last call or frame gave to say.
+//! the handles 0 and 1. A third number is the peer's largest frame, a fourth how many bytes of a delivery a link allows
+//! in place of ten. `said` is what the last call or frame gave to say; `sizes` takes a delivery too, and answers how
+//! long its pieces are.
 
+use crate::messages::sizes;
 use amqp_link::LinkBounds;
 use amqp_perform::{Attach, Detach, Flow, Outcome, Performative, read_body, write_frame};
 use amqp_session::{Answer, CallFault, Report, Session, SessionFault, SessionTerms, refusal_reply};
@@ -23,18 +26,23 @@ pub struct SessionRows<'a> {
 }
 
 /// None where a link can't have these bounds.
-fn terms(incoming_window: u32, allowed: u32, max_frame_size: u32) -> Option<SessionTerms> {
+fn terms(
+    incoming_window: u32,
+    allowed: u32,
+    max_frame_size: u32,
+    most: u32,
+) -> Option<SessionTerms> {
     Some(SessionTerms {
         incoming_window,
         next_outgoing_id: 0,
         handle_max: 1,
         max_frame_size,
-        bounds: LinkBounds::new(allowed, 10)?,
+        bounds: LinkBounds::new(allowed, most)?,
     })
 }
 
 fn no_places() -> Option<SessionTerms> {
-    terms(0, 1, u32::MAX)
+    terms(0, 1, u32::MAX, 10)
 }
 
 impl<'a> SessionRows<'a> {
@@ -54,13 +62,10 @@ impl<'a> SessionRows<'a> {
 
     fn begin_with(&mut self, words: &str) -> Result<(), Miss> {
         let (window, words) = cut(words, ' ')?;
-        let (allowed, largest) = name_of(words);
-        let largest = if largest.is_empty() {
-            u32::MAX
-        } else {
-            number(largest)?
-        };
-        let Some(terms) = terms(number(window)?, number(allowed)?, largest) else {
+        let (allowed, words) = name_of(words);
+        let (largest, most) = name_of(words);
+        let (largest, most) = (number_or(largest, u32::MAX)?, number_or(most, 10)?);
+        let Some(terms) = terms(number(window)?, number(allowed)?, largest, most) else {
             return Err(Miss::Unread("refused bounds"));
         };
         self.session = Session::begin(self.heap, terms);
@@ -135,6 +140,14 @@ impl<'a> SessionRows<'a> {
         Ok((taken.delivery_id, taken.message.len()))
     }
 
+    /// Hands a delivery up, and answers the lengths of its pieces.
+    fn take_sizes(&mut self, alloc: Global, handle: u32) -> Result<String, Miss> {
+        match self.session.take(handle) {
+            Err(fault) => Ok(format!(in alloc; "Err({fault:?})")?),
+            Ok(taken) => sizes(alloc, &taken.message),
+        }
+    }
+
     fn settle(&mut self, id: u32, outcome: Outcome) -> Result<(), CallFault> {
         self.written = 0;
         let disposition = self.session.settle(id, outcome)?;
@@ -169,6 +182,7 @@ impl<'a> SessionRows<'a> {
                 let outcome = outcome_of(outcome)?;
                 Ok(format!(in alloc; "{:?}", self.settle(number(id)?, outcome))?)
             }
+            "sizes" => self.take_sizes(alloc, number(words)?),
             "take" => Ok(format!(in alloc; "{:?}", self.take(number(words)?))?),
             "detach" => Ok(format!(in alloc; "{:?}", self.detach(number(words)?))?),
             _ => Err(Miss::Unread("no such call")),
@@ -214,6 +228,14 @@ impl Subject for SessionRows<'_> {
         };
         Ok(format!(in alloc; "held={held} window={window} next={next} link={link}")?)
     }
+}
+
+/// The number, or this one where the word is away.
+fn number_or(word: &str, absent: u32) -> Result<u32, Miss> {
+    if word.is_empty() {
+        return Ok(absent);
+    }
+    number(word)
 }
 
 fn outcome_of(word: &str) -> Result<Outcome, Miss> {

@@ -11,7 +11,5 @@
 #![tactic(auto)]
 
 mod receiver;
-#[cfg(test)]
-mod tests;
 
 pub use receiver::Receiver;

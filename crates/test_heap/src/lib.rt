@@ -109,6 +109,3 @@ unsafe impl<B: Allocator> Allocator for TestHeap<B> {
         self.inner.deallocate(ptr, size, align);
     }
 }
-
-#[cfg(test)]
-mod tests;

@@ -1,5 +1,5 @@
 use Rattle.std.proofs.Common.{refl}
-use Rattle.amqp_perform.proofs.Framed.{same_list}
+use Rattle.amqp_perform.proofs.Framed.{same_list, same_performative}
 use Rattle.amqp_perform.proofs.writer.write_any.Goals as goal
 
 pub returns-in-Open : goal.returns-in-Open
@@ -12,7 +12,7 @@ pub returns-in-Attach : goal.returns-in-Attach
 returns-in-Attach c = same_list c.args.channel _ c.args.performative.now _ _ c.args.payload.now _ _ _ c.descriptor.ensures c.in-Attach.is refl c.write_attach.ensures
 
 pub returns-in-Flow : goal.returns-in-Flow
-returns-in-Flow c = same_list c.args.channel _ c.args.performative.now _ _ c.args.payload.now _ _ _ c.descriptor.ensures c.in-Flow.is refl c.write_flow.ensures
+returns-in-Flow c = same_performative c.args.channel _ _ c.args.payload.now _ _ _ c.in-Flow.is c.write_flow.ensures
 
 pub returns-in-Transfer : goal.returns-in-Transfer
 returns-in-Transfer c = same_list c.args.channel _ c.args.performative.now _ _ c.args.payload.now _ _ _ c.descriptor.ensures c.in-Transfer.is refl c.write_transfer.ensures

@@ -1,8 +1,7 @@
 use Rattle.std.proofs.Common.{◌≤◌, ℕ, List, inr, refl, sym, subst, length, arith}
 use Rattle.std.specs.Io.KnownBytes.{Consumes}
 use Rattle.amqp_frame.specs.Devices.{device_inner}
-use Rattle.amqp_endpoint.specs.Connections.{is_dead}
-use Rattle.amqp_serve.proofs.ServingFeeds.{front_read, front_short, asks_still}
+use Rattle.amqp_serve.proofs.ServingFeeds.{front_read, front_short}
 use Rattle.amqp_serve.proofs.sending.read_in.Goals as goal
 
 pub returns-in-Ok-clause-read : goal.returns-in-Ok-clause-read
@@ -12,7 +11,7 @@ returns-in-Ok-clause-read g c =
     let ws = c.read.new.buf in
     let short : length room ≤ length spare = front_short room spare c.spare.ensures.value in
     let n = c.in-Ok.count in (
-      inr (length room, asks_still (is_dead c.args.endpoint.now.connection.phase) c.args.endpoint.now.input ws (length room) c.spare.ensures.asks, omega (arith, c.in-Ok.ensures.bound)),
+      inr (length room, c.spare.ensures.asks, omega (arith, c.in-Ok.ensures.bound)),
       record { input = record { limit = refl; stage = refl; filled = refl }; unsent = refl; connection = refl },
       subst (λ (l : List ℕ). Consumes (g.R.Read.remaining (device_inner c.args.reader.now)) (g.R.Read.remaining (device_inner c.read.new.self)) l)
           (sym (front_read n ws spare c.in-Ok.ensures.bound (omega (arith, short)))) c.in-Ok.ensures.bytes,

@@ -1,9 +1,8 @@
 use Rattle.std.proofs.Common.{◌≡◌, true, false, IsTrue}
 use Rattle.amqp_frame.specs.Devices.{device_inner, has_failed, reads_ahead}
 use Rattle.amqp_endpoint.specs.Connections.{is_dead}
-use Rattle.amqp_serve.specs.Serving.{IsIdle}
+use Rattle.amqp_serve.specs.Serving.{IsIdle, HasRead}
 use Rattle.amqp_serve.specs.Supplied.{IsSupplied}
-use Rattle.amqp_serve.proofs.ServingReads.{HasRead}
 use Rattle.amqp_serve.proofs.serving.run.Given as goal
 
 abbrev pub invariant-reads : goal.invariant-reads

@@ -11,7 +11,7 @@ use Rattle.amqp_serve.specs.declared.serving.ServeFault.{ServeFault}
 use Rattle.amqp_serve.specs.Serving.{Supply, lack, session_supplies, all_supplies_from, all_supplies, ToppingUp, Works, BrokeOff}
 use Rattle.amqp_serve.specs.Cuts.{supply_channel}
 use Rattle.amqp_serve.specs.Supplied.{IsListed}
-use Rattle.amqp_serve.proofs.Supplied.{outside, supplied_at, further_on, next_channel, only_same, both}
+use Rattle.amqp_serve.proofs.Supplied.{outside, supplied_at, further_on, next_channel, back_channel, only_same, both, both_set}
 use Rattle.amqp_serve.proofs.Servings.{if_err, works_on, works_broke}
 use Rattle.amqp_serve.proofs.ServingTops.{all_from, places_step, places_none, session_passed, channels_passed, not_live_supplied, none_live}
 use Rattle.amqp_serve.proofs.supplies.top_up.Goals.{then-is_some+in_ok-supplied, else-is_some}
@@ -39,7 +39,7 @@ loop-channel-init g c =
       config = refl;
       within = omega (arith, c.span-first.ensures.ordered, c.span-first.ensures.within);
       behind = λ x listed far. out x listed (λ a b. omega (arith, far, b));
-      supplied = λ _ x listed near. out x listed (λ a b. omega (arith, near, a));
+      supplied = (λ _ x listed near. out x listed (λ a b. omega (arith, near, a)), λ _. refl);
       works = subst (λ (l : List Supply). Works p (ToppingUp l) (ToppingUp (all_supplies_from handles first (n - first))) s s w w k k)
           (sym (all_from s.connection.config c.handle_max.result c.channel_max.result most top))
           (channels_passed p s handles n 0 first w k (omega arith) (omega (arith, c.span-first.ensures.ordered, c.span-first.ensures.within))
@@ -102,15 +102,27 @@ loop-channel-preserved g c =
         | else-is_some w ↦ rw w.endpoint-is c.loop-channel.invariant.behind
       ];
       supplied = elim c.if-is_some.branch [
-        | then-is_some+in_ok-supplied w ↦ rw (w.endpoint-is, w.supplied-is) (λ is.
-            let flags = both c.loop-channel.supplied w.in_ok-supplied.field-0 is in
-            next_channel p here w.top_up_session.new.endpoint.connection handles i w.in_ok-supplied.ensures.only
-            (links ∙ ap (λ (x : Configured). suc x.handle_max) (sym w.in_ok-supplied.ensures.only.config)) (w.in_ok-supplied.ensures.supplied flags.1) (c.loop-channel.invariant.supplied flags.0))
-        | else-is_some w ↦ rw (w.endpoint-is, w.supplied-is) (λ is.
-            next_channel p here here handles i (only_same p i here here refl) links
-            (not_live_supplied p handles i here
-            (none_live (λ (s : SessionState). s.window) (slot_at here i) c.window.result c.window.ensures (sym c.is_some.ensures ∙ w.if-is_some.false)))
-            (c.loop-channel.invariant.supplied is))
+        | then-is_some+in_ok-supplied w ↦
+            let there = w.top_up_session.new.endpoint.connection in
+            let only = w.in_ok-supplied.ensures.only in
+            let most_there = links ∙ ap (λ (x : Configured). suc x.handle_max) (sym only.config) in
+            let low_there : i < channels there.config = omega (arith, below, top, ap (λ (x : Configured). x.channel_max) (only.config ∙ c.loop-channel.invariant.config)) in
+            rw (w.endpoint-is, w.supplied-is) (
+              λ is.
+                  let flags = both c.loop-channel.supplied w.in_ok-supplied.field-0 is in
+                  next_channel p here there handles i only most_there (w.in_ok-supplied.ensures.supplied.0 flags.1) (c.loop-channel.invariant.supplied.0 flags.0),
+              λ before. both_set c.loop-channel.supplied w.in_ok-supplied.field-0 (c.loop-channel.invariant.supplied.1 (back_channel p here there i only before))
+                  (w.in_ok-supplied.ensures.supplied.1 (supplied_at p there handles i most_there low_there (λ x listed same. before x listed (omega (arith, same))))),
+            )
+        | else-is_some w ↦
+            let same = only_same p i here here refl in
+            rw (w.endpoint-is, w.supplied-is) (
+              λ is. next_channel p here here handles i same links
+                  (not_live_supplied p handles i here
+                  (none_live (λ (s : SessionState). s.window) (slot_at here i) c.window.result c.window.ensures (sym c.is_some.ensures ∙ w.if-is_some.false)))
+                  (c.loop-channel.invariant.supplied.0 is),
+              λ before. c.loop-channel.invariant.supplied.1 (back_channel p here here i same before),
+            )
       ];
       works = elim c.if-is_some.branch [
         | then-is_some+in_ok-supplied w ↦ rw (w.endpoint-is, w.writer-is, w.sink-is) (works_on before (w.in_ok-supplied.ensures.works rest))
@@ -121,11 +133,11 @@ loop-channel-preserved g c =
     }
 
 pub returns-clause-supplied : goal.returns-clause-supplied
-returns-clause-supplied g c = λ is x listed. by is x listed (nat_lt (supply_channel x) c.loop-channel.channel) refl
+returns-clause-supplied g c = (λ is x listed. by is x listed (nat_lt (supply_channel x) c.loop-channel.channel) refl, λ all. c.loop-channel.invariant.supplied.1 (λ x listed low. all x listed))
   where
     by : c.loop-channel.supplied ≡ true → (x : Supply) → IsListed c.loop-channel.endpoint.connection.config x → (b : Bool) → nat_lt (supply_channel x) c.loop-channel.channel ≡ b →
         lack c.args.policy c.loop-channel.endpoint.connection x ≡ 0
-    by is x listed true low = c.loop-channel.invariant.supplied is x listed (ltb-true (supply_channel x) c.loop-channel.channel low)
+    by is x listed true low = c.loop-channel.invariant.supplied.0 is x listed (ltb-true (supply_channel x) c.loop-channel.channel low)
     by is x listed false high =
         let far : c.loop-channel.channel ≤ supply_channel x = ltb-false (supply_channel x) c.loop-channel.channel high in
         c.loop-channel.invariant.behind x listed (omega (arith, far, c.loop-channel-test.false))

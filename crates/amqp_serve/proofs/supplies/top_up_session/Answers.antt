@@ -7,7 +7,7 @@ use Rattle.amqp_serve.specs.declared.serving.ServeFault.{ServeFault}
 use Rattle.amqp_serve.specs.Serving.{Supply, WindowOf, CreditOf, session_supplies, ToppingUp, Works, BrokeOff}
 use Rattle.amqp_serve.proofs.Servings.{if_err, works_on, works_broke}
 use Rattle.amqp_serve.proofs.ServingTops.{tabulate_step, tabulate_none, tabulate_all}
-use Rattle.amqp_serve.proofs.Supplied.{of_in, only_on, first_at, next_at, fewer_at, both}
+use Rattle.amqp_serve.proofs.Supplied.{of_in, only_on, first_at, next_at, back_at, fewer_at, both, both_set}
 use Rattle.amqp_serve.proofs.supplies.top_up_session.Goals as goal
 
 pub loop-handle-init : goal.loop-handle-init
@@ -21,7 +21,11 @@ loop-handle-init g c = record {
       (g.S.Write.contents (device_inner c.args.sink.now)) (g.S.Write.contents (device_inner c.top_up_window.new.sink)))
       (tabulate_all credit c.args.handles) (c.in_ok-supplied.ensures.works (tabulate 0 c.args.handles credit ++ rest));
   only = of_in (WindowOf c.args.channel) c.in_ok-supplied.ensures.only;
-  supplied = λ is. first_at c.args.policy c.top_up_window.new.endpoint.connection c.args.channel (c.in_ok-supplied.ensures.supplied is);
+  within = omega arith;
+  supplied = (
+    λ is. first_at c.args.policy c.top_up_window.new.endpoint.connection c.args.channel (c.in_ok-supplied.ensures.supplied.0 is),
+    λ at. c.in_ok-supplied.ensures.supplied.1 at.window,
+  );
 }
 
 pub returns-in_err-supplied-2-clause-begun : goal.returns-in_err-supplied-2-clause-begun
@@ -60,15 +64,26 @@ loop-handle-preserved g c =
           (tabulate_step credit i n c.loop-handle-test.true) (c.loop-handle.invariant.works rest))
           (c.in_ok-supplied-2.ensures.works (tabulate (i + 1) (n - (i + 1)) credit ++ rest));
       only = only_on c.loop-handle.invariant.only (of_in (CreditOf c.args.channel i) c.in_ok-supplied-2.ensures.only);
-      supplied = λ is.
-          let flags = both c.loop-handle.supplied c.in_ok-supplied-2.field-0 is in
-          next_at c.args.policy c.loop-handle.endpoint.connection c.top_up_credit.new.endpoint.connection c.args.channel i c.in_ok-supplied-2.ensures.only
-          (c.loop-handle.invariant.supplied flags.0) (c.in_ok-supplied-2.ensures.supplied flags.1);
+      within = omega (arith, c.loop-handle-test.true);
+      supplied = (
+        λ is.
+            let flags = both c.loop-handle.supplied c.in_ok-supplied-2.field-0 is in
+            next_at c.args.policy c.loop-handle.endpoint.connection c.top_up_credit.new.endpoint.connection c.args.channel i c.in_ok-supplied-2.ensures.only
+            (c.loop-handle.invariant.supplied.0 flags.0) (c.in_ok-supplied-2.ensures.supplied.0 flags.1),
+        λ at. both_set c.loop-handle.supplied c.in_ok-supplied-2.field-0
+            (c.loop-handle.invariant.supplied.1
+            (back_at c.args.policy c.loop-handle.endpoint.connection c.top_up_credit.new.endpoint.connection c.args.channel i c.in_ok-supplied-2.ensures.only at))
+            (c.in_ok-supplied-2.ensures.supplied.1 (at.credit i (omega arith))),
+      );
     }
 
 pub returns-clause-supplied : goal.returns-clause-supplied
-returns-clause-supplied g c = λ is.
-    fewer_at c.args.policy c.loop-handle.endpoint.connection c.args.channel c.args.handles c.loop-handle.handle (omega (arith, c.loop-handle-test.false)) (c.loop-handle.invariant.supplied is)
+returns-clause-supplied g c =
+    let p = c.args.policy in
+    let t = c.loop-handle.endpoint.connection in (
+      λ is. fewer_at p t c.args.channel c.args.handles c.loop-handle.handle (omega (arith, c.loop-handle-test.false)) (c.loop-handle.invariant.supplied.0 is),
+      λ at. c.loop-handle.invariant.supplied.1 (fewer_at p t c.args.channel c.loop-handle.handle c.args.handles c.loop-handle.invariant.within at),
+    )
 
 pub returns-clause-only : goal.returns-clause-only
 returns-clause-only g c = c.loop-handle.invariant.only

@@ -1,7 +1,8 @@
-use Rattle.std.proofs.Common.{◌≡◌, ◌∷◌, ◌<◌, ap, sym, ◌∙◌, subst, arith}
+use Rattle.std.proofs.Common.{◌≡◌, ◌∷◌, ◌<◌, refl, ap, sym, ◌∙◌, subst, arith}
+use Rattle.std.proofs.lemmas.Bool.{false≢true}
 use Rattle.amqp_frame.specs.Devices.{device_inner}
 use Rattle.amqp_endpoint.specs.Connections.{ConnectionState, slot_at}
-use Rattle.amqp_serve.specs.Serving.{WindowOf, ToppingUp, window_lack}
+use Rattle.amqp_serve.specs.Serving.{lack, WindowOf, ToppingUp, window_lack}
 use Rattle.amqp_serve.specs.Supplied.{IsOnlyOf}
 use Rattle.amqp_serve.proofs.Servings.{works_on}
 use Rattle.amqp_serve.proofs.ServingTops.{window_topped, supply_passed}
@@ -13,12 +14,24 @@ returns-then-more-eq0-clause-works g c = λ rest.
     supply_passed c.args.policy (WindowOf c.args.channel) rest c.args.endpoint.now (g.W.Write.contents (device_inner c.args.writer.now)) (g.S.Write.contents (device_inner c.args.sink.now))
     (omega (arith, c.missing_places-more.ensures, c.if-more-eq0.true))
 
+pub returns-then-more-eq0-clause-supplied : goal.returns-then-more-eq0-clause-supplied
+returns-then-more-eq0-clause-supplied g c = (λ _. omega (arith, c.missing_places-more.ensures, c.if-more-eq0.true), λ _. refl)
+
 pub returns-in-Ok-clause-supplied : goal.returns-in-Ok-clause-supplied
-returns-in-Ok-clause-supplied g c = λ _.
+returns-in-Ok-clause-supplied g c =
     let lacks : c.missing_places-more.result ≡ window_lack c.write_out.new.endpoint.connection.config.window (slot_at c.write_out.new.endpoint.connection c.args.channel) =
     c.missing_places-more.ensures ∙ ap (λ (s : ConnectionState). window_lack s.config.window (slot_at s c.args.channel)) (sym c.in_ok-write_out.ensures.connection) in
     let some : 0 < c.missing_places-more.result = omega (arith, c.if-more-eq0.false) in
-    given_enough c.args.policy c.write_out.new.endpoint c.widen.new.self (WindowOf c.args.channel) c.missing_places-more.result some lacks c.in-Ok.ensures
+    (λ _. given_enough c.args.policy c.write_out.new.endpoint c.widen.new.self (WindowOf c.args.channel) c.missing_places-more.result some lacks c.in-Ok.ensures, λ _. refl)
+
+pub returns-in-Err-clause-supplied : goal.returns-in-Err-clause-supplied
+returns-in-Err-clause-supplied g c =
+    let lacks : c.missing_places-more.result ≡ window_lack c.write_out.new.endpoint.connection.config.window (slot_at c.write_out.new.endpoint.connection c.args.channel) =
+    c.missing_places-more.ensures ∙ ap (λ (s : ConnectionState). window_lack s.config.window (slot_at s c.args.channel)) (sym c.in_ok-write_out.ensures.connection) in
+    let some : 0 < c.missing_places-more.result = omega (arith, c.if-more-eq0.false) in
+    let kept : lack c.args.policy c.widen.new.self.connection (WindowOf c.args.channel) ≡ lack c.args.policy c.write_out.new.endpoint.connection (WindowOf c.args.channel) =
+    ap (λ (s : ConnectionState). lack c.args.policy s (WindowOf c.args.channel)) c.in-Err.ensures.1.connection in
+    (λ no. absurd (false≢true no), λ none. absurd (omega (arith, some, lacks, kept, none)))
 
 pub returns-in-Ok-clause-only : goal.returns-in-Ok-clause-only
 returns-in-Ok-clause-only g c =

@@ -88,17 +88,17 @@ invariant_of-self-2 g c =
     (next_of c.self.inside.handed_up c.self.inside.order.items c.deref.result.now c.in_ok-get.field-0.now c.in_ok-key.key c.deref.ensures.value c.in_ok-get.ensures.lookup.3.0
     (c.in_ok-get.ensures.lookup.3.1 None) c.in_ok-key.was)
     c.self.invariant c.index_mut-2.ensures.value (ap (λ d. d.settled) same ∙ c.if-index.false) c.hand_up-delivery.ensures.left
-    (c.len-2.ensures ∙ c.hand_up-delivery.result.message.ok.0 ∙ ap (λ (d : Delivery). length d.message) c.hand_up-delivery.ensures.result) refl).kept
+    (c.size.ensures.value ∙ ap (λ (d : Delivery). length d.message) c.hand_up-delivery.ensures.result) refl).kept
 
 pub returns-clause-some : goal.returns-clause-some
 returns-clause-some g c =
     let same = same_value c.self.inside.slab c.in_ok-key.key c.index_mut-2.result.now c.index.result.now c.index_mut-2.ensures.value c.index.ensures in
     rw (← c.self.view_is)
-    ((moves_at c.self.inside.slab _ _ _ c.in_ok-key.key c.index_mut-2.result.now c.hand_up-delivery.new.self _ (c.self.inside.bytes - c.len-2.result) _ c.self.inside.order.cap
+    ((moves_at c.self.inside.slab _ _ _ c.in_ok-key.key c.index_mut-2.result.now c.hand_up-delivery.new.self _ (c.self.inside.bytes - c.size.result) _ c.self.inside.order.cap
     (next_of c.self.inside.handed_up c.self.inside.order.items c.deref.result.now c.in_ok-get.field-0.now c.in_ok-key.key c.deref.ensures.value c.in_ok-get.ensures.lookup.3.0
     (c.in_ok-get.ensures.lookup.3.1 None) c.in_ok-key.was)
     c.self.invariant c.index_mut-2.ensures.value (ap (λ d. d.settled) same ∙ c.if-index.false) c.hand_up-delivery.ensures.left
-    (c.len-2.ensures ∙ c.hand_up-delivery.result.message.ok.0 ∙ ap (λ (d : Delivery). length d.message) c.hand_up-delivery.ensures.result) refl).is
+    (c.size.ensures.value ∙ ap (λ (d : Delivery). length d.message) c.hand_up-delivery.ensures.result) refl).is
     ∙ ap (λ (d : Delivery). record (set_at c.self.inside.slab c.self.inside.order.items c.self.inside.handed_up c.self.inside.unfinished) {
       awaiting =
           (set_at c.self.inside.slab c.self.inside.order.items c.self.inside.handed_up c.self.inside.unfinished).awaiting ++ left_open d;

@@ -1,0 +1,159 @@
+//! The command line.
+
+use clap::{Arg, ArgMatches, Command, value_parser};
+use std::alloc::{AllocError, Global};
+
+/// What `amqp --version` names.
+const VERSION: &str = "0.1.0";
+
+/// What a command line asks for.
+#[derive(Clone, Copy, Debug, PartialEq, Eq)]
+pub enum Order<'a> {
+    /// To print the frames of this file, or of standard input where it is `-`.
+    Dump {
+        file: &'a str,
+    },
+    /// To run the calls of this script.
+    Replay {
+        script: &'a str,
+    },
+    /// To serve connections at this address.
+    Recv {
+        address: &'a str,
+        settings: RecvSettings,
+    },
+    /// To send this file as one message to the listener at this address.
+    Send {
+        address: &'a str,
+        file: &'a str,
+    },
+}
+
+/// How many connections are served, and with which settings.
+#[derive(Clone, Copy, Debug, PartialEq, Eq)]
+pub struct RecvSettings {
+    pub connections: u32,
+    pub max_frame: u32,
+    pub allowed: u32,
+    pub max_message: u32,
+    pub window: u32,
+}
+
+/// An option that takes a number between these two.
+fn number<'a>(alloc: Global, name: &'a str, least: i64, most: i64, default: &'a str) -> Arg<'a> {
+    Arg::new(alloc, name)
+        .long(name)
+        .value_name("N")
+        .value_parser(value_parser!(u32).range(least..=most))
+        .default_value(default)
+}
+
+/// The command that serves connections.
+fn recv_line<'a>(alloc: Global) -> Result<Command<'a>, AllocError> {
+    let address = Arg::new(alloc, "ADDR")
+        .long("listen")
+        .required(true)
+        .help("Where to listen: HOST:PORT");
+    let connections = number(alloc, "connections", 1, 1000, "1").help(
+        "How many connections are served, one after the other",
+    );
+    let recv = Command::new(alloc, "recv")
+        .about("Serves connections, and writes the records of their messages")
+        .arg(address)?
+        .arg(connections)?;
+    with_limits(alloc, recv)
+}
+
+/// The same command, with the limits of what its peers may send.
+fn with_limits<'a>(alloc: Global, recv: Command<'a>) -> Result<Command<'a>, AllocError> {
+    let max_frame = number(alloc, "max-frame", 512, 1048576, "65536").help(
+        "The longest frame that is accepted, in bytes",
+    );
+    let allowed = number(alloc, "allowed", 1, 1024, "16").help(
+        "The deliveries that a link may have open, and its credit",
+    );
+    let max_message = number(alloc, "max-message", 1, 1073741824, "1048576").help(
+        "The longest message, in bytes",
+    );
+    let window = number(alloc, "window", 0, 2147483647, "2048").help(
+        "The places of a session's window at its begin",
+    );
+    recv.arg(max_frame)?
+        .arg(allowed)?
+        .arg(max_message)?
+        .arg(window)
+}
+
+/// The settings of a command line that was read as one of [`recv_line`].
+fn recv_settings(recv: &ArgMatches<'_>) -> Option<RecvSettings> {
+    Some(RecvSettings {
+        connections: recv.get_one("connections")?,
+        max_frame: recv.get_one("max-frame")?,
+        allowed: recv.get_one("allowed")?,
+        max_message: recv.get_one("max-message")?,
+        window: recv.get_one("window")?,
+    })
+}
+
+/// The command that runs a script.
+fn replay_line<'a>(alloc: Global) -> Result<Command<'a>, AllocError> {
+    let script = Arg::new(alloc, "SCRIPT")
+        .required(true)
+        .help("Calls, one on each line");
+    Command::new(alloc, "replay")
+        .about("Runs the calls of a script on a new endpoint, and prints the answers")
+        .arg(script)
+}
+
+/// The command that sends a file.
+fn send_line<'a>(alloc: Global) -> Result<Command<'a>, AllocError> {
+    let message = Arg::new(alloc, "FILE").required(true).help("The message");
+    let address = Arg::new(alloc, "ADDR")
+        .long("to")
+        .required(true)
+        .help("Where the receiver listens: HOST:PORT");
+    Command::new(alloc, "send")
+        .about("Sends a file as one message, and prints what became of it")
+        .arg(address)?
+        .arg(message)
+}
+
+/// The command line that `amqp` takes.
+pub fn command_line<'a>(alloc: Global) -> Result<Command<'a>, AllocError> {
+    let file = Arg::new(alloc, "FILE").required(true).help(
+        "The bytes of one direction of a connection; - is standard input",
+    );
+    let dump = Command::new(alloc, "dump")
+        .about("Prints the frames of a file or of standard input, as they come")
+        .arg(file)?;
+    Command::new(alloc, "amqp")
+        .version(VERSION)
+        .about("Reads and speaks AMQP 1.0")
+        .subcommand_required(true)
+        .arg_required_else_help(true)
+        .subcommand(dump)?
+        .subcommand(replay_line(alloc)?)?
+        .subcommand(recv_line(alloc)?)?
+        .subcommand(send_line(alloc)?)
+}
+
+/// What a command line asks for that was read as one of [`command_line`]. None where it names no command.
+pub fn order_of<'a>(matches: &ArgMatches<'a>) -> Option<Order<'a>> {
+    if let Some(send) = matches.subcommand_matches("send") {
+        let address = send.get_str("ADDR")?;
+        let file = send.get_str("FILE")?;
+        return Some(Order::Send { address, file });
+    }
+    if let Some(recv) = matches.subcommand_matches("recv") {
+        let address = recv.get_str("ADDR")?;
+        let settings = recv_settings(recv)?;
+        return Some(Order::Recv { address, settings });
+    }
+    if let Some(replay) = matches.subcommand_matches("replay") {
+        let script = replay.get_str("SCRIPT")?;
+        return Some(Order::Replay { script });
+    }
+    let dump = matches.subcommand_matches("dump")?;
+    let file = dump.get_str("FILE")?;
+    Some(Order::Dump { file })
+}

@@ -1,0 +1,235 @@
+//! Runs the command that the command line asks for.
+
+ghost use Rattle.std.specs.Prelude.{◌≡◌};
+ghost use Rattle.amqp_commands.specs.declared.run.Fault.TheVariants.{NoMemory};
+
+use crate::command::{Order, RecvSettings, command_line, order_of};
+use crate::recv::{BUFFER, recv_on};
+use crate::send::Fate;
+use crate::send_file::{FileFault, send_file};
+use amqp_dump::{DumpFault, dump};
+use amqp_endpoint::Config;
+use amqp_frame::Device;
+use amqp_perform::Outcome;
+use amqp_script::{ScriptFault, replay_script};
+use amqp_serve::Policy;
+use clap::error::ErrorKind;
+use std::alloc::{AllocError, Global};
+use std::io::Read;
+use std::net::{Net, TcpListener};
+use std::process::ExitCode;
+use std::rt::{Env, Files};
+use std::{env, fs, io};
+use thiserror::Error;
+
+/// The exit status of a command line that asks for no command.
+const USAGE: u8 = 2;
+
+/// Why a command did not come to its end.
+#[derive(Debug, Drop, Error)]
+enum Fault {
+    #[error("Open")]
+    Open,
+    #[error("NoMemory")]
+    NoMemory,
+    #[error(transparent)]
+    Dump(DumpFault),
+    #[error(transparent)]
+    Script(ScriptFault),
+    #[error(transparent)]
+    Send(FileFault),
+}
+
+impl From<AllocError> for Fault {
+    ghost from_gives = { λ _ e. e ≡ NoMemory };
+
+    fn from(_e: AllocError) -> Fault {
+        Fault::NoMemory
+    }
+}
+
+/// Runs the program. The exit status is 0 for success, 1 for a fault and 2 for a command line that asks for
+/// no command; what went wrong stands on standard error, but for the fault in a dumped stream.
+pub fn run<R: Print + Eprint + Input + Env + Files + Net + AllocGlobal>(rt: &R) -> ExitCode {
+    match obey(rt) {
+        Ok(status) => status,
+        Err(fault) => {
+            let _ = eprintln!(rt; "fault: {fault}");
+            ExitCode::FAILURE
+        }
+    }
+}
+
+/// Does what the command line asks for.
+fn obey<R: Print + Eprint + Input + Env + Files + Net + AllocGlobal>(
+    rt: &R,
+) -> Result<ExitCode, Fault> {
+    let words = match words(rt) {
+        Ok(words) => words,
+        Err(error) => return refuse_words(rt, &error),
+    };
+    let matches = match command_line(rt.alloc())?.try_get_matches_from(words.as_slice()) {
+        Ok(matches) => matches,
+        Err(error) => return refuse(rt, &error),
+    };
+    match order_of(&matches) {
+        Some(Order::Dump { file }) => dump_file(rt, file),
+        Some(Order::Recv { address, settings }) => recv(rt, address, settings),
+        Some(Order::Replay { script }) => replay_file(rt, script),
+        Some(Order::Send { address, file }) => send(rt, address, file),
+        None => Ok(ExitCode::from(USAGE)),
+    }
+}
+
+/// The words of the command line.
+fn words<R: Env + AllocGlobal>(rt: &R) -> io::Result<Vec<String>> {
+    Ok(env::args(rt)?.collect(rt.alloc())?)
+}
+
+/// Says that the words of the command line could not be had.
+fn refuse_words(rt: &impl Eprint, error: &io::Error) -> Result<ExitCode, Fault> {
+    if error.kind() == io::ErrorKind::OutOfMemory {
+        return Err(Fault::NoMemory);
+    }
+    let _ = eprintln!(rt; "error: {error}");
+    Ok(ExitCode::from(USAGE))
+}
+
+/// Prints why a command line was refused, or the help that it asked for.
+fn refuse(rt: &(impl Print + Eprint), error: &clap::Error) -> Result<ExitCode, Fault> {
+    if error.kind() == ErrorKind::OutOfMemory {
+        return Err(Fault::NoMemory);
+    }
+    let _ = error.print(rt);
+    if error.use_stderr() {
+        Ok(ExitCode::from(USAGE))
+    } else {
+        Ok(ExitCode::SUCCESS)
+    }
+}
+
+/// The name that stands for standard input.
+const STDIN: &str = "-";
+
+/// Dumps a file, or standard input, to standard output.
+fn dump_file<R: Print + Input + Files + AllocGlobal>(
+    rt: &R,
+    path: &str,
+) -> Result<ExitCode, Fault> {
+    if path == STDIN {
+        return dump_from(rt, rt.reader());
+    }
+    match fs::open(rt, path) {
+        Ok(file) => dump_from(rt, file),
+        Err(_) => Err(Fault::Open),
+    }
+}
+
+/// Dumps what a reader gives to standard output, as it comes.
+fn dump_from<R: Print + AllocGlobal, I: Read + Drop>(rt: &R, input: I) -> Result<ExitCode, Fault> {
+    let mut reader = Device::new(input);
+    let mut writer = Device::new(io::writer(rt));
+    match dump(rt.alloc(), &mut reader, &mut writer) {
+        Ok(true) => Ok(ExitCode::SUCCESS),
+        Ok(false) => Ok(ExitCode::FAILURE),
+        Err(fault) => Err(Fault::Dump(fault)),
+    }
+}
+
+/// Runs a script, with its answers on standard output.
+fn replay_file<R: Print + Files + AllocGlobal>(rt: &R, path: &str) -> Result<ExitCode, Fault> {
+    let file = match fs::open(rt, path) {
+        Ok(file) => file,
+        Err(_) => return Err(Fault::Open),
+    };
+    let mut reader = Device::new(file);
+    let mut writer = Device::new(io::writer(rt));
+    match replay_script(rt.alloc(), &mut reader, &mut writer) {
+        Ok(()) => Ok(ExitCode::SUCCESS),
+        Err(fault) => Err(Fault::Script(fault)),
+    }
+}
+
+/// The container-id of the receiver, and the highest channel and handle that it offers.
+const RECEIVER: &str = "recv";
+
+const CHANNEL_MAX: u32 = 7;
+
+const HANDLE_MAX: u32 = 7;
+
+/// Serves connections, with the records on standard output and how each was served on standard error.
+fn recv<R: Print + Eprint + Net + AllocGlobal>(
+    rt: &R,
+    address: &str,
+    settings: RecvSettings,
+) -> Result<ExitCode, Fault> {
+    let alloc = rt.alloc();
+    let policy = Policy {
+        credit: settings.allowed,
+        outcome: Outcome::Accepted,
+    };
+    let connections = settings.connections;
+    let Some(config) = configured(alloc, settings)? else {
+        return Ok(ExitCode::from(USAGE));
+    };
+    let Ok(listener) = TcpListener::bind(rt, address) else {
+        return Err(Fault::Open);
+    };
+    let Ok(output) = io::BufWriter::with_capacity(alloc, BUFFER, io::writer(rt)) else {
+        return Err(Fault::NoMemory);
+    };
+    let mut sink = Device::new(output);
+    let all_closed = recv_on(
+        alloc,
+        &listener,
+        &config,
+        policy,
+        connections,
+        &mut sink,
+        rt,
+    );
+    let _ = sink.into_inner().into_parts(); // what standard output refused is not tried again
+    Ok(if all_closed {
+        ExitCode::SUCCESS
+    } else {
+        ExitCode::FAILURE
+    })
+}
+
+/// The settings of a receiver's endpoints; none where one is outside its range.
+fn configured(alloc: Global, settings: RecvSettings) -> Result<Option<Config>, AllocError> {
+    let RecvSettings {
+        max_frame,
+        allowed,
+        max_message,
+        window,
+        ..
+    } = settings;
+    let name = String::from_str(alloc, RECEIVER)?;
+    Ok(Config::checked(
+        name,
+        max_frame,
+        CHANNEL_MAX,
+        HANDLE_MAX,
+        allowed,
+        max_message,
+        window,
+    ))
+}
+
+/// Sends a file, and prints what became of it on standard output.
+fn send<R: Print + Files + Net + AllocGlobal>(
+    rt: &R,
+    address: &str,
+    path: &str,
+) -> Result<ExitCode, Fault> {
+    let fate = match send_file(rt, address, path) {
+        Ok(fate) => fate,
+        Err(fault) => return Err(Fault::Send(fault)),
+    };
+    let _ = println!(rt; "{fate}");
+    Ok(match fate {
+        Fate::Accepted => ExitCode::SUCCESS,
+        _ => ExitCode::FAILURE,
+    })
+}

@@ -1,0 +1,91 @@
+//! The buffer that lines are put into and written from.
+
+use std::alloc::{AllocError, Global};
+use std::marker::Model;
+
+/// Lines that wait to be written, and the beginning of the next one behind them.
+#[derive(Drop)]
+pub struct Page {
+    bytes: Vec<u8>,
+    /// Where the line begins that has no end yet.
+    end: usize,
+}
+
+impl Model for Page {
+    ghost use Rattle.std.specs.Prelude.{◌≤◌, length, take, drop};
+    ghost use Rattle.amqp_dump.specs.Pages as pages;
+
+    ghost Value = { pages.Page };
+
+    ghost view = { λ page. record { whole = take page.end page.bytes.items; begun = drop page.end page.bytes.items } };
+
+    ghost invariant = { λ page. page.end ≤ length page.bytes.items };
+}
+
+impl Page {
+    ghost use Rattle.std.specs.Prelude.{◌≡◌, [], ◌∷◌, ◌++◌, length, IfOk, OnOk};
+
+    /// An empty page with room for so many bytes.
+    pub fn with_capacity(alloc: Global, capacity: usize) -> Result<Page, AllocError>
+        ensures whole { IfOk result (λ page. page.whole ≡ []) }
+        ensures begun { IfOk result (λ page. page.begun ≡ []) }
+    {
+        Ok(Page {
+            bytes: Vec::with_capacity(alloc, capacity)?,
+            end: 0,
+        })
+    }
+
+    /// Makes room for so many bytes more.
+    pub fn reserve(&mut self, more: usize) -> Result<(), AllocError>
+        ensures { self.new ≡ self.old }
+    {
+        self.bytes.reserve(more)
+    }
+
+    /// Puts bytes into the line.
+    pub fn put(&mut self, text: &[u8]) -> Result<(), AllocError>
+        ensures { self.new.whole ≡ self.old.whole }
+    {
+        self.bytes.extend_from_slice(text)
+    }
+
+    /// Puts a byte into the line.
+    pub fn put_byte(&mut self, byte: u8) -> Result<(), AllocError>
+        ensures { self.new.whole ≡ self.old.whole }
+    {
+        self.bytes.push(byte)?;
+        Ok(())
+    }
+
+    /// Puts a newline, which ends the line.
+    pub fn end_line(&mut self) -> Result<(), AllocError>
+        ensures whole { OnOk result (self.new.whole ≡ self.old.whole ++ (self.old.begun ++ 10 ∷ [])) }
+        ensures begun { OnOk result (self.new.begun ≡ []) }
+    {
+        self.bytes.push(b'\n')?;
+        self.end = self.bytes.len();
+        Ok(())
+    }
+
+    /// How many bytes wait, those of a line without an end among them.
+    pub fn len(&self) -> usize {
+        self.bytes.len()
+    }
+
+    /// The whole lines.
+    pub fn as_bytes(&self) -> &[u8]
+        ensures { result.now ≡ self.now.whole }
+    {
+        &self.bytes[..self.end]
+    }
+
+    /// Drops all of it.
+    pub fn clear(&mut self)
+        ensures whole { self.new.whole ≡ [] }
+        ensures begun { self.new.begun ≡ [] }
+    {
+        self.bytes.clear();
+        self.end = 0;
+    }
+}

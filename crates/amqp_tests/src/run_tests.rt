@@ -1,0 +1,370 @@
+//! The program on a host of its own: the exit statuses, and what stands on standard error.
+
+use amqp_commands::run::run;
+use amqp_frame::HEADER;
+use std::alloc::{Alloc, Allocator, Global};
+use std::cell::RefCell;
+use std::env::FillError;
+use std::fmt::Display;
+use std::fs::{Metadata, OpenFile, OpenOptions};
+use std::io::{self, BufRead, ErrorKind, Input, Read, Seek, SeekFrom, Write};
+use std::net::{Net, SocketAddr, TcpListener, TcpStream};
+use std::process::{Abort, ExitCode};
+use std::rt::{Env, Files};
+
+/// A file that gives its bytes, and then ends or fails.
+#[derive(Clone, Copy)]
+struct Bytes<'a> {
+    bytes: &'a [u8],
+    is_broken: bool,
+}
+
+impl Read for Bytes<'_> {
+    fn read(&mut self, buf: &mut [u8]) -> io::Result<usize> {
+        let count = self.bytes.len().min(buf.len());
+        if count == 0 && self.is_broken {
+            return Err(io::Error::from(ErrorKind::Other));
+        }
+        buf[..count].copy_from_slice(&self.bytes[..count]);
+        self.bytes = &self.bytes[count..];
+        Ok(count)
+    }
+}
+
+impl Write for Bytes<'_> {
+    fn write(&mut self, _buf: &[u8]) -> io::Result<usize> {
+        Err(io::Error::from(ErrorKind::Unsupported))
+    }
+
+    fn flush(&mut self) -> io::Result<()> {
+        Ok(())
+    }
+}
+
+impl Seek for Bytes<'_> {
+    fn seek(&mut self, _to: SeekFrom) -> io::Result<u64> {
+        Err(io::Error::from(ErrorKind::Unsupported))
+    }
+}
+
+impl OpenFile for Bytes<'_> {
+    fn metadata(&self) -> io::Result<Metadata> {
+        Err(io::Error::from(ErrorKind::Unsupported))
+    }
+
+    fn set_len(&self, _size: u64) -> io::Result<()> {
+        Err(io::Error::from(ErrorKind::Unsupported))
+    }
+
+    fn sync_all(&self) -> io::Result<()> {
+        Ok(())
+    }
+
+    fn sync_data(&self) -> io::Result<()> {
+        Ok(())
+    }
+}
+
+/// A host with these words, this one file if any, this standard input, and a standard output that may be shut.
+#[derive(Drop)]
+struct Host<'a> {
+    alloc: Global,
+    words: &'a [&'a str],
+    file: Option<Bytes<'a>>,
+    input: &'a [u8],
+    is_shut: bool,
+    out: RefCell<String>,
+    err: RefCell<String>,
+}
+
+/// Appends text to what a stream took.
+fn append(stream: &RefCell<String>, text: impl Display + Drop, end: &str) -> io::Result<()> {
+    match stream.try_borrow_mut() {
+        Ok(mut taken) => {
+            write!(taken, "{text}{end}")?;
+            Ok(())
+        }
+        Err(_) => Err(io::Error::from(ErrorKind::Other)),
+    }
+}
+
+impl Alloc for Host<'_> {
+    type A = Global;
+
+    fn alloc(&self) -> Global {
+        self.alloc
+    }
+}
+
+impl Print for Host<'_> {
+    fn print<D: Display + Drop>(&self, value: D) -> io::Result<()> {
+        append(&self.out, value, "")
+    }
+
+    fn println<D: Display + Drop>(&self, value: D) -> io::Result<()> {
+        append(&self.out, value, "\n")
+    }
+
+    fn write_all(&self, bytes: &[u8]) -> io::Result<()> {
+        if self.is_shut {
+            return Err(io::Error::from(ErrorKind::BrokenPipe));
+        }
+        match std::str::from_utf8(bytes) {
+            Ok(text) => append(&self.out, text, ""),
+            Err(_) => Err(io::Error::from(ErrorKind::InvalidData)),
+        }
+    }
+}
+
+impl Eprint for Host<'_> {
+    fn eprint<D: Display + Drop>(&self, value: D) -> io::Result<()> {
+        append(&self.err, value, "")
+    }
+
+    fn eprintln<D: Display + Drop>(&self, value: D) -> io::Result<()> {
+        append(&self.err, value, "\n")
+    }
+}
+
+impl<'a> Input for Host<'a> {
+    type Reader = &'a [u8];
+
+    fn read_line<A: Allocator + Clone>(&self, buf: &mut String<A>) -> io::Result<usize> {
+        self.reader().read_line(buf)
+    }
+
+    fn lines<A: Allocator>(&self, alloc: A) -> io::Lines<&'a [u8], A> {
+        self.reader().lines(alloc)
+    }
+
+    fn reader(&self) -> &'a [u8] {
+        self.input
+    }
+}
+
+impl Env for Host<'_> {
+    fn arg(&self, i: usize, buf: &mut [u8]) -> Result<usize, FillError> {
+        let word = match self.words.get(i) {
+            Some(word) => word.as_bytes(),
+            None => return Err(FillError::NotPresent),
+        };
+        if word.len() > buf.len() {
+            return Err(FillError::TooLong);
+        }
+        buf[..word.len()].copy_from_slice(word);
+        Ok(word.len())
+    }
+
+    fn var(&self, _name: &str, _buf: &mut [u8]) -> Result<usize, FillError> {
+        Err(FillError::NotPresent)
+    }
+
+    fn var_at(&self, _i: usize, _buf: &mut [u8]) -> Result<usize, FillError> {
+        Err(FillError::NotPresent)
+    }
+}
+
+impl<'a> Files for Host<'a> {
+    type File = Bytes<'a>;
+
+    type Dir = Bytes<'a>;
+
+    fn open_file(&self, _how: &OpenOptions, path: &str) -> io::Result<Bytes<'a>> {
+        match self.file {
+            Some(file) if path == "a.amqp" => Ok(file),
+            _ => Err(io::Error::from(ErrorKind::NotFound)),
+        }
+    }
+
+    fn open_dir(&self, _path: &str) -> io::Result<Bytes<'a>> {
+        Err(io::Error::from(ErrorKind::Unsupported))
+    }
+
+    fn metadata(&self, _path: &str) -> io::Result<Metadata> {
+        Err(io::Error::from(ErrorKind::Unsupported))
+    }
+
+    fn symlink_metadata(&self, _path: &str) -> io::Result<Metadata> {
+        Err(io::Error::from(ErrorKind::Unsupported))
+    }
+
+    fn copy(&self, _from: &str, _to: &str) -> io::Result<u64> {
+        Err(io::Error::from(ErrorKind::Unsupported))
+    }
+
+    fn rename(&self, _from: &str, _to: &str) -> io::Result<()> {
+        Err(io::Error::from(ErrorKind::Unsupported))
+    }
+
+    fn remove_file(&self, _path: &str) -> io::Result<()> {
+        Err(io::Error::from(ErrorKind::Unsupported))
+    }
+
+    fn create_dir(&self, _path: &str) -> io::Result<()> {
+        Err(io::Error::from(ErrorKind::Unsupported))
+    }
+
+    fn remove_dir(&self, _path: &str) -> io::Result<()> {
+        Err(io::Error::from(ErrorKind::Unsupported))
+    }
+
+    fn remove_dir_all<B: std::alloc::Allocator>(&self, _alloc: B, _path: &str) -> io::Result<()> {
+        Err(io::Error::from(ErrorKind::Unsupported))
+    }
+}
+
+/// It reaches no other.
+impl Net for Host<'_> {
+    type Stream = TcpStream;
+
+    type Listener = TcpListener;
+
+    fn bind(&self, _addr: SocketAddr) -> io::Result<TcpListener> {
+        Err(io::Error::from(ErrorKind::Unsupported))
+    }
+
+    fn connect(&self, _addr: SocketAddr) -> io::Result<TcpStream> {
+        Err(io::Error::from(ErrorKind::ConnectionRefused))
+    }
+}
+
+/// A host whose words are these.
+fn host_of<'a>(alloc: Global, words: &'a [&'a str], file: Option<Bytes<'a>>) -> Host<'a> {
+    Host {
+        alloc,
+        words,
+        file,
+        input: &[],
+        is_shut: false,
+        out: RefCell::new(String::new(alloc)),
+        err: RefCell::new(String::new(alloc)),
+    }
+}
+
+/// The same of a host with this standard input.
+fn host_fed<'a>(alloc: Global, words: &'a [&'a str], input: &'a [u8]) -> Host<'a> {
+    Host {
+        alloc,
+        words,
+        file: None,
+        input,
+        is_shut: false,
+        out: RefCell::new(String::new(alloc)),
+        err: RefCell::new(String::new(alloc)),
+    }
+}
+
+const LINE: &str = "header id=0 version=1.0.0\n";
+
+/// The lines of a header and a cut frame.
+const CUT_LINES: &str = "header id=0 version=1.0.0\nfault: 8 Cut\n";
+
+/// Runs the program on this file if any, and asserts how it ends and what it writes.
+fn assert_ends(rt: &impl Abort, host: Host<'_>, status: ExitCode, out: &str, err: &str) {
+    assert!(rt; run(&host) == status);
+    let (printed, told) = (host.out.into_inner(), host.err.into_inner());
+    assert_eq!(rt; (printed.as_str(), told.as_str()), (out, err));
+}
+
+/// A file that gives its bytes and ends.
+fn whole<'a>(bytes: &'a [u8]) -> Option<Bytes<'a>> {
+    Some(Bytes {
+        bytes,
+        is_broken: false,
+    })
+}
+
+/// One that gives them and fails.
+fn broken<'a>(bytes: &'a [u8]) -> Option<Bytes<'a>> {
+    Some(Bytes {
+        bytes,
+        is_broken: true,
+    })
+}
+
+#[test]
+fn answers_by_status_and_standard_error(rt: HostRuntime) {
+    let words = ["amqp", "dump", "a.amqp"];
+    let header = HEADER.as_slice();
+    let cut = b"AMQP\x00\x01\x00\x00\x00".as_slice();
+    for (file, is_shut, status, out, err) in [
+        (whole(header), false, ExitCode::SUCCESS, LINE, ""),
+        (whole(cut), false, ExitCode::FAILURE, CUT_LINES, ""),
+        (
+            broken(header),
+            false,
+            ExitCode::FAILURE,
+            LINE,
+            "fault: Read\n",
+        ),
+        (None, false, ExitCode::FAILURE, "", "fault: Open\n"),
+        (whole(header), true, ExitCode::FAILURE, "", "fault: Write\n"),
+    ] {
+        let mut host = host_of(rt.alloc(), &words, file);
+        host.is_shut = is_shut;
+        assert_ends(&rt, host, status, out, err);
+    }
+}
+
+#[test]
+fn dumps_standard_input(rt: HostRuntime) {
+    let words: [&str; 3] = ["amqp", "dump", "-"];
+    let host = host_fed(rt.alloc(), &words, HEADER.as_slice());
+    assert_ends(&rt, host, ExitCode::SUCCESS, LINE, "");
+    let host = host_fed(rt.alloc(), &words, b"AMQP\x00\x01\x00\x00\x00");
+    assert_ends(&rt, host, ExitCode::FAILURE, CUT_LINES, "");
+}
+
+#[test]
+fn runs_a_script(rt: HostRuntime) {
+    let words = ["amqp", "replay", "a.amqp"];
+    let good = b"config r 512 0 1 4 10 100\nfeed 414d5150\nfinish\n".as_slice();
+    let bad = b"config r 512 0 1 4 10 100\nheld\nfeed 4\n".as_slice();
+    let lines = "used=4 More\nend Inside 4\n";
+    for (file, is_shut, status, out, err) in [
+        (whole(good), false, ExitCode::SUCCESS, lines, ""),
+        (whole(bad), false, ExitCode::FAILURE, "", "fault: line 3\n"),
+        (broken(good), false, ExitCode::FAILURE, "", "fault: Read\n"),
+        (None, false, ExitCode::FAILURE, "", "fault: Open\n"),
+        (whole(good), true, ExitCode::FAILURE, "", "fault: Write\n"),
+    ] {
+        let mut host = host_of(rt.alloc(), &words, file);
+        host.is_shut = is_shut;
+        assert_ends(&rt, host, status, out, err);
+    }
+}
+
+#[test]
+fn says_that_an_address_is_not_open(rt: HostRuntime) {
+    let send: [&str; 5] = ["amqp", "send", "--to", "127.0.0.1:5672", "a.amqp"];
+    for file in [whole(b"hi"), None] {
+        let host = host_of(rt.alloc(), &send, file);
+        assert_ends(&rt, host, ExitCode::FAILURE, "", "fault: Open\n");
+    }
+    let recv: [&str; 4] = ["amqp", "recv", "--listen", "127.0.0.1:5672"];
+    let host = host_of(rt.alloc(), &recv, None);
+    assert_ends(&rt, host, ExitCode::FAILURE, "", "fault: Open\n");
+}
+
+#[test]
+fn answers_a_command_line(rt: HostRuntime) {
+    let alloc = rt.alloc();
+    let host = host_of(alloc, &["amqp", "--version"], None);
+    assert_ends(&rt, host, ExitCode::SUCCESS, "amqp 0.1.0\n", "");
+    let lines: [&[&str]; 9] = [
+        &["amqp"],
+        &["amqp", "dump"],
+        &["amqp", "dump", "a", "b"],
+        &["amqp", "replay"],
+        &["amqp", "send", "a"],
+        &["amqp", "recv"],
+        &["amqp", "recv", "--listen", "a:1", "--allowed", "0"],
+        &["amqp", "recv", "--listen", "a:1", "--connections", "1001"],
+        &["amqp", "recv", "--listen", "a:1", "--max-frame", "x"],
+    ];
+    for words in lines {
+        let host = host_of(alloc, words, None);
+        assert!(rt; run(&host) == ExitCode::from(2));
+        assert_eq!(rt; host.out.into_inner().as_str(), "");
+    }
+}
