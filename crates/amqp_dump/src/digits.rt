@@ -6,31 +6,56 @@ use crate::page::Page;
 use std::alloc::AllocError;
 use uuid::Uuid;
 
-/// How many bytes of a binary are turned into digits at a time.
+/// The most bytes of a binary whose digits are put four bytes at a time.
+const FEW: usize = 16;
+
+/// How many bytes of a longer one are turned into digits at a time.
 const RUN: usize = 64;
+
+/// The digit zero in each of eight bytes.
+const ZEROS: u64 = 0x3030_3030_3030_3030;
 
 /// The digits of numbers below 16.
 const HEX: [u8; 16] = *b"0123456789abcdef";
 
-/// How many digits a number has at most.
-const DIGITS: usize = 20;
+/// The numbers below it have eight digits at most.
+const EIGHT_DIGITS: u64 = 100_000_000;
 
 /// Appends a number in decimal digits.
+#[inline(always)]
 pub fn put_number(out: &mut Page, number: u64) -> Result<(), AllocError>
     ensures { OnOk result (out.new.whole ≡ out.old.whole) }
 {
     if number < 10 {
         return out.put_byte(b'0' + number as u8);
     }
-    let mut room = [0u8; DIGITS];
-    let mut at = DIGITS;
-    let mut left = number;
-    while at > 0 && left > 0 {
-        at -= 1;
-        room[at] = b'0' + (left % 10) as u8;
-        left /= 10;
+    put_digits(out, number)
+}
+
+/// The same, for numbers of two digits and more.
+fn put_digits(out: &mut Page, number: u64) -> Result<(), AllocError>
+    ensures { OnOk result (out.new.whole ≡ out.old.whole) }
+{
+    if number >= EIGHT_DIGITS {
+        put_digits(out, number / EIGHT_DIGITS)?;
+        let digits = digits_of(number % EIGHT_DIGITS) | ZEROS;
+        return out.put(&digits.to_le_bytes());
     }
-    out.put(&room[at..])
+    let digits = digits_of(number);
+    let zeros = (digits.trailing_zeros() / 8).min(7);
+    let text = (digits | ZEROS) >> (8 * zeros);
+    out.put_short(text.to_le_bytes(), zeros as usize)
+}
+
+/// The eight digits of a number below [`EIGHT_DIGITS`], one a byte, the first in the lowest: the number is cut
+/// into halves, both halves at once into pairs, and all pairs into digits. `10_486 >> 20` and `103 >> 10` stand for
+/// a hundredth and a tenth.
+fn digits_of(number: u64) -> u64 {
+    let halves = number / 10_000 | (number % 10_000) << 32;
+    let hundreds = (halves.wrapping_mul(10_486) >> 20) & 0x0000_007f_0000_007f;
+    let pairs = hundreds | halves.wrapping_sub(hundreds.wrapping_mul(100)) << 16;
+    let tens = (pairs.wrapping_mul(103) >> 10) & 0x000f_000f_000f_000f;
+    tens | pairs.wrapping_sub(tens.wrapping_mul(10)) << 8
 }
 
 /// Appends a number of so many bytes in two's complement.
@@ -54,8 +79,36 @@ pub fn put_signed(out: &mut Page, width: usize, number: u64) -> Result<(), Alloc
 pub fn put_hex(out: &mut Page, bytes: &[u8]) -> Result<(), AllocError>
     ensures { OnOk result (out.new.whole ≡ out.old.whole) }
 {
+    if bytes.len() <= FEW {
+        return put_few(out, bytes);
+    }
     for run in bytes.chunks(RUN) {
         put_run(out, run)?;
+    }
+    Ok(())
+}
+
+/// Appends two digits for each byte, four bytes at a time.
+fn put_few(out: &mut Page, bytes: &[u8]) -> Result<(), AllocError>
+    ensures { OnOk result (out.new.whole ≡ out.old.whole) }
+{
+    for four in bytes.chunks(4) {
+        put_four(out, four)?;
+    }
+    Ok(())
+}
+
+/// Appends two digits for each of at most four bytes, those of four at once.
+#[inline(always)]
+fn put_four(out: &mut Page, bytes: &[u8]) -> Result<(), AllocError>
+    ensures { OnOk result (out.new.whole ≡ out.old.whole) }
+{
+    if let [a, b, c, d] = *bytes {
+        let ([a, e], [b, f], [c, g], [d, h]) = (hex_of(a), hex_of(b), hex_of(c), hex_of(d));
+        return out.put(&[a, e, b, f, c, g, d, h]);
+    }
+    for byte in bytes {
+        out.put(&hex_of(*byte))?;
     }
     Ok(())
 }
@@ -120,14 +173,22 @@ fn is_plain(byte: u8) -> bool {
 
 /// `\x` and the two digits of a byte.
 fn escaped(byte: u8) -> [u8; 4] {
-    let high = HEX[usize::from(byte / 16)];
-    let low = HEX[usize::from(byte % 16)];
+    let [high, low] = hex_of(byte);
     [b'\\', b'x', high, low]
+}
+
+/// The two hex digits of a byte.
+fn hex_of(byte: u8) -> [u8; 2] {
+    [HEX[usize::from(byte / 16)], HEX[usize::from(byte % 16)]]
 }
 
 /// The number in the bytes, big-endian; of more than eight the last ones count.
 pub fn number_in(bytes: &[u8]) -> u64 {
-    bytes
-        .iter()
-        .fold(0u64, |number, byte| (number << 8) | u64::from(*byte))
+    match *bytes {
+        [a] => u64::from(a),
+        [a, b, c, d] => u64::from(u32::from_be_bytes([a, b, c, d])),
+        _ => bytes
+            .iter()
+            .fold(0u64, |number, byte| (number << 8) | u64::from(*byte)),
+    }
 }

@@ -69,12 +69,19 @@ fn put_body(out: &mut Page, frame: &ScannedFrame<'_>) -> Result<(), AllocError>
     out.put(name.as_bytes())?;
     out.put_byte(b' ')?;
     put_value(out, LIMITS.depth, shown)?;
-    out.put(b" payload=")?;
-    put_number(out, frame.payload as u64)?;
+    put_payload(out, frame.payload)?;
     if performative.is_some() && !frame.is_performative {
         out.put(b" invalid")?;
     }
     Ok(())
+}
+
+/// Appends ` payload=N`.
+fn put_payload(out: &mut Page, payload: usize) -> Result<(), AllocError>
+    ensures { OnOk result (out.new.whole ≡ out.old.whole) }
+{
+    out.put(b" payload=")?;
+    put_number(out, payload as u64)
 }
 
 /// Appends `fault: PLACE NAME`.

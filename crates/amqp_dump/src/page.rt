@@ -44,13 +44,25 @@ impl Page {
     }
 
     /// Puts bytes into the line.
+    #[inline(always)]
     pub fn put(&mut self, text: &[u8]) -> Result<(), AllocError>
         ensures { self.new.whole ≡ self.old.whole }
     {
         self.bytes.extend_from_slice(text)
     }
 
+    /// Puts the bytes of a short text into the line, but for the last ones, which are `spare`.
+    #[inline(always)]
+    pub fn put_short(&mut self, text: [u8; 8], spare: usize) -> Result<(), AllocError>
+        ensures { self.new.whole ≡ self.old.whole }
+    {
+        self.bytes.extend_from_slice(&text)?;
+        self.bytes.truncate(self.bytes.len() - spare.min(8));
+        Ok(())
+    }
+
     /// Puts a byte into the line.
+    #[inline(always)]
     pub fn put_byte(&mut self, byte: u8) -> Result<(), AllocError>
         ensures { self.new.whole ≡ self.old.whole }
     {

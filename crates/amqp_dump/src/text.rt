@@ -19,6 +19,7 @@ use std::alloc::AllocError;
 ///
 /// Where memory is refused, a beginning of the text may stand in `out`.
 #[cycle(text)]
+#[inline(always)]
 pub fn put_value<'a>(out: &mut Page, depth: usize, bytes: &'a [u8]) -> Result<&'a [u8], AllocError>
     ensures { OnOk result (out.new.whole ≡ out.old.whole) }
 {
@@ -58,15 +59,24 @@ fn put_data<'a>(
     ensures { OnOk result (out.new.whole ≡ out.old.whole) }
 {
     match code {
-        0x45 => {
-            out.put(b"[]")?;
+        0x40..=0x4f => {
+            put_empty(out, code)?;
             Ok(bytes)
         }
-        0xa0 | 0xa1 | 0xa3 => put_octets(out, code, 1, bytes),
-        0xb0 | 0xb1 | 0xb3 => put_octets(out, code, 4, bytes),
-        0xc0 | 0xc1 | 0xe0 => put_parts(out, depth, code, 1, bytes),
-        0xd0 | 0xd1 | 0xf0 => put_parts(out, depth, code, 4, bytes),
-        _ => put_fixed(out, code, bytes),
+        0x56 => put_boolean(out, bytes),
+        0x50..=0xbf => put_scalar(out, code, width_of(code), bytes),
+        _ => put_parts(out, depth, code, width_of(code), bytes),
+    }
+}
+
+/// How wide the data behind a code are, or their size where it differs. [1.2]
+fn width_of(code: u8) -> usize {
+    match code >> 4 {
+        6 => 2,
+        7 | 0xb | 0xd | 0xf => 4,
+        8 => 8,
+        9 => 16,
+        _ => 1,
     }
 }
 
@@ -184,8 +194,33 @@ fn put_items<'a>(
     Ok(rest)
 }
 
-/// Appends the text of a binary, a string or a symbol, whose size has that width.
-fn put_octets<'a>(
+/// Appends the text of a value that has no data.
+#[inline(always)]
+fn put_empty(out: &mut Page, code: u8) -> Result<(), AllocError>
+    ensures { OnOk result (out.new.whole ≡ out.old.whole) }
+{
+    match code {
+        0x41 => out.put(b"true"),
+        0x42 => out.put(b"false"),
+        0x43 => out.put(b"uint:0"),
+        0x44 => out.put(b"ulong:0"),
+        0x45 => out.put(b"[]"),
+        _ => out.put(b"null"),
+    }
+}
+
+/// Appends the text of a boolean in a byte.
+fn put_boolean<'a>(out: &mut Page, bytes: &'a [u8]) -> Result<&'a [u8], AllocError>
+    ensures { OnOk result (out.new.whole ≡ out.old.whole) }
+{
+    let (data, rest) = front(bytes, 1);
+    put_empty(out, if number_in(data) == 1 { 0x41 } else { 0x42 })?;
+    Ok(rest)
+}
+
+/// Appends the name of a value's kind, a colon and its content. The data, or their size, have that width.
+#[inline(always)]
+fn put_scalar<'a>(
     out: &mut Page,
     code: u8,
     width: usize,
@@ -193,9 +228,14 @@ fn put_octets<'a>(
 ) -> Result<&'a [u8], AllocError>
     ensures { OnOk result (out.new.whole ≡ out.old.whole) }
 {
-    let (size, rest) = front(bytes, width);
-    let (octets, rest) = front(rest, number_in(size) as usize);
-    out.put(label(code))?;
+    put_kind(out, code)?;
+    out.put_byte(b':')?;
+    let (data, rest) = front(bytes, width);
+    if code < 0xa0 {
+        put_fixed(out, code, data)?;
+        return Ok(rest);
+    }
+    let (octets, rest) = front(rest, number_in(data) as usize);
     match code {
         0xa0 | 0xb0 => put_hex(out, octets)?,
         _ => put_quoted(out, octets)?,
@@ -203,49 +243,18 @@ fn put_octets<'a>(
     Ok(rest)
 }
 
-/// Appends the text of a value of fixed width. The first digit of its code says how wide that is. [1.2]
-fn put_fixed<'a>(out: &mut Page, code: u8, bytes: &'a [u8]) -> Result<&'a [u8], AllocError>
+/// Appends the content of a value whose data are of fixed width.
+#[inline(always)]
+fn put_fixed(out: &mut Page, code: u8, data: &[u8]) -> Result<(), AllocError>
     ensures { OnOk result (out.new.whole ≡ out.old.whole) }
 {
-    let width = match code >> 4 {
-        5 => 1,
-        6 => 2,
-        7 => 4,
-        8 => 8,
-        9 => 16,
-        _ => 0,
-    };
-    let (data, rest) = front(bytes, width);
     match code {
-        0x40 => out.put(b"null")?,
-        0x41 | 0x42 | 0x56 => put_boolean(out, code == 0x41 || number_in(data) == 1)?,
-        0x72 | 0x73 | 0x74 | 0x82 | 0x84 | 0x94 => {
-            out.put(label(code))?;
-            put_hex(out, data)?;
-        }
-        0x98 => {
-            out.put(label(code))?;
-            put_uuid(out, data)?;
-        }
+        0x72 | 0x73 | 0x74 | 0x82 | 0x84 | 0x94 => put_hex(out, data),
+        0x98 => put_uuid(out, data),
         0x51 | 0x54 | 0x55 | 0x61 | 0x71 | 0x81 | 0x83 => {
-            out.put(label(code))?;
-            put_signed(out, width, number_in(data))?;
+            put_signed(out, data.len(), number_in(data))
         }
-        _ => {
-            out.put(label(code))?;
-            put_number(out, number_in(data))?;
-        }
-    }
-    Ok(rest)
-}
-
-fn put_boolean(out: &mut Page, flag: bool) -> Result<(), AllocError>
-    ensures { OnOk result (out.new.whole ≡ out.old.whole) }
-{
-    if flag {
-        out.put(b"true")
-    } else {
-        out.put(b"false")
+        _ => put_number(out, number_in(data)),
     }
 }
 
@@ -253,38 +262,32 @@ fn put_boolean(out: &mut Page, flag: bool) -> Result<(), AllocError>
 fn put_kind(out: &mut Page, code: u8) -> Result<(), AllocError>
     ensures { OnOk result (out.new.whole ≡ out.old.whole) }
 {
-    let label = label(code);
-    out.put(&label[..label.len().saturating_sub(1)])
-}
-
-/// The name of the kind that a code makes, and a colon. [1.6]
-fn label(code: u8) -> &'static [u8] {
     match code {
-        0x40 => b"null:",
-        0x41 | 0x42 | 0x56 => b"boolean:",
-        0x50 => b"ubyte:",
-        0x60 => b"ushort:",
-        0x43 | 0x52 | 0x70 => b"uint:",
-        0x44 | 0x53 | 0x80 => b"ulong:",
-        0x51 => b"byte:",
-        0x61 => b"short:",
-        0x54 | 0x71 => b"int:",
-        0x55 | 0x81 => b"long:",
-        0x72 => b"float:",
-        0x82 => b"double:",
-        0x74 => b"decimal32:",
-        0x84 => b"decimal64:",
-        0x94 => b"decimal128:",
-        0x73 => b"char:",
-        0x83 => b"timestamp:",
-        0x98 => b"uuid:",
-        0xa0 | 0xb0 => b"binary:",
-        0xa1 | 0xb1 => b"string:",
-        0xa3 | 0xb3 => b"symbol:",
-        0x45 | 0xc0 | 0xd0 => b"list:",
-        0xc1 | 0xd1 => b"map:",
-        0xe0 | 0xf0 => b"array:",
-        _ => b"",
+        0x40 => out.put(b"null"),
+        0x41 | 0x42 | 0x56 => out.put(b"boolean"),
+        0x50 => out.put(b"ubyte"),
+        0x60 => out.put(b"ushort"),
+        0x43 | 0x52 | 0x70 => out.put(b"uint"),
+        0x44 | 0x53 | 0x80 => out.put(b"ulong"),
+        0x51 => out.put(b"byte"),
+        0x61 => out.put(b"short"),
+        0x54 | 0x71 => out.put(b"int"),
+        0x55 | 0x81 => out.put(b"long"),
+        0x72 => out.put(b"float"),
+        0x82 => out.put(b"double"),
+        0x74 => out.put(b"decimal32"),
+        0x84 => out.put(b"decimal64"),
+        0x94 => out.put(b"decimal128"),
+        0x73 => out.put(b"char"),
+        0x83 => out.put(b"timestamp"),
+        0x98 => out.put(b"uuid"),
+        0xa0 | 0xb0 => out.put(b"binary"),
+        0xa1 | 0xb1 => out.put(b"string"),
+        0xa3 | 0xb3 => out.put(b"symbol"),
+        0x45 | 0xc0 | 0xd0 => out.put(b"list"),
+        0xc1 | 0xd1 => out.put(b"map"),
+        0xe0 | 0xf0 => out.put(b"array"),
+        _ => Ok(()),
     }
 }
 

@@ -1,14 +1,14 @@
 -- What an endpoint ends as, once what it lent to be read into has ended.
-use Rattle.std.specs.Prelude.{ℕ, List}
+use Rattle.std.specs.Prelude.{ℕ, List, length}
 use Rattle.std.specs.Borrow.{Lends, MutBor, Fml, Array, u8, RattleType}
 use Rattle.std.specs.declared.alloc.Allocator.{Ghosts}
 use Rattle.amqp_frame.specs.SplitLends as splitter
 use Rattle.amqp_endpoint.specs.Steps.{EndpointState}
 use Rattle.amqp_endpoint.specs.contracts.endpoint.Endpoint.{the_row}
 
--- the endpoint once these were written behind what its buffer holds, where they say nothing
-abbrev pub with_read : EndpointState → List ℕ → EndpointState
-with_read s ws = record s { input = splitter.with_read s.input ws }
+-- the endpoint once these were written into n bytes that were lent behind what its buffer holds, where they say nothing
+abbrev pub with_read : EndpointState → ℕ → List ℕ → EndpointState
+with_read s n ws = record s { input = splitter.with_read s.input n ws }
 
 abbrev pub LendsRoom : (A : RattleType) (heap : Ghosts A.Denot) → MutBor EndpointState → MutBor (List ℕ) → Fml
-LendsRoom A heap s r = Lends (the_row A heap) (Array u8 0) s r (with_read s.now)
+LendsRoom A heap s r = Lends (the_row A heap) (Array u8 0) s r (with_read s.now (length r.now))

@@ -70,12 +70,14 @@ abbrev pub IsNext : ℕ → Stage → List ℕ → Option Stage → Type 0
 IsNext max stage bytes None = IsOne max stage bytes → ⊥
 IsNext max stage bytes (Some next) = (u : StreamUnit) × Stands max stage bytes u × (next ≡ due_after u)
 
--- The largest frame accepted, what is due, the bytes that came of it, and the bytes of the buffer behind them, which say nothing.
+-- The largest frame accepted, what is due, the bytes that came of it, the bytes of the buffer behind them, which say nothing, and how many of
+-- those were lent or filled before.
 pub record SplitterState : Type 0 where
   pub limit : ℕ
   pub stage : Stage
   pub filled : List ℕ
   pub spare : List ℕ
+  pub reach : ℕ
 
 -- how far the frame has come, where one is due
 abbrev pub IsJudged : ℕ → Stage → List ℕ → Progress → Type 0

@@ -1,5 +1,7 @@
-//! The buffer of a splitter: it is as long as the longest frame from the start, and its front is filled.
-ghost use Rattle.std.specs.Prelude.{◌≡◌, ℕ, ◌+◌, ◌<◌, ◌≤◌, slice_index, ◌++◌, [], List, length, take, drop, IfOk};
+//! The buffer of a splitter: room for the longest frame is reserved at once, its bytes are zeroed when they are first lent, and its front
+//! is filled.
+ghost use Rattle.std.specs.Prelude.{◌≡◌, ℕ, ◌+◌, ◌-◌, ◌<◌, ◌≤◌, slice_index, ◌++◌, [], length, take, drop, replicate, IfOk};
+ghost use Rattle.std.specs.Vec.{vec_capacity};
 ghost use Rattle.std.specs.Borrow.{sem};
 ghost use Rattle.amqp_frame.specs.Rooms.{Filled, whole_length};
 ghost use Rattle.amqp_frame.specs.RoomLends.{LendsSpare};
@@ -10,39 +12,44 @@ use std::marker::Model;
 /// A buffer whose front is filled.
 #[derive(Drop)]
 pub struct Room<A: Allocator + Copy = Global> {
+    max: usize,
     mark: usize,
+    /// As many as were lent or filled before, in a block of `max`.
     bytes: Vec<u8, A>,
 }
 
 impl<A: Allocator + Copy> Model for Room<A> {
-    ghost use Rattle.std.specs.Prelude.{◌≤◌, length, take, drop};
+    ghost use Rattle.std.specs.Prelude.{◌≤◌, ◌-◌, ◌++◌, length, take, drop, replicate};
+    ghost use Rattle.std.specs.Vec.{vec_capacity};
     ghost use Rattle.amqp_frame.specs.Rooms.{Filled};
 
     ghost Value = { Filled };
 
-    ghost view = { λ a. record { filled = take a.mark a.bytes.items; spare = drop a.mark a.bytes.items } };
+    ghost view = { λ a. record { filled = take a.mark a.bytes.items; spare = drop a.mark a.bytes.items ++ replicate (a.max - length a.bytes.items) 0; reach = length a.bytes.items - a.mark } };
 
-    ghost invariant = { λ a. a.mark ≤ length a.bytes.items };
+    ghost invariant = { λ a. (a.mark ≤ length a.bytes.items) × (length a.bytes.items ≤ a.max) × (a.max ≤ vec_capacity a.bytes) };
 }
 
 impl<A: Allocator + Copy> Room<A> {
-    /// Room for so many bytes.
+    /// Room for so many bytes, which is reserved at once.
     pub fn new(alloc: A, max: usize) -> Result<Self, AllocError>
         ensures { IfOk result (λ b. (b.filled ≡ []) × (whole_length b ≡ max)) }
     {
         Ok(Room {
+            max,
             mark: 0,
-            bytes: Vec::from_elem(alloc, 0, max)?,
+            bytes: Vec::with_capacity(alloc, max)?,
         })
     }
 
-    /// Lends the first `n` bytes behind what is filled.
+    /// Lends the first `n` bytes behind what is filled, which are zeroed if they never were.
     pub fn spare(&mut self, n: usize) -> &mut [u8]
         requires { n ≤ length self.old.spare }
         ensures* writes_back { sem 𝓛 (LendsSpare A.row A.Allocator self.entry result) }
         ensures value { result.now ≡ take n self.old.spare }
     {
         let mark = self.mark;
+        reach(&mut self.bytes, mark + n);
         self.bytes.slice_mut(mark..mark + n)
     }
 
@@ -53,6 +60,7 @@ impl<A: Allocator + Copy> Room<A> {
         ensures spare { self.new.spare ≡ drop n self.old.spare }
         ensures whole { whole_length self.new ≡ whole_length self.old }
     {
+        reach(&mut self.bytes, self.mark + n);
         self.mark += n;
     }
 
@@ -92,8 +100,37 @@ impl<A: Allocator + Copy> Room<A> {
     pub fn len(&self) -> usize
         ensures { result ≡ length self.now.filled }
     {
-        let Room { mark, bytes: _ } = self;
+        let Room {
+            max: _,
+            mark,
+            bytes: _,
+        } = self;
         *mark
+    }
+}
+
+/// Zeroes what lacks of the first `end` bytes.
+fn reach<A: Allocator>(bytes: &mut Vec<u8, A>, end: usize)
+    requires { end ≤ vec_capacity bytes.old }
+    ensures items { bytes.new.items ≡ bytes.old.items ++ replicate (end - length bytes.old.items) 0 }
+    ensures capacity { vec_capacity bytes.old ≤ vec_capacity bytes.new }
+{
+    if bytes.len() < end {
+        lengthen(bytes, end);
+    }
+}
+
+/// The part of `reach` that writes, apart so that the test is inlined.
+#[cold]
+#[inline(never)]
+fn lengthen<A: Allocator>(bytes: &mut Vec<u8, A>, end: usize)
+    requires fits { end ≤ vec_capacity bytes.old }
+    requires longer { length bytes.old.items ≤ end }
+    ensures items { bytes.new.items ≡ bytes.old.items ++ replicate (end - length bytes.old.items) 0 }
+    ensures capacity { vec_capacity bytes.old ≤ vec_capacity bytes.new }
+{
+    if bytes.resize(end, 0).is_err() {
+        unreachable!();
     }
 }
 

@@ -28,7 +28,7 @@ impl<A: Allocator + Copy> Model for Splitter<A> {
 
     ghost Value = { SplitterState };
 
-    ghost view = { λ a. record { limit = a.limit; stage = a.stage; filled = a.bytes.filled; spare = a.bytes.spare } };
+    ghost view = { λ a. record { limit = a.limit; stage = a.stage; filled = a.bytes.filled; spare = a.bytes.spare; reach = a.bytes.reach } };
 
     ghost invariant = { λ a. IsSound a.limit a.stage a.bytes.filled (whole_length a.bytes) a.progress };
 }

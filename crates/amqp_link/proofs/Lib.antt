@@ -16,5 +16,7 @@ pub mod PlaceKeys
 pub mod Closings
 pub mod KeptPlaces
 pub mod Settles
+pub mod Hints
 pub mod KeptSettles
 pub mod Bounds
+pub mod Iterated

@@ -21,7 +21,7 @@ covers_range first last id = (
 )
 
 -- a range of one id has that id alone
-covers_itself : (id : ℕ) → id < 2 ^ 32 → covers id id id ≡ true
+pub covers_itself : (id : ℕ) → id < 2 ^ 32 → covers id id id ≡ true
 covers_itself id l = (covers_range id id id).1 (omega (arith, l), omega arith)
 
 covers_one : (id x : ℕ) → id < 2 ^ 32 → x < 2 ^ 32 → covers id id x ≡ true → id ≡ x
@@ -30,19 +30,19 @@ covers_one id x l m e = let r = (covers_range id id x).0 e in omega (arith, l, m
 -- Settling by a test of the id. ------------------------------------------------------------------------------------
 
 -- settled where the test holds
-abbrev settled_if : (ℕ → Bool) → Delivery → Delivery
+abbrev pub settled_if : (ℕ → Bool) → Delivery → Delivery
 settled_if p d = record d { settled = d.settled || p d.delivery_id }
 
-abbrev newly_if : (ℕ → Bool) → Delivery → Bool
+abbrev pub newly_if : (ℕ → Bool) → Delivery → Bool
 newly_if p d = not d.settled && p d.delivery_id
 
-abbrev left_by : (ℕ → Bool) → List Delivery → List Delivery
+abbrev pub left_by : (ℕ → Bool) → List Delivery → List Delivery
 left_by p ds = filter (λ d. not (p d.delivery_id)) ds
 
-abbrev settled_where : (ℕ → Bool) → OpenSet → OpenSet
+abbrev pub settled_where : (ℕ → Bool) → OpenSet → OpenSet
 settled_where p o = record { awaiting = left_by p o.awaiting; ready = map (settled_if p) o.ready; unfinished = option_map (settled_if p) o.unfinished }
 
-abbrev either : (ℕ → Bool) → (ℕ → Bool) → ℕ → Bool
+abbrev pub either : (ℕ → Bool) → (ℕ → Bool) → ℕ → Bool
 either q p x = q x || p x
 
 set_of : List Delivery → List Delivery → Option Delivery → OpenSet
@@ -195,6 +195,26 @@ module _ (p q : ℕ → Bool) where
   count_agree : (ds : List Delivery) → Agree ds → count_by (newly_if p) ds ≡ count_by (newly_if q) ds
   count_agree [] all = refl
   count_agree (d ∷ ds) all = omega (arith, count_cons (newly_if p) d ds, count_cons (newly_if q) d ds, ap (λ (b : Bool). one_if (not d.settled && b)) all.0, count_agree ds all.1)
+
+-- One range as two, or as none. ------------------------------------------------------------------------------------
+
+module _ (a b : ℕ) (l : LinkState) where
+  -- where the range covers the open deliveries that one of the two covers
+  module _ (c d e f : ℕ) (all : AllByRecursion (λ x. covers a b x.delivery_id ≡ either (covers c d) (covers e f) x.delivery_id) (deliveries l)) where
+    pub settled_in_two : link_after l (SenderSettled a b) ≡ link_after (link_after l (SenderSettled c d)) (SenderSettled e f)
+    settled_in_two =
+        ap (with_open l) (where_agree (covers a b) (either (covers c d) (covers e f)) (open_set l) all ∙ sym (where_twice (covers c d) (covers e f) (open_set l)))
+
+    pub counted_in_two : newly_settled a b (open_set l) ≡ newly_settled c d (open_set l) + newly_settled e f (open_set (link_after l (SenderSettled c d)))
+    counted_in_two = count_agree (covers a b) (either (covers c d) (covers e f)) (deliveries l) all ∙ count_twice (covers c d) (covers e f) (open_set l)
+
+  -- where it covers none
+  module _ (none : AllByRecursion (λ x. covers a b x.delivery_id ≡ false) (deliveries l)) where
+    pub settled_nothing : link_after l (SenderSettled a b) ≡ l
+    settled_nothing = ap (with_open l) (where_agree (covers a b) (λ x. false) (open_set l) none ∙ where_none (open_set l))
+
+    pub counted_nothing : newly_settled a b (open_set l) ≡ 0
+    counted_nothing = count_agree (covers a b) (λ x. false) (deliveries l) none ∙ count_none (deliveries l)
 
 -- One by one. ------------------------------------------------------------------------------------------------------
 

@@ -1,10 +1,13 @@
 -- How a link keeps its open deliveries, which no public clause names: each under a key, and the keys at places in link order.
-use Rattle.std.specs.Prelude.{◌≡◌, ◌≢◌, ℕ, ◌+◌, ◌*◌, ◌≤◌, List, [], ◌∷◌, ◌++◌, length, map, filter, take, drop, Bool, false, not, ◌&&◌, Option, Some, None, IsSome, option_map, option_to_list, sum_by}
+use Rattle.std.specs.Prelude.{◌≡◌, ◌≢◌, ℕ, ◌+◌, ◌*◌, ◌≤◌, List, [], ◌∷◌, ◌++◌, length, map, filter, take, drop, Bool, false, not, ◌&&◌, if◌then◌else◌, Option, Some, None, IsSome, option_map, option_to_list, sum_by}
 use Rattle.std.specs.Prelude.{count_by}
 use Rattle.std.specs.List.{AllByRecursion}
 use Rattle.slab.specs.Slab.{Slab, get, ContainsKey, slab_len}
 use Rattle.amqp_perform.specs.declared.modes.ReceiverSettleMode.TheVariants.{First}
 use Rattle.amqp_link.specs.declared.open_delivery.OpenDelivery.{OpenDelivery}
+use Rattle.amqp_link.specs.declared.open_delivery.Hint.{Hint}
+use Rattle.amqp_link.specs.declared.open_delivery.Hint.TheVariants.{Unknown, Nowhere, At}
+use Rattle.amqp_link.specs.declared.open_delivery.Hints.{Hints}
 use Rattle.amqp_link.specs.declared.open_delivery.Question.{Question}
 use Rattle.amqp_link.specs.declared.open_delivery.Question.TheVariants.{HasId, IsCovered, IsTold}
 use Rattle.amqp_link.specs.declared.open_delivery.Settler.{Settler}
@@ -53,6 +56,17 @@ counts s d = counts_by s.settler s.ids.first s.ids.last d
 abbrev pub settled_list : Settling → List Delivery → List Delivery
 settled_list s ds = map (turned s) (filter (λ d. not (ends s d)) ds)
 
+-- What is known of where the one stands that has one of the ids: among these it is no second one, or there is none.
+abbrev pub IsHint : Hint → ℕ → ℕ → List Delivery → Type 0
+IsHint Unknown first last ds = Unit {0}
+IsHint Nowhere first last ds = count_by (is_covered first last) ds ≡ 0
+IsHint (At place) first last ds = count_by (is_covered first last) ds ≤ 1
+
+-- the same of those that were handed up and of those that are ready
+pub record AreHints (hints : Hints) (first last : ℕ) (o : OpenSet) : Type 0 where
+  pub awaiting : IsHint hints.handed_up first last o.awaiting
+  pub ready : IsHint hints.ready first last o.ready
+
 -- All of them. ---------------------------------------------------------------------------------------------------
 
 -- the keys at these places
@@ -89,12 +103,37 @@ module _ {A : Type 0} where
   abbrev pub at_key : Slab (OpenDelivery A) → ℕ → Delivery
   at_key slab key = delivery_in (get slab key)
 
+  -- a delivery, if it answers the question by yes
+  abbrev pub answer_of : Question → Option (OpenDelivery A) → Option Delivery
+  answer_of question None = None
+  answer_of question (Some d) = if asks_of question (delivery_of d) then Some (delivery_of d) else None
+
+  -- the one at a place, if it does
+  abbrev pub answer_at : Slab (OpenDelivery A) → Question → Option (Option ℕ) → Option Delivery
+  answer_at slab question None = None
+  answer_at slab question (Some None) = None
+  answer_at slab question (Some (Some key)) = answer_of question (get slab key)
+
+  -- the same deliveries under the same keys: what each was told of its place may differ
+  pub record SameDeliveries (old new : Slab (OpenDelivery A)) : Type 0 where
+    pub under : (key : ℕ) → at_key new key ≡ at_key old key
+    pub there : (key : ℕ) → ContainsKey old key → ContainsKey new key
+    pub only : slab_len new ≡ slab_len old
+
   abbrev pub set_of_keys : Slab (OpenDelivery A) → List ℕ → List ℕ → Option ℕ → OpenSet
   set_of_keys slab awaiting ready unfinished = record { awaiting = map (at_key slab) awaiting; ready = map (at_key slab) ready; unfinished = option_map (at_key slab) unfinished }
 
   -- of the places in link order so many are of what was handed up
   abbrev pub set_at : Slab (OpenDelivery A) → List (Option ℕ) → ℕ → Option ℕ → OpenSet
   set_at slab order handed_up unfinished = set_of_keys slab (keys_of (take handed_up order)) (keys_of (drop handed_up order)) unfinished
+
+  -- the delivery-ids of those at the places from one on, and that of the one that is unfinished
+  abbrev pub ids_at : Slab (OpenDelivery A) → List (Option ℕ) → ℕ → Option ℕ → List ℕ
+  ids_at slab places at unfinished = map (λ key. (at_key slab key).delivery_id) (keys_of (drop at places)) ++ option_to_list unfinished
+
+  -- each key at them has a delivery
+  abbrev pub AreThere : Slab (OpenDelivery A) → List (Option ℕ) → ℕ → Type 0
+  AreThere slab places at = AllByRecursion (ContainsKey slab) (keys_of (drop at places))
 
   -- each key has a delivery, and no key stands twice
   abbrev pub AreKeys : Slab (OpenDelivery A) → List ℕ → Type 0

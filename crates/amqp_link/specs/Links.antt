@@ -297,6 +297,10 @@ told_by first last d = record d { told = d.told || tells first last d }
 abbrev pub receiver_settled_in : ℕ → ℕ → OpenSet → OpenSet
 receiver_settled_in first last o = record o { awaiting = map (told_by first last) (filter (λ d. not (receiver_settles first last d)) o.awaiting) }
 
+-- No two open deliveries have one of these ids. [2.6.12, 2.8.9]
+abbrev pub IsOnce : ℕ → ℕ → OpenSet → Type 0
+IsOnce first last o = count_by (is_covered first last) (in_order o) ≤ 1
+
 -- how many deliveries it settles or tells of
 abbrev pub named_count : ℕ → ℕ → OpenSet → ℕ
 named_count first last o = count_by (is_covered first last) o.awaiting
@@ -322,6 +326,13 @@ standing_at (Some d) = if d.told then Told else Awaiting d.rcv_settle_mode
 -- How the delivery with this id stands, whose id no other open one has. [2.6.12]
 abbrev pub standing_of : ℕ → OpenSet → Standing
 standing_of id o = if list_any (has_id id) (untaken o) then Untaken else standing_at (find (has_id id) o.awaiting)
+
+-- it was handed up, and its receiver has neither settled it nor told of it
+abbrev pub IsAwaiting : Standing → Type 0
+IsAwaiting Absent = ⊥
+IsAwaiting Untaken = ⊥
+IsAwaiting Told = ⊥
+IsAwaiting (Awaiting mode) = Unit {0}
 
 -- the delivery after a disposition of the sender with settled true over these ids [2.7.6]
 abbrev pub sender_settled_by : ℕ → ℕ → Delivery → Delivery

@@ -1,15 +1,16 @@
 //! One link that receives.
-ghost use Rattle.std.specs.Prelude.{◌≡◌, ◌<◌, ◌≤◌, ◌+◌, ◌*◌, ◌^◌, [], length, Option, Some, None, OnOk, OnErr, IfOk, IfErr, IfSome, IfNone, IsSomeAnd, is_none, option_map, true, IsFalse};
+ghost use Rattle.std.specs.Prelude.{◌≡◌, ◌<◌, ◌≤◌, ◌+◌, ◌*◌, ◌^◌, [], length, Option, Some, None, OnOk, OnErr, IfOk, IfErr, IfSome, IfNone, IsSomeAnd, is_none, map, option_map, true, IsFalse};
 ghost use Rattle.std.specs.List.{list_any};
-ghost use Rattle.amqp_link.specs.Links.{LinkState, Delivery, sent_of, Granted, DrainAsked, Transferred, FlowStated, HandedUp, ReceiverSettled, SenderSettled, LinkMay, link_after, link_begins, link_bytes, deliveries, open_set, open_count, first_ready, has_id, fault_of, step_of, is_drained, is_beyond, IsRefusal, with_delivery, delivery_after, may_grow_at, set_bytes, named_count, newly_settled, settle_fault, standing_of};
+ghost use Rattle.amqp_link.specs.Links.{LinkState, Delivery, sent_of, Granted, DrainAsked, Transferred, FlowStated, HandedUp, ReceiverSettled, SenderSettled, LinkMay, link_after, link_begins, link_bytes, deliveries, open_set, open_count, first_ready, has_id, fault_of, step_of, is_drained, is_beyond, IsRefusal, with_delivery, delivery_after, may_grow_at, set_bytes, named_count, newly_settled, settle_fault, standing_of, IsAwaiting, IsOnce};
 ghost use Rattle.amqp_link.specs.Links as spec;
 ghost use Rattle.amqp_link.specs.HandedUps.{IsHandedUp};
-ghost use Rattle.amqp_link.specs.Keeping.{delivery_of};
+ghost use Rattle.amqp_link.specs.Keeping.{delivery_of, AreHints};
 
 use crate::judge;
 use crate::message::Message;
 use crate::open_deliveries::OpenDeliveries;
-use crate::open_delivery::{Ids, OpenDelivery};
+use crate::open_delivery::{Hints, Ids, OpenDelivery, UNKNOWN, one};
+use crate::open_ids::OpenIds;
 use crate::settlement::{SettleFault, Standing};
 use crate::tag::Tag;
 use crate::terms::{LinkBounds, Terms};
@@ -119,7 +120,14 @@ impl<A: Allocator + Copy> Link<A> {
     pub fn unfinished_id(&self) -> Option<u32>
         ensures { result ≡ option_map (λ d. d.delivery_id) self.now.unfinished }
     {
-        Some(self.deliveries.unfinished()?.delivery_id)
+        self.deliveries.unfinished_id()
+    }
+
+    /// The delivery-ids of its open deliveries, in the order in which these began [2.6.12].
+    pub fn open_ids(&self) -> OpenIds<'_, A>
+        ensures { result ≡ map (λ d. d.delivery_id) (deliveries self.now) }
+    {
+        self.deliveries.ids()
     }
 
     /// How many deliveries are open: neither given up nor both handed up and settled [2.6.12].
@@ -283,7 +291,18 @@ impl<A: Allocator + Copy> Link<A> {
         ensures new { self.new ≡ link_after self.old (ReceiverSettled first last) }
         ensures count { result ≡ named_count first last (open_set self.old) }
     {
-        self.deliveries.settle_by_receiver(Ids { first, last }) as u32
+        self.settle_by(UNKNOWN, Ids { first, last })
+    }
+
+    /// The same where this is known of them.
+    fn settle_by(&mut self, hints: Hints, ids: Ids) -> u32
+        requires faultless { settle_fault ids.first ids.last (open_set self.old) ≡ None }
+        requires hints { AreHints hints ids.first ids.last (open_set self.old) }
+        ensures may { LinkMay self.old (ReceiverSettled ids.first ids.last) }
+        ensures new { self.new ≡ link_after self.old (ReceiverSettled ids.first ids.last) }
+        ensures count { result ≡ named_count ids.first ids.last (open_set self.old) }
+    {
+        self.deliveries.settle_by_receiver(hints, ids) as u32
     }
 
     /// The sender settles the ids from `first` to `last` [2.6.12, 2.7.6], also those of deliveries that were
@@ -294,7 +313,68 @@ impl<A: Allocator + Copy> Link<A> {
         ensures count { result ≡ newly_settled first last (open_set self.old) }
         ensures most { result ≤ open_count self.old }
     {
-        self.deliveries.settle_by_sender(Ids { first, last }) as u32
+        self.peer_settled_by(UNKNOWN, Ids { first, last })
+    }
+
+    /// The same where this is known of them.
+    fn peer_settled_by(&mut self, hints: Hints, ids: Ids) -> u32
+        requires { AreHints hints ids.first ids.last (open_set self.old) }
+        ensures new { self.new ≡ link_after self.old (SenderSettled ids.first ids.last) }
+        ensures count { result ≡ newly_settled ids.first ids.last (open_set self.old) }
+        ensures most { result ≤ open_count self.old }
+    {
+        self.deliveries.settle_by_sender(hints, ids) as u32
+    }
+
+    /// The key under which the next delivery is kept, if one begins now.
+    ///
+    /// A key is no more than a hint. A call that is given one looks there first, and then for the id; so it does
+    /// the same under every key, and walks over no other delivery under that of the one with the id.
+    pub fn next_key(&self) -> usize {
+        self.deliveries.next_key()
+    }
+
+    /// [`Link::standing`] of the delivery with this id, which may be kept under this key. No other open delivery
+    /// of the link has the id.
+    pub fn standing_at(&self, key: usize, id: u32) -> Standing
+        requires { IsOnce id id (open_set self.now) }
+        ensures { result ≡ standing_of id (open_set self.now) }
+    {
+        let ids = one(id);
+        let hints = self.deliveries.locate(key, ids);
+        self.deliveries.standing_by(hints, id)
+    }
+
+    /// [`Link::settle`] of the delivery with this id, which may be kept under this key, if it awaits that: it can then be
+    /// settled, and no other open delivery of the link has the id. Else nothing changes. Answers how it stood.
+    pub fn settle_at(&mut self, key: usize, id: u32) -> Standing
+        requires once { IsOnce id id (open_set self.old) }
+        requires faultless { IsAwaiting (standing_of id (open_set self.old)) → settle_fault id id (open_set self.old) ≡ None }
+        ensures standing { result ≡ standing_of id (open_set self.old) }
+        ensures may { IsAwaiting result → LinkMay self.old (ReceiverSettled id id) }
+        ensures new { IsAwaiting result → self.new ≡ link_after self.old (ReceiverSettled id id) }
+        ensures same { ¬ (IsAwaiting result) → self.new ≡ self.old }
+    {
+        let ids = one(id);
+        let hints = self.deliveries.locate(key, ids);
+        let standing = self.deliveries.standing_by(hints, id);
+        if let Standing::Awaiting(_) = standing {
+            self.settle_by(hints, ids);
+        }
+        standing
+    }
+
+    /// [`Link::peer_settled`] of the delivery with this id, which may be kept under this key. No other open
+    /// delivery of the link has the id.
+    pub fn peer_settled_at(&mut self, key: usize, id: u32) -> u32
+        requires { IsOnce id id (open_set self.old) }
+        ensures new { self.new ≡ link_after self.old (SenderSettled id id) }
+        ensures count { result ≡ newly_settled id id (open_set self.old) }
+        ensures most { result ≤ open_count self.old }
+    {
+        let ids = one(id);
+        let hints = self.deliveries.locate(key, ids);
+        self.peer_settled_by(hints, ids)
     }
 
     /// Takes a transfer and its payload [2.6.14]. A refused one changes nothing. The faults are looked
@@ -314,6 +394,24 @@ impl<A: Allocator + Copy> Link<A> {
         if let Some(fault) = self.judge(transfer, payload) {
             return Err(fault);
         }
+        self.transfer_judged(transfer, payload)
+    }
+
+    /// [`Link::transfer`] of a transfer in which [`Link::judge`] finds no fault now, and which is not judged again. Nothing
+    /// is then refused but for want of memory.
+    #[inline(always)]
+    pub fn transfer_judged(
+        &mut self,
+        transfer: &Transfer<'_>,
+        payload: &[u8],
+    ) -> Result<Step, LinkFault>
+        requires { fault_of self.old (sent_of transfer.now payload.now) ≡ None }
+        ensures may { OnOk result (LinkMay self.old (Transferred (sent_of transfer.now payload.now))) }
+        ensures new { OnOk result (self.new ≡ link_after self.old (Transferred (sent_of transfer.now payload.now))) }
+        ensures step { IfOk result (λ step. step ≡ step_of (sent_of transfer.now payload.now)) }
+        ensures refused { IfErr result (λ e. IsRefusal self.old (sent_of transfer.now payload.now) e) }
+        ensures err { OnErr result (self.new ≡ self.old) }
+    {
         let begins = self.next_is_head();
         apply(
             self.alloc,
@@ -329,8 +427,10 @@ impl<A: Allocator + Copy> Link<A> {
         Ok(judge::step(transfer))
     }
 
-    /// The fault of a transfer, but for want of memory.
-    fn judge(&self, transfer: &Transfer<'_>, payload: &[u8]) -> Option<LinkFault>
+    /// The fault with which [`Link::transfer`] would refuse a transfer and its payload now, but for want of memory;
+    /// `None` where it would find none. Takes no memory.
+    #[inline(always)]
+    pub fn judge(&self, transfer: &Transfer<'_>, payload: &[u8]) -> Option<LinkFault>
         ensures { result ≡ fault_of self.now (sent_of transfer.now payload.now) }
     {
         let unfinished = self.deliveries.unfinished();
@@ -415,5 +515,6 @@ fn begun<A: Allocator + Copy>(alloc: A, terms: &Terms, transfer: &Transfer<'_>) 
         settled,
         told: false,
         message: Message::new(alloc),
+        place: 0,
     }
 }

@@ -1,10 +1,11 @@
 //! The open deliveries of a link.
-ghost use Rattle.std.specs.Prelude.{◌≡◌, ◌≤◌, ◌<◌, ◌+◌, ◌^◌, ◌||◌, ◌++◌, ◌∷◌, [], List, length, drop, slice_get, OnOk, OnErr, IfSome, IfNone, IsOk, is_some, option_map, option_to_list, Some, None, find, map, count_by, not, ◌&&◌};
+ghost use Rattle.std.specs.Prelude.{◌≡◌, ◌≤◌, ◌<◌, ◌+◌, ◌^◌, ◌||◌, ◌++◌, ◌∷◌, [], List, length, drop, slice_get, OnOk, OnErr, IfSome, IfNone, IsOk, is_some, option_map, option_to_list, Some, None, true, find, map, count_by, not, ◌&&◌};
 ghost use Rattle.std.specs.List.{list_any};
-ghost use Rattle.amqp_link.specs.Links.{Delivery, OpenSet, in_order, set_bytes, delivery_bytes, left_open, has_id, how_many, untaken, is_covered, sender_settled_by, names_untaken, names_told, named_count, newly_settled, receiver_settled_in, sender_settled_in, standing_of};
-ghost use Rattle.amqp_link.specs.Keeping.{delivery_of, asks_of, counts, settled_list};
+ghost use Rattle.amqp_link.specs.Links.{Delivery, OpenSet, in_order, set_bytes, delivery_bytes, left_open, has_id, how_many, untaken, is_covered, IsOnce, sender_settled_by, names_untaken, names_told, named_count, newly_settled, receiver_settled_in, sender_settled_in, standing_of};
+ghost use Rattle.amqp_link.specs.Keeping.{delivery_of, asks_of, counts, settled_list, AreHints, IsHint};
 
-use crate::open_delivery::{Ids, OpenDelivery, Question, Settler, Settling};
+use crate::open_delivery::{Hint, Hints, Ids, OpenDelivery, Question, Settler, Settling, UNKNOWN};
+use crate::open_ids::OpenIds;
 use crate::places;
 use crate::settlement::Standing;
 use slab::Slab;
@@ -93,6 +94,7 @@ impl<A: Allocator + Copy> OpenDeliveries<A> {
     {
         if let Some(key) = self.unfinished {
             self.unfinished = None;
+            places::number_one(&mut self.slab, key, self.order.len());
             self.order.push_reserved(Some(key));
         }
     }
@@ -104,7 +106,7 @@ impl<A: Allocator + Copy> OpenDeliveries<A> {
         if let Some(key) = self.unfinished {
             self.unfinished = None;
             self.bytes -= self.slab.remove(key).bytes();
-            places::close_up(&mut self.order, &mut self.handed_up, self.slab.len());
+            places::close_up(&mut self.slab, &mut self.order, &mut self.handed_up);
         }
     }
 
@@ -120,7 +122,7 @@ impl<A: Allocator + Copy> OpenDeliveries<A> {
             self.handed_up += 1;
             let delivery = self.slab.remove(key);
             self.bytes -= delivery.bytes();
-            places::close_up(&mut self.order, &mut self.handed_up, self.slab.len());
+            places::close_up(&mut self.slab, &mut self.order, &mut self.handed_up);
             return Some(delivery);
         }
         self.handed_up += 1;
@@ -152,6 +154,20 @@ impl<A: Allocator + Copy> OpenDeliveries<A> {
             None => None,
             Some(key) => self.slab.get(key),
         }
+    }
+
+    /// The delivery-ids of all, in the order in which these began.
+    pub fn ids(&self) -> OpenIds<'_, A>
+        ensures { result ≡ map (λ d. d.delivery_id) (in_order self.now) }
+    {
+        OpenIds::new(&self.slab, &self.order, self.unfinished_id())
+    }
+
+    /// The delivery-id of the one that is unfinished.
+    pub fn unfinished_id(&self) -> Option<u32>
+        ensures { result ≡ option_map (λ d. d.delivery_id) self.now.unfinished }
+    {
+        Some(self.unfinished()?.delivery_id)
     }
 
     /// Whether a delivery is unfinished.
@@ -218,15 +234,7 @@ impl<A: Allocator + Copy> OpenDeliveries<A> {
     pub fn standing(&self, id: u32) -> Standing
         ensures { result ≡ standing_of id self.now }
     {
-        let question = Question::HasId(id);
-        if self.is_untaken(question) {
-            return Standing::Untaken;
-        }
-        match self.find_handed_up(question) {
-            None => Standing::Absent,
-            Some(delivery) if delivery.told => Standing::Told,
-            Some(delivery) => Standing::Awaiting(delivery.rcv_settle_mode),
-        }
+        self.standing_by(UNKNOWN, id)
     }
 
     /// Whether one that was not handed up has one of these ids.
@@ -243,44 +251,147 @@ impl<A: Allocator + Copy> OpenDeliveries<A> {
         self.find_handed_up(Question::IsTold(ids)).is_some()
     }
 
-    /// The receiver settles these ids, or tells of them. Answers how many deliveries have one.
-    pub fn settle_by_receiver(&mut self, ids: Ids) -> usize
+    /// The key that the next delivery will have.
+    pub fn next_key(&self) -> usize {
+        self.slab.vacant_key()
+    }
+
+    /// Where the delivery stands that has one of these ids, of which the key may be this one: it is looked for there.
+    #[inline(always)]
+    pub fn locate(&self, key: usize, ids: Ids) -> Hints
+        requires { IsOnce ids.first ids.last self.now }
+        ensures { AreHints result ids.first ids.last self.now }
+    {
+        let named = Question::IsCovered(ids);
+        if self.is_unfinished(named) {
+            return Hints {
+                handed_up: Hint::Nowhere,
+                ready: Hint::Nowhere,
+            };
+        }
+        let place = self.place_under(key);
+        if place < self.handed_up && self.is_handed_up_at(place, named) {
+            return Hints {
+                handed_up: Hint::At(place),
+                ready: Hint::Nowhere,
+            };
+        }
+        if place >= self.handed_up && self.is_ready_at(place - self.handed_up, named) {
+            return Hints {
+                handed_up: Hint::Nowhere,
+                ready: Hint::At(place - self.handed_up),
+            };
+        }
+        UNKNOWN
+    }
+
+    /// The place that the delivery under a key was told.
+    fn place_under(&self, key: usize) -> usize {
+        match self.slab.get(key) {
+            Some(delivery) => delivery.place,
+            None => 0,
+        }
+    }
+
+    /// Whether one that was handed up answers a question by yes, that at a place.
+    fn is_handed_up_at(&self, place: usize, question: Question) -> bool
+        ensures { result ≡ true → list_any (asks_of question) self.now.awaiting ≡ true }
+    {
+        places::is_answering(&self.slab, &self.order[..self.handed_up], place, question)
+    }
+
+    /// The same of one that is ready.
+    fn is_ready_at(&self, place: usize, question: Question) -> bool
+        ensures { result ≡ true → list_any (asks_of question) self.now.ready ≡ true }
+    {
+        places::is_answering(&self.slab, &self.order[self.handed_up..], place, question)
+    }
+
+    /// How the delivery with this id stands, of which this is known.
+    #[inline(always)]
+    pub fn standing_by(&self, hints: Hints, id: u32) -> Standing
+        requires { AreHints hints id id self.now }
+        ensures { result ≡ standing_of id self.now }
+    {
+        if self.is_untaken_by(hints.ready, id) {
+            return Standing::Untaken;
+        }
+        match self.find_handed_up_by(hints.handed_up, id) {
+            None => Standing::Absent,
+            Some(delivery) if delivery.told => Standing::Told,
+            Some(delivery) => Standing::Awaiting(delivery.rcv_settle_mode),
+        }
+    }
+
+    /// Whether one that was not handed up has the id, where this is known of those that are ready.
+    fn is_untaken_by(&self, hint: Hint, id: u32) -> bool
+        requires { IsHint hint id id self.now.ready }
+        ensures { result ≡ list_any (has_id id) (untaken self.now) }
+    {
+        self.find_ready_by(hint, id).is_some() || self.is_unfinished(Question::HasId(id))
+    }
+
+    /// The first that was handed up and has the id, of which this is known.
+    fn find_handed_up_by(&self, hint: Hint, id: u32) -> Option<&OpenDelivery<A>>
+        requires { IsHint hint id id self.now.awaiting }
+        ensures { option_map (λ d. delivery_of d.now) result ≡ find (has_id id) self.now.awaiting }
+    {
+        places::find_by(&self.slab, &self.order[..self.handed_up], hint, id)
+    }
+
+    /// The first that is ready and has the id, of which this is known.
+    fn find_ready_by(&self, hint: Hint, id: u32) -> Option<&OpenDelivery<A>>
+        requires { IsHint hint id id self.now.ready }
+        ensures { option_map (λ d. delivery_of d.now) result ≡ find (has_id id) self.now.ready }
+    {
+        places::find_by(&self.slab, &self.order[self.handed_up..], hint, id)
+    }
+
+    /// The receiver settles these ids, or tells of them, where this is known of them. Answers how many deliveries
+    /// have one.
+    pub fn settle_by_receiver(&mut self, hints: Hints, ids: Ids) -> usize
+        requires { AreHints hints ids.first ids.last self.old }
         ensures count { result ≡ named_count ids.first ids.last self.old }
         ensures new { self.new ≡ receiver_settled_in ids.first ids.last self.old }
     {
-        self.settle_handed_up(Settling {
+        let settling = Settling {
             settler: Settler::Receiver,
             ids,
-        })
+        };
+        self.settle_handed_up(hints.handed_up, settling)
     }
 
-    /// The sender settles these ids. Answers how many deliveries it settles that were not.
-    pub fn settle_by_sender(&mut self, ids: Ids) -> usize
+    /// The sender settles these ids, where this is known of them. Answers how many deliveries it settles that were not.
+    pub fn settle_by_sender(&mut self, hints: Hints, ids: Ids) -> usize
+        requires { AreHints hints ids.first ids.last self.old }
         ensures count { result ≡ newly_settled ids.first ids.last self.old }
         ensures new { self.new ≡ sender_settled_in ids.first ids.last self.old }
     {
-        let handed_up = self.settle_handed_up(Settling {
+        let settling = Settling {
             settler: Settler::SenderOfHandedUp,
             ids,
-        });
-        handed_up + self.settle_ready(ids) + self.settle_unfinished(ids)
+        };
+        let handed_up = self.settle_handed_up(hints.handed_up, settling);
+        handed_up + self.settle_ready(hints.ready, ids) + self.settle_unfinished(ids)
     }
 
     /// Settles those that were handed up.
-    fn settle_handed_up(&mut self, settling: Settling) -> usize
+    fn settle_handed_up(&mut self, hint: Hint, settling: Settling) -> usize
+        requires { IsHint hint settling.ids.first settling.ids.last self.old.awaiting }
         ensures count { result ≡ count_by (counts settling) self.old.awaiting }
         ensures new { self.new ≡ record self.old { awaiting = settled_list settling self.old.awaiting } }
         ensures fits { how_many self.old < 2 ^ 63 }
     {
         let handed_up = self.order.slice_mut(..self.handed_up);
-        let settled = places::settle(&mut self.slab, handed_up, settling);
+        let settled = places::settle(&mut self.slab, handed_up, hint, settling);
         self.bytes -= settled.freed;
-        places::close_up(&mut self.order, &mut self.handed_up, self.slab.len());
+        places::close_up(&mut self.slab, &mut self.order, &mut self.handed_up);
         settled.count
     }
 
     /// The sender settles those that are ready. They stay open.
-    fn settle_ready(&mut self, ids: Ids) -> usize
+    fn settle_ready(&mut self, hint: Hint, ids: Ids) -> usize
+        requires { IsHint hint ids.first ids.last self.old.ready }
         ensures count { result ≡ count_by (λ d. not d.settled && is_covered ids.first ids.last d) self.old.ready }
         ensures new { self.new ≡ record self.old { ready = map (sender_settled_by ids.first ids.last) self.old.ready } }
     {
@@ -289,7 +400,7 @@ impl<A: Allocator + Copy> OpenDeliveries<A> {
             settler: Settler::SenderOfUntaken,
             ids,
         };
-        places::settle(&mut self.slab, ready, settling).count
+        places::settle(&mut self.slab, ready, hint, settling).count
     }
 
     /// The sender settles the one that is unfinished. It stays open.

@@ -22,6 +22,8 @@ pub struct OpenDelivery<A: Allocator + Copy = Global> {
     /// The sender was told what became of it.
     pub told: bool,
     pub message: Message<A>,
+    /// The place at which its key stands in link order, as far as it was told: no more than a hint.
+    pub place: usize,
 }
 
 /// Ids from a first to a last one; none where the last is behind the first [2.7.6].
@@ -30,6 +32,41 @@ pub struct Ids {
     pub first: u32,
     pub last: u32,
 }
+
+/// One id.
+pub fn one(id: u32) -> Ids
+    ensures first { result.first ≡ id }
+    ensures last { result.last ≡ id }
+{
+    Ids {
+        first: id,
+        last: id,
+    }
+}
+
+/// What is known of where a delivery stands, of which alone a settle may speak.
+#[derive(Clone, Copy)]
+pub enum Hint {
+    /// Nothing.
+    Unknown,
+    /// Elsewhere: it is none of these.
+    Nowhere,
+    /// It may stand at this place: that is looked at.
+    At(usize),
+}
+
+/// The same of those that were handed up, and of those that are ready.
+#[derive(Clone, Copy)]
+pub struct Hints {
+    pub handed_up: Hint,
+    pub ready: Hint,
+}
+
+/// Nothing is known.
+pub const UNKNOWN: Hints = Hints {
+    handed_up: Hint::Unknown,
+    ready: Hint::Unknown,
+};
 
 /// What is asked of a delivery.
 #[derive(Clone, Copy)]
@@ -73,6 +110,7 @@ impl<A: Allocator + Copy> OpenDelivery<A> {
             settled: _,
             told: _,
             message,
+            place: _,
         } = self;
         64 + delivery_tag.as_bytes().len() as u64 + message.size()
     }
@@ -101,7 +139,15 @@ impl<A: Allocator + Copy> OpenDelivery<A> {
             settled: self.settled,
             told: self.told,
             message: mem::replace(&mut self.message, Message::new(alloc)),
+            place: self.place,
         }
+    }
+
+    /// It is told its place.
+    pub fn stands_at(&mut self, place: usize)
+        ensures { delivery_of self.new ≡ delivery_of self.old }
+    {
+        self.place = place;
     }
 
     /// Whether it has one of the ids.

@@ -1,11 +1,11 @@
 //! The places of deliveries in link order, each with the key of its delivery, or empty.
-ghost use Rattle.std.specs.Prelude.{◌≡◌, ◌<◌, ◌≤◌, ◌+◌, ◌*◌, ◌^◌, ◌∷◌, [], length, drop, find, map, option_map, option_to_list, sum_by, vec_capacity, IsSome};
+ghost use Rattle.std.specs.Prelude.{◌≡◌, ◌<◌, ◌≤◌, ◌+◌, ◌*◌, ◌^◌, ◌∷◌, [], length, drop, find, map, option_map, option_to_list, slice_get, sum_by, vec_capacity, IsSome, is_some};
 ghost use Rattle.std.specs.List.{AllByRecursion};
-ghost use Rattle.slab.specs.Slab.{ContainsKey};
-ghost use Rattle.amqp_link.specs.Links.{delivery_bytes};
-ghost use Rattle.amqp_link.specs.Keeping.{delivery_of, at_key, keys_of, AreKeys, SameKeys, asks_of, Settles};
+ghost use Rattle.slab.specs.Slab.{ContainsKey, slab_len};
+ghost use Rattle.amqp_link.specs.Links.{delivery_bytes, has_id};
+ghost use Rattle.amqp_link.specs.Keeping.{delivery_of, at_key, keys_of, AreKeys, SameKeys, SameDeliveries, asks_of, answer_at, IsHint, Settles};
 
-use crate::open_delivery::{OpenDelivery, Question, Settling};
+use crate::open_delivery::{Hint, Ids, OpenDelivery, Question, Settling};
 use slab::Slab;
 use std::alloc::Allocator;
 
@@ -41,8 +41,85 @@ pub fn find<'a, A: Allocator + Copy>(
     None
 }
 
-/// Settles the deliveries at these places. One that is open no longer leaves its place empty.
+/// The first delivery at these places that has the id, where that is known of it.
+pub fn find_by<'a, A: Allocator + Copy>(
+    slab: &'a Slab<OpenDelivery<A>, A>,
+    places: &[Option<usize>],
+    hint: Hint,
+    id: u32,
+) -> Option<&'a OpenDelivery<A>>
+    requires keys { AllByRecursion (ContainsKey slab.now) (keys_of places.now) }
+    requires hint { IsHint hint id id (map (at_key slab.now) (keys_of places.now)) }
+    ensures { option_map (λ d. delivery_of d.now) result ≡ find (has_id id) (map (at_key slab.now) (keys_of places.now)) }
+{
+    match hint {
+        Hint::Nowhere => None,
+        Hint::At(place) => match answering(slab, places, place, Question::HasId(id)) {
+            Some(delivery) => Some(delivery),
+            None => find(slab, places, Question::HasId(id)),
+        },
+        Hint::Unknown => find(slab, places, Question::HasId(id)),
+    }
+}
+
+/// The delivery at one place, if it answers a question by yes.
+fn answering<'a, A: Allocator + Copy>(
+    slab: &'a Slab<OpenDelivery<A>, A>,
+    places: &[Option<usize>],
+    place: usize,
+    question: Question,
+) -> Option<&'a OpenDelivery<A>>
+    ensures { option_map (λ d. delivery_of d.now) result ≡ answer_at slab.now question (slice_get places.now place) }
+{
+    match places.get(place) {
+        Some(Some(key)) => match slab.get(*key) {
+            Some(delivery) if delivery.answers(question) => Some(delivery),
+            _ => None,
+        },
+        _ => None,
+    }
+}
+
+/// Settles the deliveries at these places, of which this is known. One that is open no longer leaves its place empty.
+#[inline(always)]
 pub fn settle<A: Allocator + Copy>(
+    slab: &mut Slab<OpenDelivery<A>, A>,
+    places: &mut [Option<usize>],
+    hint: Hint,
+    settling: Settling,
+) -> Settled
+    requires keys { AreKeys slab.old (keys_of places.old) }
+    requires fits { sum_by delivery_bytes (map (at_key slab.old) (keys_of places.old)) < 2 ^ 64 }
+    requires hint { IsHint hint settling.ids.first settling.ids.last (map (at_key slab.old) (keys_of places.old)) }
+    ensures { Settles settling slab.old slab.new places.old places.new result.count result.freed }
+{
+    match hint {
+        Hint::Nowhere => Settled { count: 0, freed: 0 },
+        Hint::At(place) => {
+            if is_answering(slab, places, place, Question::IsCovered(settling.ids)) {
+                settle_at(slab, &mut places[place], settling)
+            } else {
+                settle_all(slab, places, settling)
+            }
+        }
+        Hint::Unknown => settle_all(slab, places, settling),
+    }
+}
+
+/// Whether the delivery at one place answers a question by yes.
+pub fn is_answering<A: Allocator + Copy>(
+    slab: &Slab<OpenDelivery<A>, A>,
+    places: &[Option<usize>],
+    place: usize,
+    question: Question,
+) -> bool
+    ensures { result ≡ is_some (answer_at slab.now question (slice_get places.now place)) }
+{
+    answering(slab, places, place, question).is_some()
+}
+
+/// Settles the deliveries at these places, one after another.
+fn settle_all<A: Allocator + Copy>(
     slab: &mut Slab<OpenDelivery<A>, A>,
     places: &mut [Option<usize>],
     settling: Settling,
@@ -61,6 +138,7 @@ pub fn settle<A: Allocator + Copy>(
 }
 
 /// Settles the delivery at one place, if there is one.
+#[inline(always)]
 pub fn settle_at<A: Allocator + Copy>(
     slab: &mut Slab<OpenDelivery<A>, A>,
     place: &mut Option<usize>,
@@ -82,9 +160,58 @@ pub fn settle_at<A: Allocator + Copy>(
     Settled { count, freed }
 }
 
-/// Closes up empty places: all of them where no delivery is open, else once three in four are empty. So many places
-/// are of deliveries that were handed up; those behind them are of ready ones.
+/// Closes up empty places, if there are many, and then tells each delivery its place. So many places are of
+/// deliveries that were handed up; those behind them are of ready ones.
+#[tactic(auto, using(crate::proofs::Hints::same_deliveries))]
+#[inline(always)]
 pub fn close_up<A: Allocator + Copy>(
+    slab: &mut Slab<OpenDelivery<A>, A>,
+    places: &mut Vec<Option<usize>, A>,
+    handed_up: &mut usize,
+)
+    requires split { handed_up.old ≤ length places.old.items }
+    requires filled { AllByRecursion IsSome (drop handed_up.old places.old.items) }
+    requires keys { length (keys_of places.old.items) ≤ slab_len slab.old }
+    requires fits { slab_len slab.old < 2 ^ 62 }
+    ensures same { SameKeys places.old.items places.new.items handed_up.old handed_up.new }
+    ensures few { length places.new.items + 1 ≤ 4 * (slab_len slab.old + 4) }
+    ensures room { vec_capacity places.old ≤ vec_capacity places.new }
+    ensures deliveries { SameDeliveries slab.old slab.new }
+{
+    let count = places.len();
+    close(places, handed_up, slab.len());
+    if places.len() < count {
+        number(slab, places);
+    }
+}
+
+/// Tells each delivery its place.
+#[tactic(auto, using(crate::proofs::Hints::same_deliveries, crate::proofs::Hints::same_still))]
+fn number<A: Allocator + Copy>(slab: &mut Slab<OpenDelivery<A>, A>, places: &[Option<usize>])
+    ensures { SameDeliveries slab.old slab.new }
+{
+    for (place, key) in places.iter().enumerate() {
+        if let Some(key) = key {
+            number_one(slab, *key, place);
+        }
+    }
+}
+
+/// Tells one delivery its place, if a key is one's.
+pub fn number_one<A: Allocator + Copy>(
+    slab: &mut Slab<OpenDelivery<A>, A>,
+    key: usize,
+    place: usize,
+)
+    ensures { SameDeliveries slab.old slab.new }
+{
+    if slab.contains(key) {
+        slab[key].stands_at(place);
+    }
+}
+
+/// Closes up empty places: all of them where no delivery is open, else once three in four are empty.
+fn close<A: Allocator + Copy>(
     places: &mut Vec<Option<usize>, A>,
     handed_up: &mut usize,
     deliveries: usize,

@@ -1,8 +1,8 @@
 -- A piece that is fed while serving.
-use Rattle.std.proofs.Common.{◌≡◌, ◌≢◌, ℕ, zero, suc, ◌<◌, ◌≤◌, inl, inr, Bool, true, false, List, [], ◌∷◌, ◌++◌, Option, Some, None, length, take, drop, slice_index, refl, sym, ap, subst, ◌∙◌, arith, append-nil}
+use Rattle.std.proofs.Common.{◌≡◌, ◌≢◌, ℕ, zero, suc, ◌<◌, ◌≤◌, inl, inr, Bool, true, false, List, [], ◌∷◌, ◌++◌, Option, Some, None, length, take, drop, slice_index, refl, sym, ap, subst, ◌∙◌, arith, append-nil, rules}
 use Rattle.std.proofs.KnownBytes.{Appends-nil}
-use Rattle.std.specs.Prelude.{if◌then◌else◌}
-use Rattle.std.proofs.lemmas.List.{take_all, length-take, take-take, take-append-le}
+use Rattle.std.specs.Prelude.{if◌then◌else◌, max}
+use Rattle.std.proofs.lemmas.List.{take_all, length-take, take-take, take-append-le, places}
 use Rattle.amqp_frame.specs.Rooms.{over}
 use Rattle.amqp_frame.specs.Splits.{SplitterState, Waits, IsOver, TakesNothing, IsUnchanged}
 use Rattle.amqp_frame.specs.Units.{StreamUnit, HeaderUnit, FrameUnit, FaultUnit, bytes_of, IsUnit}
@@ -114,6 +114,11 @@ take_twice n xs = let long = length-take n xs in take_all n (take n xs) (omega (
 pub front_read : (n : ℕ) (ws bytes : List ℕ) → n ≤ length ws → length ws ≤ length bytes → take n (over ws bytes) ≡ take n ws
 front_read n ws bytes few within =
     take-take n (length bytes) (ws ++ drop (length ws) bytes) (omega (arith, few, within)) ∙ take-append-le n ws (drop (length ws) bytes) few
+
+-- the same, where m bytes of it were lent
+pub front_lent : (n m k : ℕ) (ws bytes : List ℕ) → n ≤ length ws → length ws ≤ m → length ws ≤ length bytes → take n (over (take (max k m) ws) bytes) ≡ take n ws
+front_lent n m k ws bytes few most within =
+    ap (λ (l : List ℕ). take n (over l bytes)) (take_all (max k m) ws (search (rules, places))) ∙ front_read n ws bytes few within
 
 -- a front is no longer than what it is of
 pub front_short : (front bytes : List ℕ) → front ≡ take (length front) bytes → length front ≤ length bytes

@@ -40,7 +40,7 @@ used_of Free e = absurd (grind (arith, e))
 used_of (Live l) e = tt
 used_of Waits e = tt
 
-free_of : (x : Slot LiveLink) → not (is_free x) ≡ false → x ≡ Free
+pub free_of : (x : Slot LiveLink) → not (is_free x) ≡ false → x ≡ Free
 free_of Free e = refl
 free_of (Live l) e = absurd (grind (arith, e))
 free_of Waits e = absurd (grind (arith, e))
@@ -60,7 +60,7 @@ second b c d x y z e =
     let one = neither (where_so b x) (or_else (where_so c y) (where_so d z)) e in
     let two = neither (where_so c y) (where_so d z) one.1 in (not_so b x one.0, not_so c y two.0)
 
-name_handle : (s : SessionState) (a : Attaching) → attach_fault s a ≡ None → (nat_lt 255 (length a.name) ≡ false) × (not (is_free (slot_at s a.handle)) ≡ false)
+pub name_handle : (s : SessionState) (a : Attaching) → attach_fault s a ≡ None → (nat_lt 255 (length a.name) ≡ false) × (not (is_free (slot_at s a.handle)) ≡ false)
 name_handle s a e =
     let uncounted = not (is_receiver a.role) && is_none a.initial_delivery_count in
     second (nat_lt 255 (length a.name)) (not (is_free (slot_at s a.handle))) uncounted session_fault_of.ResourceLimit session_fault_of.HandleInUse session_fault_of.InvalidField e
@@ -71,7 +71,7 @@ long_ends terms a e =
     let long = nat_lt 1024 (length a.source + length a.target) in
     (second (is_receiver a.role || is_coordinator a.target) long large condition.NotImplemented condition.ResourceLimitExceeded condition.FrameSizeTooSmall e).1
 
-window_handle : (s : SessionState) (handle : ℕ) (t : Sent) → session_fault s (Transfers handle t) ≡ None → (nat_eq s.window 0 ≡ false) × (is_free (slot_at s handle) ≡ false)
+pub window_handle : (s : SessionState) (handle : ℕ) (t : Sent) → session_fault s (Transfers handle t) ≡ None → (nat_eq s.window 0 ≡ false) × (is_free (slot_at s handle) ≡ false)
 window_handle s handle t e =
     let one = neither (where_so (nat_eq s.window 0) session_fault_of.WindowViolation) (handle_fault s handle) e in
     (not_so (nat_eq s.window 0) session_fault_of.WindowViolation one.0, not_so (is_free (slot_at s handle)) session_fault_of.UnattachedHandle one.1)
@@ -97,7 +97,7 @@ no_resume l t e =
     let last = if lacks_credit l then Some link_fault.TransferLimit else (if is_too_long l t then Some link_fault.MessageSize else None) in
     (skip_some t.resume link_fault.NotImplemented (if not (is_formed l.terms l.unfinished t) then Some link_fault.InvalidField else last) e).0
 
-fresh : (s : SessionState) (l : LinkState) (t : Sent) → transfer_fault s l t ≡ None → (is_reused s l t ≡ false) × (fault_of l t ≡ None)
+pub fresh : (s : SessionState) (l : LinkState) (t : Sent) → transfer_fault s l t ≡ None → (is_reused s l t ≡ false) × (fault_of l t ≡ None)
 fresh s l t e =
     let one = skip_some (not t.resume && is_reused s l t) link_fault.InvalidField (fault_of l t) e in
     let three = and_false t.resume (is_reused s l t) (no_resume l t one.1) one.0 in (three, one.1)

@@ -41,7 +41,7 @@ none_has id (d ∷ ds) e =
     let here : link.one_if (has_id id d) ≡ 0 = ap link.one_if two.0 in
     omega (arith, sum_by-cons (λ (d : Delivery). link.one_if (has_id id d)) d ds, here, none_has id ds two.1)
 
-slot_none : (id : ℕ) (s : Slot LiveLink) → slot_has id s ≡ false → slot_count id s ≡ 0
+pub slot_none : (id : ℕ) (s : Slot LiveLink) → slot_has id s ≡ false → slot_count id s ≡ 0
 slot_none id Free e = refl
 slot_none id (Live l) e = none_has id (deliveries l.link) e
 slot_none id Waits e = refl
@@ -140,7 +140,7 @@ stated_new test None e f = absurd (grind (arith, e))
 stated_new test (Some id) e f = f
 
 -- a head whose id this is comes where no open delivery has it
-new_id : (id : ℕ) (s : SessionState) (l : LinkState) (t : Sent) → is_reused s l t ≡ false → fault_of l t ≡ None → is_none l.unfinished && nat_eq (unwrap_or t.delivery_id 0) id ≡ true →
+pub new_id : (id : ℕ) (s : SessionState) (l : LinkState) (t : Sent) → is_reused s l t ≡ false → fault_of l t ≡ None → is_none l.unfinished && nat_eq (unwrap_or t.delivery_id 0) id ≡ true →
     table_count id s.links ≡ 0
 new_id id s l t fresh none head =
     let two = and_parts (is_none l.unfinished) (nat_eq (unwrap_or t.delivery_id 0) id) head in

@@ -10,7 +10,7 @@ use Rattle.amqp_link.specs.declared.settlement.Standing.{Standing}
 use Rattle.amqp_link.specs.declared.settlement.Standing.TheVariants.{Absent, Untaken, Told, Awaiting}
 use Rattle.amqp_link.specs.HandedUps.{IsHandedUp}
 use Rattle.amqp_link.specs.Histories.{one_if}
-use Rattle.amqp_link.specs.Links.{LinkState, LinkEvent, Granted, DrainAsked, HandedUp, ReceiverSettled, Delivery, link_after, first_ready, open_count, open_set, settle_fault}
+use Rattle.amqp_link.specs.Links.{LinkState, LinkEvent, Granted, DrainAsked, HandedUp, ReceiverSettled, Delivery, link_after, first_ready, open_count, open_set, settle_fault, standing_of, IsAwaiting}
 use Rattle.amqp_session.specs.declared.fault.CallFault.{CallFault}
 use Rattle.amqp_session.specs.declared.fault.CallFault.TheVariants as refused
 use Rattle.amqp_session.specs.declared.slot.Slot.{Slot}
@@ -23,7 +23,7 @@ use Rattle.amqp_session.specs.Sessions.{LiveLink, live_begins, live_after, Sessi
 use Rattle.amqp_session.specs.Sessions as event
 use Rattle.amqp_session.specs.Calls.{Call, Grant, Drain, Take, at_link, call_fault, call_event, first_taken, take_event, slot_standing, standing_in, standing_fault}
 use Rattle.amqp_session.specs.Slots.{HandsUp, slot_called, stated_of}
-use Rattle.amqp_session.specs.Links.{link_in, link_at, relinked, slot_relinked, with_link}
+use Rattle.amqp_session.specs.Links.{link_in, link_at, relinked, slot_relinked, with_link, HasSettled}
 use Rattle.amqp_session.proofs.Tables.{found, put_again, goes_on_at}
 use Rattle.amqp_session.proofs.Standings.{settles_everywhere, some_stands}
 use Rattle.amqp_session.proofs.Founds.{settled_at}
@@ -154,14 +154,39 @@ flow_after s h t new stated said at is same =
 -- A settle of the one link that has the id. ---------------------------------------------------------------------------------
 
 -- a delivery that can be settled awaits that
-awaits : (x : Standing) → standing_fault x ≡ None → (mode : ReceiverSettleMode) × (x ≡ Awaiting mode)
+pub awaits : (x : Standing) → standing_fault x ≡ None → (mode : ReceiverSettleMode) × (x ≡ Awaiting mode)
 awaits Absent e = absurd (grind (arith, e))
 awaits Untaken e = absurd (grind (arith, e))
 awaits Told e = absurd (grind (arith, e))
 awaits (Awaiting mode) e = (mode, refl)
 
+pub awaiting : (x : Standing) → standing_fault x ≡ None → IsAwaiting x
+awaiting x e = subst IsAwaiting (sym (awaits x e).1) tt
+
+pub can_settle : (x : Standing) → IsAwaiting x → standing_fault x ≡ None
+can_settle Absent a = absurd a
+can_settle Untaken a = absurd a
+can_settle Told a = absurd a
+can_settle (Awaiting mode) a = refl
+
+-- how the id stands on the link is how it stands at its place
+pub stands_in : (id : ℕ) (x : Slot LiveLink) (t : LinkState) → Some t ≡ link_in x → standing_of id (open_set t) ≡ slot_standing id x
+stands_in id x t at = let live = lives x t at in ap (λ (u : LinkState). standing_of id (open_set u)) live.2 ∙ ap (slot_standing id) (sym live.1)
+
+pub none_stands : (id : ℕ) (x : Slot LiveLink) → None ≡ link_in x → Absent ≡ slot_standing id x
+none_stands id Free e = refl
+none_stands id (Live l) e = absurd (grind (arith, e))
+none_stands id Waits e = refl
+
+-- and one that can't does not
+pub not_awaiting : (x : Standing) (fault : CallFault) → standing_fault x ≡ Some fault → ¬ (IsAwaiting x)
+not_awaiting Absent fault e = λ a. a
+not_awaiting Untaken fault e = λ a. a
+not_awaiting Told fault e = λ a. a
+not_awaiting (Awaiting mode) fault e = absurd (grind (arith, e))
+
 -- every live link goes on
-all_on : (k : ℕ) (e : LinkEvent) (slots : List (Slot LiveLink)) → places_from live_begins live_after k (AllGoOn e) slots ≡ map (slot_called e) slots
+pub all_on : (k : ℕ) (e : LinkEvent) (slots : List (Slot LiveLink)) → places_from live_begins live_after k (AllGoOn e) slots ≡ map (slot_called e) slots
 all_on k e [] = refl
 all_on k e (s ∷ slots) = ap (λ (rest : List (Slot LiveLink)). slot_called e s ∷ rest) (all_on (suc k) e slots)
 
@@ -207,3 +232,7 @@ module _ (s : SessionState) (id h : ℕ) (x : Standing) (apart : IsApart s) (sma
     where
       few : (m : ℕ) → 2 ^ 32 ≤ m → table_count m s.links ≡ 0
       few m long = let room : one_if (nat_lt m (2 ^ 32)) ≡ 0 = ap one_if (le-ltb m (2 ^ 32) long) in let most = apart m in omega (arith, most, room)
+
+  -- the session where the link has
+  pub has_settled : (new : SessionState) → s.next_incoming_id < 2 ^ 32 → HasSettled s new h id → new ≡ session_after s (event.Settled id id)
+  has_settled new short has = has.2 ∙ settled has.0 (link_after has.0 (ReceiverSettled id id)) short has.1 refl

@@ -18,3 +18,10 @@ pub mod Lives
 pub mod Names
 pub mod Outcomes
 pub mod FrameEvents
+pub mod Nexts
+pub mod Indexed
+pub mod Lookups
+pub mod Swept
+pub mod Came
+pub mod Closed
+pub mod Disposed

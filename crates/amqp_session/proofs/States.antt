@@ -1,42 +1,41 @@
 -- A session as its parts: what stands at its handles, and what each event makes of the parts.
 use Rattle.std.proofs.Common.{arith, ◌≡◌, ℕ, ◌+◌, ◌-◌, ◌%◌, ◌^◌, ◌<◌, ◌≤◌, subst, Bool, true, false, not, ◌&&◌, List, [], ◌∷◌, length, map, refl, sym, ap, ◌∙◌, Option, Some, None, get_or}
-use Rattle.std.specs.Prelude.{nat_eq, nat_lt, slice_get, slice_set, unwrap_or, sum_by, is_none, IsSomeAnd, if◌then◌else◌}
+use Rattle.std.specs.Prelude.{nat_eq, slice_get, slice_set, unwrap_or, sum_by, is_none, if◌then◌else◌}
 use Rattle.std.specs.List.{list_any}
 use Rattle.std.specs.Option.{option_map_or}
 use Rattle.std.proofs.lemmas.Option.{slice_get_past}
-use Rattle.std.proofs.lemmas.Bool.{ne_eqb, le-ltb, lt-ltb}
-use Rattle.std.proofs.lemmas.List.{get_or-set_same, length-set}
+use Rattle.std.proofs.lemmas.Bool.{ne_eqb, le-ltb}
+use Rattle.std.proofs.lemmas.List.{length-set}
 use Rattle.amqp_perform.specs.declared.condition.Condition.{Condition}
 use Rattle.amqp_perform.specs.Performatives.{is_receiver}
-use Rattle.amqp_perform.specs.declared.modes.ReceiverSettleMode.{ReceiverSettleMode}
 use Rattle.amqp_link.specs.declared.settlement.Standing.{Standing}
-use Rattle.amqp_link.specs.declared.settlement.Standing.TheVariants.{Absent, Untaken, Told, Awaiting}
-use Rattle.amqp_link.specs.declared.link.Taken.{Taken}
+use Rattle.amqp_link.specs.declared.settlement.Standing.TheVariants.{Absent}
 use Rattle.amqp_link.specs.declared.transfer.LinkFault.{LinkFault}
-use Rattle.amqp_link.specs.HandedUps.{IsHandedUp}
 use Rattle.amqp_link.specs.Links.{Sent, LinkState, Transferred, FlowStated, SenderSettled, is_beyond, may_grow}
 use Rattle.amqp_session.specs.declared.fault.SessionFault.{SessionFault}
 use Rattle.amqp_session.specs.declared.fault.SessionFault.TheVariants as fault
 use Rattle.amqp_session.specs.declared.report.Report.{Report}
+use Rattle.amqp_session.specs.declared.report.Report.TheVariants as told
 use Rattle.amqp_session.specs.declared.slot.Slot.{Slot}
 use Rattle.amqp_session.specs.declared.slot.Slot.TheVariants.{Free, Live, Waits}
 use Rattle.amqp_session.specs.declared.terms.SessionTerms.{SessionTerms}
-use Rattle.amqp_session.specs.Places.{Begins, Leaves}
+use Rattle.amqp_session.specs.Places.{Begins, Leaves, live_in}
 use Rattle.amqp_perform.specs.Said.{Said}
 use Rattle.amqp_session.specs.Frames.{link_flow_said, Attaching, Flowing, Attaches, Flows, Transfers}
 use Rattle.amqp_link.specs.Histories.{one_if}
 use Rattle.amqp_session.specs.Sessions.{LiveLink, live_begins, live_after, SessionState, SessionEvent, handles, happens, is_transfer, widened_by, stated_by, session_after, slot_at}
-use Rattle.amqp_session.specs.Sessions.{slot_has, slot_count, table_count, is_open_id, IsApart, session_begins}
+use Rattle.amqp_session.specs.Sessions.{slot_has, is_open_id, session_begins}
 use Rattle.amqp_session.specs.Sessions as event
 use Rattle.amqp_session.specs.Faults.{is_free, handle_fault, session_fault, transfer_fault, attached, attach_event, transfer_event, flow_event, named_event, event_of, came_report, transfer_report}
 use Rattle.amqp_session.specs.Faults.{report_of, named_report, flow_report, IsRefusal, slot_may_grow, refusal, attach_fault, or_else, where_so, slot_flow, link_flow, named_fault, attach_report}
-use Rattle.amqp_session.specs.Calls.{Take, call_event, take_event, slot_standing, standing_in, standing_fault}
+use Rattle.amqp_session.specs.Calls.{slot_standing, standing_in}
 use Rattle.amqp_session.specs.Slots.{padded, session_of, IsReached, is_live, came_fault, slot_reused, at_place, slot_came, slot_came_report, slot_grows, IsSlotRefusal, slot_flowed, slot_called}
+use Rattle.amqp_session.specs.Indexes.{slot_begins, slot_does_begin, does_begin, IsEnded, IsEndedAt}
 use Rattle.amqp_session.specs.Slots.{IsStated, IsFlowTold, IsFound, stated_of}
 use Rattle.amqp_session.specs.declared.slots.LinkStated.{LinkStated}
 use Rattle.amqp_session.specs.Links.{slot_relinked, with_link}
 use Rattle.amqp_session.specs.declared.table.Found.{Found}
-use Rattle.amqp_session.proofs.Padded.{From, padded_set, padded_get, padded_any, padded_standing, padded_sum, padded_long, padded_there, padded_none, none_after, begins_at, goes_on_at, leaves_at, gone_at}
+use Rattle.amqp_session.proofs.Padded.{From, padded_set, padded_get, padded_any, padded_standing, padded_sum, padded_long, padded_none, none_after, begins_at, goes_on_at, leaves_at, gone_at}
 use Rattle.amqp_session.proofs.Padded.{all_after}
 use Rattle.amqp_session.proofs.Tables.{there, put_again}
 
@@ -46,6 +45,18 @@ stays n l = omega (arith, l)
 
 unmoved : (w : ℕ) → w + 0 - 0 ≡ w
 unmoved w = omega arith
+
+-- the link that ended at a place is that at its handle
+pub ended_in : (s : SessionState) (h : ℕ) (x : Slot LiveLink) (r : Report) (ended : Option LiveLink) → slot_at s h ≡ x → IsEndedAt h x r ended → IsEnded s r ended
+ended_in s h x told.Nothing ended at is = tt
+ended_in s h x (told.Attached handle) ended at is = tt
+ended_in s h x (told.Unfinished handle) ended at is = tt
+ended_in s h x (told.Ready handle) ended at is = tt
+ended_in s h x (told.Aborted handle) ended at is = tt
+ended_in s h x (told.Drained handle) ended at is = tt
+ended_in s h x (told.Settled count) ended at is = tt
+ended_in s h x (told.Detached handle dropped) ended at is = tt
+ended_in s h x (told.Failed handle condition dropped) ended at is = is.1 ∙ ap live_in (sym at) ∙ ap (λ (k : ℕ). live_in (slot_at s k)) (sym is.0)
 
 module _ (terms : SessionTerms) (w n : ℕ) (slots : List (Slot LiveLink)) (s : SessionState) (view : session_of terms w n slots ≡ s) (reached : IsReached terms slots) where
   -- what stands at a handle that was reached, and at another
@@ -192,6 +203,40 @@ module _ (terms : SessionTerms) (w n : ℕ) (slots : List (Slot LiveLink)) (s : 
   by_handle t h some =
       ap (λ (m : ℕ). or_else (where_so (nat_eq m 0) fault.WindowViolation) (handle_fault s h)) window_is
       ∙ ap (λ (b : Bool). or_else (where_so b fault.WindowViolation) (handle_fault s h)) (ne_eqb w 0 (λ e. absurd (omega (arith, e, some))))
+
+  -- whether it begins a delivery
+  pub does_begin_is : (t : Sent) (h : ℕ) (x : Slot LiveLink) (reused b : Bool) → 1 ≤ w → x ≡ get_or slots h x → h < length slots → reused ≡ slot_reused slots t.delivery_id (at_place slots h) →
+      b ≡ slot_begins reused t x → b ≡ does_begin s h t
+  does_begin_is t h x reused b some at within re is =
+      is ∙ ap (λ (r : Bool). slot_begins r t x) (re ∙ ap (λ (y : Slot LiveLink). slot_reused slots t.delivery_id y) placed) ∙ by_slot x
+      ∙ ap (λ (y : Slot LiveLink). slot_does_begin s t y) (sym (slot_is h x at within)) ∙ ap (λ (e : Bool). not e && slot_does_begin s t (slot_at s h)) (sym open_window)
+    where
+      placed : at_place slots h ≡ x
+      placed = ap (λ (o : Option (Slot LiveLink)). unwrap_or o Free) (there slots h x at within)
+
+      open_window : nat_eq s.window 0 ≡ false
+      open_window = ap (λ (m : ℕ). nat_eq m 0) window_is ∙ ne_eqb w 0 (λ e. absurd (omega (arith, e, some)))
+
+      by_slot : (x : Slot LiveLink) → slot_begins (slot_reused slots t.delivery_id x) t x ≡ slot_does_begin s t x
+      by_slot Free = refl
+      by_slot (Live l) = ap (λ (o : Option LinkFault). is_none l.link.unfinished && not t.aborted && is_none o) (sym (fault_is l t))
+      by_slot Waits = refl
+
+  pub begins_shut : (t : Sent) (h : ℕ) → w ≡ 0 → false ≡ does_begin s h t
+  begins_shut t h e = sym (ap (λ (m : ℕ). not (nat_eq m 0) && slot_does_begin s t (slot_at s h)) (window_is ∙ e))
+
+  pub begins_past : (t : Sent) (h : ℕ) → length slots ≤ h → false ≡ does_begin s h t
+  begins_past t h l = by (nat_eq s.window 0) ∙ ap (λ (y : Slot LiveLink). not (nat_eq s.window 0) && slot_does_begin s t y) (sym (slot_past h l))
+    where
+      by : (b : Bool) → false ≡ (not b && false)
+      by true = refl
+      by false = refl
+
+  -- whether an open delivery has an id, of the places that were reached
+  pub known_is : (id : ℕ) (b : Bool) (table : List (Slot LiveLink)) → table ≡ slots → b ≡ is_open_id s id → b ≡ list_any (slot_has id) table
+  known_is id b table e is =
+      is ∙ ap (λ (u : SessionState). list_any (slot_has id) u.links) (sym view) ∙ padded_any (slot_has id) (handles terms) slots refl reached.reached
+      ∙ ap (λ (ls : List (Slot LiveLink)). list_any (slot_has id) ls) (sym e)
 
   -- why a transfer is refused, and why not
   pub came_refused : (t : Sent) (h : ℕ) (x : Slot LiveLink) (reused : Bool) (e : SessionFault) → 1 ≤ w → x ≡ get_or slots h x → h < length slots →

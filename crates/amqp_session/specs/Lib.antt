@@ -13,3 +13,4 @@ pub mod Replies
 pub mod Lending
 pub mod StateLending
 pub mod Coordinators
+pub mod Indexes

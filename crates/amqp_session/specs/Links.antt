@@ -1,6 +1,6 @@
 -- The live link at a handle of a session, and the session with another state of it.
-use Rattle.std.specs.Prelude.{ℕ, Option, option_map, slice_set}
-use Rattle.amqp_link.specs.Links.{LinkState}
+use Rattle.std.specs.Prelude.{◌≡◌, ℕ, Option, Some, option_map, slice_set}
+use Rattle.amqp_link.specs.Links.{LinkState, ReceiverSettled, link_after}
 use Rattle.amqp_session.specs.declared.slot.Slot.{Slot}
 use Rattle.amqp_session.specs.Places.{slot_map, live_in}
 use Rattle.amqp_session.specs.Sessions.{LiveLink, SessionState, slot_at}
@@ -21,3 +21,7 @@ link_at s handle = link_in (slot_at s handle)
 
 abbrev pub with_link : SessionState → ℕ → LinkState → SessionState
 with_link s handle w = record s { links = slice_set s.links handle (slot_relinked (slot_at s handle) w) }
+
+-- the live link there, and nothing else, saw its receiver settle the id
+abbrev pub HasSettled : SessionState → SessionState → ℕ → ℕ → Type 0
+HasSettled old new handle id = (t : LinkState) × (Some t ≡ link_at old handle) × (new ≡ with_link old handle (link_after t (ReceiverSettled id id)))

@@ -1,11 +1,12 @@
 //! What is kept of a live link.
-ghost use Rattle.std.specs.Prelude.{◌≡◌, ◌<◌, ◌≤◌, ◌+◌, ◌*◌, ◌^◌, length, Option, Some, None, OnOk, OnErr, IfOk, IfErr, IfSome, IfNone, IsSomeAnd, true, false, nat_lt};
-ghost use Rattle.amqp_link.specs.Links.{sent_of, Transferred, FlowStated, SenderSettled, LinkMay, open_set, open_count, step_of, is_drained, is_beyond, newly_settled};
+ghost use Rattle.std.specs.Prelude.{◌≡◌, ◌<◌, ◌≤◌, ◌+◌, ◌*◌, ◌^◌, length, Option, Some, None, OnOk, OnErr, IfOk, IfErr, IfSome, IfNone, IsSomeAnd, true, false, is_some, nat_lt};
+ghost use Rattle.amqp_link.specs.Links.{sent_of, Transferred, FlowStated, LinkMay, open_count, step_of, is_drained, is_beyond};
 ghost use Rattle.std.specs.Borrow.{sem};
 ghost use Rattle.amqp_session.specs.Lending.{LendsLink};
 ghost use Rattle.amqp_session.specs.Sessions.{live_begins, live_after, slot_bytes};
 ghost use Rattle.amqp_session.specs.declared.slot.Slot.{Slot};
 ghost use Rattle.amqp_session.specs.Slots.{came_fault, IsCameFault, IsView};
+ghost use Rattle.amqp_session.specs.Indexes.{link_begins};
 
 use crate::view::LinkView;
 use amqp_link::{Link, LinkFault, Step, Terms, laws};
@@ -80,23 +81,46 @@ impl<A: Allocator + Copy> KeptLink<A> {
         &mut self.record.link
     }
 
-    /// Takes a transfer and its payload, of which it is known whether it begins a delivery under an open id.
+    /// Takes a transfer and its payload, of which it is known whether it begins a delivery under an open id, and which was
+    /// judged before if it is known that it begins one that stays open.
     pub fn transfer(
         &mut self,
         reused: bool,
+        judged: bool,
         transfer: &Transfer<'_>,
         payload: &[u8],
     ) -> Result<Step, LinkFault>
+        requires { judged ≡ true → link_begins reused self.old.link (sent_of transfer.now payload.now) ≡ true }
         ensures new { OnOk result (self.new ≡ live_after self.old (Transferred (sent_of transfer.now payload.now))) }
         ensures accepted { OnOk result (came_fault reused self.old.link (sent_of transfer.now payload.now) ≡ None) }
         ensures step { IfOk result (λ step. step ≡ step_of (sent_of transfer.now payload.now)) }
         ensures refused { IfErr result (λ e. IsCameFault reused self.old.link (sent_of transfer.now payload.now) e) }
         ensures err { OnErr result (self.new ≡ self.old) }
     {
+        if judged {
+            return self.record.link.transfer_judged(transfer, payload);
+        }
         if reused && !transfer.resume {
             return Err(LinkFault::InvalidField);
         }
         self.record.link.transfer(transfer, payload)
+    }
+
+    /// The key of the delivery that a transfer begins, if it begins one that stays open.
+    pub fn begins(&self, reused: bool, transfer: &Transfer<'_>, payload: &[u8]) -> Option<usize>
+        ensures { is_some result ≡ link_begins reused self.now.link (sent_of transfer.now payload.now) }
+    {
+        let link = &self.record.link;
+        if transfer.aborted || !link.next_is_head() {
+            return None;
+        }
+        if reused && !transfer.resume {
+            return None;
+        }
+        match link.judge(transfer, payload) {
+            Some(_) => None,
+            None => Some(link.next_key()),
+        }
     }
 
     /// Follows the delivery-count that a flow states, or none, and answers whether the sender has used its credit
@@ -118,17 +142,6 @@ impl<A: Allocator + Copy> KeptLink<A> {
         ensures { result ≡ nat_lt self.now.link.terms.bounds.allowed (self.now.link.credit + open_count self.now.link + n) }
     {
         n > self.record.link.room()
-    }
-
-    /// The sender settles the ids from `first` to `last`. Answers how many open deliveries it settles.
-    pub fn peer_settled(&mut self, first: u32, last: u32) -> u32
-        ensures new { self.new ≡ live_after self.old (SenderSettled first last) }
-        ensures count { result ≡ newly_settled first last (open_set self.old.link) }
-        ensures most { result ≤ 1024 }
-    {
-        let allowed = self.record.link.bounds().allowed();
-        prove!(self.record.link.room() <= allowed);
-        self.record.link.peer_settled(first, last)
     }
 
     /// The bytes that count as kept. All fields are named, so that a new one is listed here.

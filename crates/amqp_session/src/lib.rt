@@ -9,6 +9,7 @@
 
 mod done;
 mod fault;
+mod index;
 mod kept_link;
 pub mod laws;
 mod refusal;
@@ -20,6 +21,7 @@ mod slots;
 mod state;
 mod table;
 mod terms;
+mod tree;
 mod view;
 
 pub use done::{Answer, Done};

@@ -1,28 +1,33 @@
 //! One session that receives.
-ghost use Rattle.std.specs.Prelude.{◌≡◌, ◌≤◌, ◌<◌, ◌^◌, [], ◌∷◌, unwrap_or, Option, Some, None, OnOk, IfOk, OnErr, IfErr, true, false, if◌then◌else◌};
-ghost use Rattle.amqp_link.specs.Links.{sent_of};
+ghost use Rattle.std.specs.Prelude.{◌≡◌, ℕ, ◌≤◌, ◌<◌, ◌+◌, ◌^◌, sum_by, [], ◌∷◌, unwrap_or, Option, Some, None, OnOk, IfOk, OnErr, IfErr, true, false, is_some, if◌then◌else◌};
+ghost use Rattle.amqp_link.specs.Links.{sent_of, IsAwaiting};
 ghost use Rattle.amqp_perform.specs.declared.performative.Performative.{Performative};
 ghost use Rattle.amqp_perform.specs.declared.performative.Performative.TheVariants as performative;
 ghost use Rattle.amqp_perform.specs.Frames.{IsWritten};
 ghost use Rattle.amqp_perform.specs.declared.outcome.Outcome.{Outcome};
-ghost use Rattle.amqp_session.specs.Calls.{Widen, Grant, Drain, Take, Settle, Detach as DetachCall, call_fault, call_event, call_answer};
-ghost use Rattle.amqp_session.specs.Faults.{session_fault, event_of, report_of, answer_of, failure_answer, flow_answer, echo_answer, IsRefusal};
+ghost use Rattle.amqp_session.specs.Calls.{Widen, Grant, Drain, Take, Settle, Detach as DetachCall, call_fault, call_event, call_answer, slot_standing, standing_in};
+ghost use Rattle.amqp_session.specs.Faults.{session_fault, event_of, report_of, answer_of, failure_answer, flow_answer, echo_answer, slot_settled, IsRefusal};
 ghost use Rattle.amqp_perform.specs.Said.{said, said_frame};
 ghost use Rattle.amqp_session.specs.Frames.{Attaches, Flows, Transfers, Disposes, Detaches, attaching, flowing, disposing, frame_of, attach_said};
-ghost use Rattle.amqp_session.specs.Sessions.{session_begins, session_after, session_bytes, session_ready, slot_at, slot_ready, SessionMay};
-ghost use Rattle.amqp_session.specs.Slots.{HandsUp, IsViewAt};
+ghost use Rattle.amqp_session.specs.Sessions.{session_begins, session_after, session_bytes, session_ready, slot_at, slot_ready, SessionMay, IsApart};
+ghost use Rattle.amqp_session.specs.Slots.{HandsUp, IsFound, IsViewAt};
+ghost use Rattle.amqp_session.specs.Links.{HasSettled};
+ghost use Rattle.amqp_session.specs.Indexes.{found, is_untaken, disposed, IsAlone, IsKnown};
 ghost use Rattle.amqp_session.specs.Answers.{said_by, answer_said, IsOfAttach, IsPlain, IsWithin, HasDone, IsFrameRefusal, IsAttachAnswer};
 
 use crate::done::{Answer, Done};
 use crate::fault::{CallFault, SessionFault};
+use crate::index::{Index, Kept};
 use crate::replies;
 use crate::report::Report;
 use crate::slots::stated;
-use crate::state::{State, settles_at_once, standing_fault};
+use crate::state::{State, is_settling, settled_report, settles_at_once, standing_fault};
+use crate::table::Found;
 use crate::terms::SessionTerms;
 use crate::view::LinkView;
-use amqp_link::{Taken, laws};
+use amqp_link::{Standing, Taken, laws};
 use amqp_perform::{Attach, Detach, Disposition, Flow, Outcome, Performative, Transfer};
+use amqp_serial::Serial;
 use std::alloc::{Allocator, Global};
 use std::marker::Model;
 
@@ -35,16 +40,20 @@ use std::marker::Model;
 #[derive(Drop)]
 pub struct Session<A: Allocator + Copy = Global> {
     state: State<A>,
+    /// Where the open deliveries are kept, by their ids.
+    index: Index<A>,
 }
 
 impl<A: Allocator + Copy> Model for Session<A> {
-    ghost use Rattle.amqp_session.specs.Sessions.{SessionState, IsApart};
+    ghost use Rattle.amqp_session.specs.Sessions.{SessionState};
 
     ghost Value = { SessionState };
 
+    ghost use Rattle.amqp_session.specs.Indexes.{IsKnown};
+
     ghost view = { λ a. a.state };
 
-    ghost invariant = { λ a. IsApart a.state };
+    ghost invariant = { λ a. IsKnown a.index a.state };
 }
 
 impl<A: Allocator + Copy> Session<A> {
@@ -54,6 +63,7 @@ impl<A: Allocator + Copy> Session<A> {
     {
         Session {
             state: State::begin(alloc, terms),
+            index: Index::new(alloc),
         }
     }
 
@@ -84,7 +94,7 @@ impl<A: Allocator + Copy> Session<A> {
         ensures value { result ≡ session_bytes self.now }
         ensures most { result < 2 ^ 52 }
     {
-        let Session { state } = self;
+        let Session { state, index: _ } = self;
         state.held()
     }
 
@@ -156,7 +166,9 @@ impl<A: Allocator + Copy> Session<A> {
     {
         laws::open_ids_grow_by_heads();
         self.state.is_long();
-        let report = self.state.flow(flow)?;
+        let mut ended = None;
+        let report = self.state.flow(&mut ended, flow)?;
+        self.index.transferred(report, ended, None);
         let answer = flow_answer(&self.state, flow, report);
         Ok(Done { report, answer })
     }
@@ -184,8 +196,25 @@ impl<A: Allocator + Copy> Session<A> {
         laws::open_ids_grow_by_heads();
         self.state.is_long();
         is_numbered(transfer);
-        let report = self.state.transfer(transfer, payload)?;
-        Ok(report)
+        let id = transfer.delivery_id.unwrap_or(0);
+        let known = is_known(&self.index, transfer);
+        let unfinished = self.state.unfinished_id(transfer.handle);
+        let begins = self.state.begins(known, transfer, payload);
+        self.index.begin(id, begins)?;
+        let mut ended = None;
+        match self
+            .state
+            .transfer(&mut ended, known, begins.is_some(), transfer, payload)
+        {
+            Ok(report) => {
+                self.index.transferred(report, ended, unfinished);
+                Ok(report)
+            }
+            Err(fault) => {
+                self.index.begin_no_more(id, begins);
+                Err(fault)
+            }
+        }
     }
 
     /// Takes a disposition of the peer [2.7.6]: a sender's that settles settles what it covers, on all links.
@@ -197,7 +226,7 @@ impl<A: Allocator + Copy> Session<A> {
     {
         laws::open_ids_grow_by_heads();
         self.state.is_long();
-        self.state.disposition(disposition)
+        dispose(&mut self.state, &mut self.index, disposition)
     }
 
     /// Takes a detach of the peer: the handle is free [2.6.4, 2.6.6]. `Detached` tells how many ready deliveries
@@ -216,7 +245,9 @@ impl<A: Allocator + Copy> Session<A> {
         laws::open_ids_grow_by_heads();
         self.state.is_long();
         let handle = detach.handle;
-        let detached = self.state.detached(handle)?;
+        let mut ended = None;
+        let detached = self.state.detached(&mut ended, handle)?;
+        self.index.forget_link(ended);
         let answer = if detached.live {
             Answer::Detach(replies::detach(handle, detach.closed))
         } else {
@@ -294,7 +325,10 @@ impl<A: Allocator + Copy> Session<A> {
     pub fn settle_fault(&self, id: u32) -> Option<CallFault>
         ensures { (outcome : Outcome) → result ≡ call_fault self.now (Settle id outcome) }
     {
-        self.state.settle_fault(id)
+        match find(&self.index, &self.state, id) {
+            Some(found) => standing_fault(found.standing),
+            None => Some(CallFault::NoDelivery),
+        }
     }
 
     /// Widens the incoming window by `n` places, and answers the flow that says so [2.5.6]. Refused, with
@@ -374,6 +408,7 @@ impl<A: Allocator + Copy> Session<A> {
         let Some(taken) = link.take() else {
             return Err(CallFault::NothingReady);
         };
+        self.index.close(taken.delivery_id, taken.settled);
         Ok(taken)
     }
 
@@ -390,19 +425,16 @@ impl<A: Allocator + Copy> Session<A> {
     {
         laws::open_ids_grow_by_heads();
         self.state.is_long();
-        let Some(found) = self.state.find(id) else {
+        self.state.is_numbered();
+        let Some(kept) = self.index.get(id) else {
             return Err(CallFault::NoDelivery);
         };
-        if let Some(fault) = standing_fault(found.standing) {
+        let standing = settle_at(&mut self.state, kept, id);
+        if let Some(fault) = standing_fault(standing) {
             return Err(fault);
         }
-        match self.state.link_mut(found.handle) {
-            Some(link) => {
-                link.settle_faultless(id, id);
-            }
-            None => unreachable!(),
-        }
-        let settled = settles_at_once(found.standing);
+        let settled = settles_at_once(standing);
+        self.index.close(id, settled);
         Ok(replies::disposition(id, settled, outcome))
     }
 
@@ -420,9 +452,159 @@ impl<A: Allocator + Copy> Session<A> {
     {
         laws::open_ids_grow_by_heads();
         self.state.is_long();
-        let dropped = self.state.detach(handle)?;
+        let mut ended = None;
+        let dropped = self.state.detach(&mut ended, handle)?;
+        self.index.forget_link(ended);
         Ok((replies::detach(handle, true), dropped))
     }
+}
+
+/// Where the open delivery with this id is kept, and what it is to its receiver; `None` where no link has one.
+fn find<A: Allocator + Copy>(index: &Index<A>, state: &State<A>, id: u32) -> Option<Found>
+    requires { IsKnown index.now state.now }
+    ensures { IsFound id state.now.links result }
+{
+    match index.get(id) {
+        None => None,
+        Some(kept) => Some(Found {
+            handle: kept.handle,
+            key: kept.key,
+            standing: state.standing(kept.handle, kept.key, id),
+        }),
+    }
+}
+
+/// The receiver settles the open delivery with this id, which is kept so if it is open, where it awaits that. Answers how
+/// it stood.
+fn settle_at<A: Allocator + Copy>(state: &mut State<A>, kept: Kept, id: u32) -> Standing
+    requires apart { IsApart state.old }
+    requires whole { standing_in id state.old.links ≡ slot_standing id (slot_at state.old kept.handle) }
+    ensures standing { result ≡ slot_standing id (slot_at state.old kept.handle) }
+    ensures settled { IsAwaiting result → HasSettled state.old state.new kept.handle id }
+    ensures same { ¬ (IsAwaiting result) → state.new ≡ state.old }
+{
+    match state.link_mut(kept.handle) {
+        Some(link) => link.settle_at(kept.key, id),
+        None => Standing::Absent,
+    }
+}
+
+/// Whether a delivery that stands so was not handed up.
+fn is_untaken(standing: Standing) -> bool
+    ensures { result ≡ is_untaken standing }
+{
+    matches!(standing, Standing::Untaken)
+}
+
+/// Takes a disposition, for which the open deliveries that it names are looked for in the index. What is open no longer
+/// is taken out of it.
+fn dispose<A: Allocator + Copy>(
+    state: &mut State<A>,
+    index: &mut Index<A>,
+    disposition: &Disposition<'_>,
+) -> Report
+    requires { IsKnown index.old state.old }
+    ensures known { IsKnown index.new state.new }
+    ensures new { state.new ≡ session_after state.old (event_of state.old (Disposes (disposing disposition.now))) }
+    ensures report { result ≡ report_of state.old (Disposes (disposing disposition.now)) }
+{
+    state.is_numbered();
+    if !is_settling(disposition) {
+        return Report::Nothing;
+    }
+    let first = disposition.first;
+    let last = disposition.last.unwrap_or(first);
+    settled_report(settle_ids(state, index, first, last))
+}
+
+/// The sender settles the ids from `first` to `last`, which go on behind the end of the ids. Answers how many open
+/// deliveries it settles.
+fn settle_ids<A: Allocator + Copy>(
+    state: &mut State<A>,
+    index: &mut Index<A>,
+    first: u32,
+    last: u32,
+) -> u32
+    requires { IsKnown index.old state.old }
+    ensures known { IsKnown index.new state.new }
+    ensures new { state.new ≡ disposed first last state.old }
+    ensures count { result ≡ sum_by (slot_settled first last) state.old.links }
+{
+    if Serial(first).distance(Serial(last)) >= 1 << 31 {
+        return 0;
+    }
+    if first <= last {
+        return settle_each(state, index, first, last);
+    }
+    let high = settle_each(state, index, first, u32::MAX);
+    let low = settle_each(state, index, 0, last);
+    high + low
+}
+
+/// The sender settles the open delivery with this id, which is kept so. Answers how many open deliveries it settles: one
+/// that is settled already counts for none.
+fn settle_one<A: Allocator + Copy>(
+    state: &mut State<A>,
+    index: &mut Index<A>,
+    kept: Kept,
+    id: u32,
+) -> u32
+    requires known { IsKnown index.old state.old }
+    requires here { found index.old id ≡ Some kept }
+    ensures new { state.new ≡ disposed id id state.old }
+    ensures known { IsKnown index.new state.new }
+    ensures count { result ≡ sum_by (slot_settled id id) state.old.links }
+    ensures most { result ≤ 1 }
+{
+    laws::open_ids_grow_by_heads();
+    let untaken = is_untaken(state.standing(kept.handle, kept.key, id));
+    let count = peer_settled_at(state, kept, id);
+    index.close(id, !untaken);
+    count
+}
+
+/// The same in the session alone.
+fn peer_settled_at<A: Allocator + Copy>(state: &mut State<A>, kept: Kept, id: u32) -> u32
+    requires apart { IsApart state.old }
+    requires alone { IsAlone id kept.handle state.old.links }
+    ensures new { state.new ≡ disposed id id state.old }
+    ensures apart { IsApart state.new }
+    ensures count { result ≡ sum_by (slot_settled id id) state.old.links }
+    ensures most { result ≤ 1 }
+{
+    laws::open_ids_grow_by_heads();
+    match state.link_mut(kept.handle) {
+        Some(link) => link.peer_settled_at(kept.key, id),
+        None => 0,
+    }
+}
+
+/// The sender settles the open deliveries with the ids from `first` to `last` as plain numbers, one by one. Answers how
+/// many open deliveries it settles.
+fn settle_each<A: Allocator + Copy>(
+    state: &mut State<A>,
+    index: &mut Index<A>,
+    first: u32,
+    last: u32,
+) -> u32
+    requires known { IsKnown index.old state.old }
+    requires order { first ≤ last }
+    requires few { last < first + 2 ^ 31 }
+    ensures new { state.new ≡ disposed first last state.old }
+    ensures known { IsKnown index.new state.new }
+    ensures count { result ≡ sum_by (slot_settled first last) state.old.links }
+    ensures most { result + first ≤ last + 1 }
+{
+    let mut count = 0;
+    let mut from = first;
+    while let Some((id, kept)) = index.next(from, last) {
+        count += settle_one(state, index, kept, id);
+        if id == last {
+            return count;
+        }
+        from = id + 1;
+    }
+    count
 }
 
 /// What answers a flow that was taken.
@@ -454,6 +636,16 @@ fn echo<A: Allocator + Copy>(after: &State<A>, flow: &Flow<'_>) -> Answer
             Some(flow) => Answer::Flow(flow),
             None => Answer::Nothing,
         },
+    }
+}
+
+/// Whether an open delivery has the id that a transfer states, if it states one.
+fn is_known<A: Allocator + Copy>(index: &Index<A>, transfer: &Transfer<'_>) -> bool
+    ensures { (id : ℕ) → transfer.now.delivery_id ≡ Some id → result ≡ is_some (found index.now id) }
+{
+    match transfer.delivery_id {
+        Some(id) => index.get(id).is_some(),
+        None => false,
     }
 }
 

@@ -1,15 +1,17 @@
 //! What stands at one handle.
-ghost use Rattle.std.specs.Prelude.{◌≡◌, ◌<◌, ◌≤◌, ◌+◌, ◌*◌, ◌^◌, length, Option, Some, None, OnOk, OnErr, IfOk, IfErr, IfSome, IfNone, IsSomeAnd, true, false, is_none, nat_lt};
-ghost use Rattle.amqp_link.specs.Links.{sent_of, LinkState, SenderSettled, open_count};
+ghost use Rattle.std.specs.Prelude.{◌≡◌, ◌<◌, ◌≤◌, ◌+◌, ◌*◌, ◌^◌, length, Option, Some, None, OnOk, OnErr, IfOk, IfErr, IfSome, IfNone, IsSomeAnd, true, false, is_none, is_some, nat_lt};
+ghost use Rattle.amqp_link.specs.Links.{sent_of, LinkState, open_count};
 ghost use Rattle.std.specs.Option.{option_copied_mut};
 ghost use Rattle.std.specs.Borrow.{sem};
 ghost use Rattle.amqp_session.specs.Lending.{LendsPlace};
 ghost use Rattle.amqp_session.specs.Links.{link_in};
-ghost use Rattle.amqp_session.specs.Slots.{slot_came, slot_came_report, IsSlotRefusal, slot_flowed, slot_called, stated_of, IsStated, IsFlowTold, is_live, IsViewAt};
-ghost use Rattle.amqp_session.specs.Faults.{is_free, link_condition, step_report, flow_report, slot_settled, where_so};
-ghost use Rattle.amqp_session.specs.Sessions.{slot_ready, slot_has, slot_bytes};
+ghost use Rattle.amqp_session.specs.Slots.{slot_came, slot_came_report, IsSlotRefusal, slot_flowed, stated_of, IsStated, IsFlowTold, is_live, IsViewAt};
+ghost use Rattle.amqp_session.specs.Places.{live_in};
+ghost use Rattle.amqp_session.specs.Faults.{is_free, link_condition, step_report, flow_report, where_so};
+ghost use Rattle.amqp_session.specs.Sessions.{slot_ready, slot_bytes};
 ghost use Rattle.amqp_session.specs.Calls.{at_link, slot_standing};
 ghost use Rattle.amqp_session.specs.Frames.{flowing};
+ghost use Rattle.amqp_session.specs.Indexes.{IsOnceAt, IsEndedAt, slot_begins, slot_unfinished};
 
 use crate::fault::{CallFault, SessionFault};
 use crate::kept_link::KeptLink;
@@ -19,6 +21,7 @@ use crate::view::LinkView;
 use amqp_link::{Link, LinkFault, Standing, Step};
 use amqp_perform::{Condition, Flow, Transfer};
 use std::alloc::Allocator;
+use std::mem;
 
 /// What a flow states of a link [2.7.4].
 #[derive(Clone, Copy)]
@@ -37,16 +40,21 @@ pub struct PeerDetached {
     pub live: bool,
 }
 
-/// Takes a transfer and its payload, of which it is known whether it begins a delivery under an open id.
+/// Takes a transfer and its payload, of which it is known whether it begins a delivery under an open id, and which was judged
+/// before if it is known that it begins one that stays open. A link that fails is put to `ended`.
 pub fn transfer<A: Allocator + Copy>(
     slot: &mut Slot<KeptLink<A>>,
+    ended: &mut Option<KeptLink<A>>,
     reused: bool,
+    judged: bool,
     transfer: &Transfer<'_>,
     payload: &[u8],
 ) -> Result<Report, SessionFault>
+    requires { judged ≡ true → slot_begins reused (sent_of transfer.now payload.now) slot.old ≡ true }
     ensures new { OnOk result (slot.new ≡ slot_came reused (sent_of transfer.now payload.now) slot.old) }
     ensures report { IfOk result (λ report. report ≡ slot_came_report reused transfer.now.handle (sent_of transfer.now payload.now) slot.old) }
     ensures used { OnOk result (is_free slot.old ≡ false) }
+    ensures ended { IfOk result (λ report. IsEndedAt transfer.now.handle slot.old report ended.new) }
     ensures refused { IfErr result (λ e. IsSlotRefusal reused (sent_of transfer.now payload.now) slot.old e) }
     ensures err { OnErr result (slot.new ≡ slot.old) }
 {
@@ -54,13 +62,13 @@ pub fn transfer<A: Allocator + Copy>(
     let fault = match slot {
         Slot::Free => return Err(SessionFault::UnattachedHandle),
         Slot::Waits => return Ok(Report::Nothing),
-        Slot::Live(kept) => match kept.transfer(reused, transfer, payload) {
+        Slot::Live(kept) => match kept.transfer(reused, judged, transfer, payload) {
             Ok(step) => return Ok(step_report(handle, step)),
             Err(LinkFault::NoMemory) => return Err(SessionFault::NoMemory),
             Err(fault) => fault,
         },
     };
-    Ok(fail(slot, handle, link_condition(fault)))
+    Ok(fail(slot, ended, handle, link_condition(fault)))
 }
 
 /// What an accepted transfer tells.
@@ -98,17 +106,19 @@ pub fn ready<A: Allocator + Copy>(slot: &Slot<KeptLink<A>>) -> u32
     }
 }
 
-/// This side ends the link with an error.
+/// This side ends the link with an error, and puts it to `ended`.
 fn fail<A: Allocator + Copy>(
     slot: &mut Slot<KeptLink<A>>,
+    ended: &mut Option<KeptLink<A>>,
     handle: u32,
     condition: Condition,
 ) -> Report
     ensures new { slot.new ≡ Slot.Waits }
+    ensures ended { ended.new ≡ live_in slot.old }
     ensures report { result ≡ Report.Failed handle condition (slot_ready slot.old) }
 {
     let dropped = ready(slot);
-    *slot = Slot::Waits;
+    *ended = end(slot, Slot::Waits);
     Report::Failed {
         handle,
         condition,
@@ -116,14 +126,31 @@ fn fail<A: Allocator + Copy>(
     }
 }
 
-/// Follows a flow of the link. `None` where it waits for the peer's detach: the flow is dropped.
+/// Leaves this there, and answers the link that was live.
+fn end<A: Allocator + Copy>(
+    slot: &mut Slot<KeptLink<A>>,
+    left: Slot<KeptLink<A>>,
+) -> Option<KeptLink<A>>
+    ensures new { slot.new ≡ left }
+    ensures ended { result ≡ live_in slot.old }
+{
+    match mem::replace(slot, left) {
+        Slot::Live(kept) => Some(kept),
+        _ => None,
+    }
+}
+
+/// Follows a flow of the link. `None` where it waits for the peer's detach: the flow is dropped. A link that fails is put
+/// to `ended`.
 pub fn flow<A: Allocator + Copy>(
     slot: &mut Slot<KeptLink<A>>,
+    ended: &mut Option<KeptLink<A>>,
     handle: u32,
     flow: &Flow<'_>,
 ) -> Result<Option<Report>, SessionFault>
     ensures new { slot.new ≡ slot_flowed (flowing flow.now) slot.old }
     ensures report { IfOk result (λ told. IsFlowTold handle (flowing flow.now) slot.old told) }
+    ensures ended { IfOk result (λ told. IfSome told (λ report. IsEndedAt handle slot.old report ended.new)) }
     ensures refused { IfErr result (λ e. (e ≡ SessionFault.UnattachedHandle) × (is_free slot.old ≡ true)) }
 {
     match slot {
@@ -135,7 +162,7 @@ pub fn flow<A: Allocator + Copy>(
             Err(_) => {}
         },
     }
-    Ok(Some(fail(slot, handle, Condition::TransferLimitExceeded)))
+    Ok(Some(fail(slot, ended, handle, Condition::TransferLimitExceeded)))
 }
 
 /// Why a grant of `n` places of credit would be refused.
@@ -191,9 +218,13 @@ pub fn stated_at<A: Allocator + Copy>(slot: &Slot<KeptLink<A>>) -> Option<LinkSt
     }
 }
 
-/// Ends the link, and answers how many ready deliveries are dropped.
-pub fn detach<A: Allocator + Copy>(slot: &mut Slot<KeptLink<A>>) -> Result<u32, CallFault>
+/// Ends the link, puts it to `ended`, and answers how many ready deliveries are dropped.
+pub fn detach<A: Allocator + Copy>(
+    slot: &mut Slot<KeptLink<A>>,
+    ended: &mut Option<KeptLink<A>>,
+) -> Result<u32, CallFault>
     ensures new { OnOk result (slot.new ≡ Slot.Waits) }
+    ensures ended { OnOk result (ended.new ≡ live_in slot.old) }
     ensures dropped { IfOk result (λ dropped. dropped ≡ slot_ready slot.old) }
     ensures accepted { OnOk result (at_link slot.old (λ l. None) ≡ None) }
     ensures refused { IfErr result (λ e. at_link slot.old (λ l. None) ≡ Some e) }
@@ -204,15 +235,17 @@ pub fn detach<A: Allocator + Copy>(slot: &mut Slot<KeptLink<A>>) -> Result<u32, 
         _ => return Err(CallFault::NoLink),
     }
     let dropped = ready(slot);
-    *slot = Slot::Waits;
+    *ended = end(slot, Slot::Waits);
     Ok(dropped)
 }
 
-/// The peer detaches the link.
+/// The peer detaches the link, which is put to `ended` if it was live.
 pub fn detached<A: Allocator + Copy>(
     slot: &mut Slot<KeptLink<A>>,
+    ended: &mut Option<KeptLink<A>>,
 ) -> Result<PeerDetached, SessionFault>
     ensures new { OnOk result (slot.new ≡ Slot.Free) }
+    ensures ended { OnOk result (ended.new ≡ live_in slot.old) }
     ensures used { OnOk result (is_free slot.old ≡ false) }
     ensures dropped { IfOk result (λ detached. detached.dropped ≡ slot_ready slot.old) }
     ensures live { IfOk result (λ detached. detached.live ≡ is_live slot.old) }
@@ -225,39 +258,43 @@ pub fn detached<A: Allocator + Copy>(
         Slot::Waits => false,
     };
     let dropped = ready(slot);
-    *slot = Slot::Free;
+    *ended = end(slot, Slot::Free);
     Ok(PeerDetached { dropped, live })
 }
 
-/// The sender settles the ids from `first` to `last`. Answers how many open deliveries it settles.
-pub fn peer_settled<A: Allocator + Copy>(slot: &mut Slot<KeptLink<A>>, first: u32, last: u32) -> u32
-    ensures new { slot.new ≡ slot_called (SenderSettled first last) slot.old }
-    ensures count { result ≡ slot_settled first last slot.old }
-    ensures most { result ≤ 1024 }
-{
-    match slot {
-        Slot::Live(kept) => kept.peer_settled(first, last),
-        _ => 0,
-    }
-}
-
-/// Whether an open delivery there has the id.
-pub fn has_open<A: Allocator + Copy>(slot: &Slot<KeptLink<A>>, id: u32) -> bool
-    ensures { result ≡ slot_has id slot.now }
-{
-    match slot {
-        Slot::Live(kept) => kept.link().has_open(id),
-        _ => false,
-    }
-}
-
-/// What the open delivery there with the id is to its receiver.
-pub fn standing<A: Allocator + Copy>(slot: &Slot<KeptLink<A>>, id: u32) -> Standing
+/// What the open delivery there with the id is to its receiver, which may be kept under this key.
+pub fn standing<A: Allocator + Copy>(slot: &Slot<KeptLink<A>>, key: usize, id: u32) -> Standing
+    requires { IsOnceAt id slot.now }
     ensures { result ≡ slot_standing id slot.now }
 {
     match slot {
-        Slot::Live(kept) => kept.link().standing(id),
+        Slot::Live(kept) => kept.link().standing_at(key, id),
         _ => Standing::Absent,
+    }
+}
+
+/// The key of the delivery that a transfer begins there, if it begins one that stays open.
+pub fn begins<A: Allocator + Copy>(
+    slot: &Slot<KeptLink<A>>,
+    reused: bool,
+    transfer: &Transfer<'_>,
+    payload: &[u8],
+) -> Option<usize>
+    ensures { is_some result ≡ slot_begins reused (sent_of transfer.now payload.now) slot.now }
+{
+    match slot {
+        Slot::Live(kept) => kept.begins(reused, transfer, payload),
+        _ => None,
+    }
+}
+
+/// The id of the unfinished delivery there, if there is one.
+pub fn unfinished_id<A: Allocator + Copy>(slot: &Slot<KeptLink<A>>) -> Option<u32>
+    ensures { result ≡ slot_unfinished slot.now }
+{
+    match slot {
+        Slot::Live(kept) => kept.link().unfinished_id(),
+        _ => None,
     }
 }
 

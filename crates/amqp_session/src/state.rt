@@ -1,9 +1,9 @@
 //! What a session keeps: its terms, its window, its numbers, and what stands at its handles.
-ghost use Rattle.std.specs.Prelude.{◌≡◌, ◌<◌, ◌≤◌, ◌+◌, ◌^◌, Bool, [], ◌∷◌, length, option_to_list, map, Option, Some, None, OnOk, OnErr, IfOk, IfErr, IfSome, IfNone, MatchOption, true, false, not, ◌&&◌, is_none};
+ghost use Rattle.std.specs.Prelude.{◌≡◌, ℕ, ◌<◌, ◌≤◌, ◌+◌, ◌^◌, Bool, [], ◌∷◌, length, option_to_list, map, Option, Some, None, OnOk, OnErr, IfOk, IfErr, IfSome, IfNone, MatchOption, true, false, not, ◌&&◌, is_none, is_some};
 ghost use Rattle.amqp_link.specs.Links.{sent_of};
 ghost use Rattle.amqp_perform.specs.declared.performative.Performative.TheVariants as performative;
 ghost use Rattle.amqp_perform.specs.Performatives.{is_receiver};
-ghost use Rattle.amqp_session.specs.Calls.{Widen, Grant, Drain, Settle, Detach as DetachCall, call_fault, call_event, standing_fault, settles_at_once};
+ghost use Rattle.amqp_session.specs.Calls.{Widen, Grant, Drain, Settle, Detach as DetachCall, call_fault, call_event, slot_standing, standing_fault, settles_at_once};
 ghost use Rattle.std.specs.Option.{option_copied_mut};
 ghost use Rattle.std.specs.Borrow.{sem};
 ghost use Rattle.amqp_session.specs.Links.{link_at};
@@ -11,20 +11,22 @@ ghost use Rattle.amqp_session.specs.StateLending.{LendsHandle};
 ghost use Rattle.amqp_session.specs.Faults.{session_fault, event_of, report_of, attach_fault, IsRefusal, session_flow, link_flow, attached, is_settling, settled_report};
 ghost use Rattle.amqp_perform.specs.Said.{said};
 ghost use Rattle.amqp_session.specs.Frames.{Attaches, Flows, Transfers, Disposes, Detaches, attaching, flowing, disposing, link_flow_said};
-ghost use Rattle.amqp_session.specs.Sessions.{SessionState, session_begins, session_after, session_bytes, session_ready, slot_at, slot_ready, handles, live_begins};
-ghost use Rattle.amqp_session.specs.Slots.{IsFound, IsViewAt, is_live};
+ghost use Rattle.amqp_session.specs.Sessions.{SessionState, session_begins, session_after, session_bytes, session_ready, slot_at, slot_ready, is_open_id, handles, live_begins};
+ghost use Rattle.amqp_session.specs.Places.{live_in};
+ghost use Rattle.amqp_session.specs.Slots.{IsViewAt, is_live};
+ghost use Rattle.amqp_session.specs.Indexes.{IsOnceAt, IsEnded, slot_unfinished, does_begin};
 ghost use Rattle.amqp_perform.specs.declared.outcome.Outcome.{Outcome};
 
 use crate::fault::{CallFault, SessionFault};
+use crate::index::Kept;
 use crate::kept_link::KeptLink;
 use crate::refusal::refusal;
-use crate::replies;
 use crate::report::Report;
 use crate::slot::Slot;
 use crate::slots::{self, LinkStated, PeerDetached};
-use crate::table::{self, Found};
 use crate::terms::SessionTerms;
 use crate::view::LinkView;
+use crate::{replies, table};
 use amqp_link::{Link, Standing, Terms};
 use amqp_perform::{Attach, Disposition, Flow, ReceiverSettleMode, Role, Transfer};
 use std::alloc::{AllocError, Allocator, Global};
@@ -76,6 +78,13 @@ impl<A: Allocator + Copy> State<A> {
         ensures { length self.now.links ≡ handles self.now.terms }
     {
         let _ = &self.table;
+    }
+
+    /// A law: the next-incoming-id has 32 bits.
+    pub fn is_numbered(&self)
+        ensures { self.now.next_incoming_id < 2 ^ 32 }
+    {
+        let _ = self.next_incoming_id();
     }
 
     /// What the session began with.
@@ -149,12 +158,50 @@ impl<A: Allocator + Copy> State<A> {
         }
     }
 
-    /// The handle of the link with an open delivery of this id, and what that is to its receiver; `None` where no link
-    /// has one.
-    pub fn find(&self, id: u32) -> Option<Found>
-        ensures { IsFound id self.now.links result }
+    /// What the open delivery with this id is to its receiver, of the link at a handle, where it may be kept under this
+    /// key.
+    pub fn standing(&self, handle: u32, key: usize, id: u32) -> Standing
+        requires { IsOnceAt id (slot_at self.now handle) }
+        ensures { result ≡ slot_standing id (slot_at self.now handle) }
     {
-        table::find(&self.table, id)
+        let place = handle as usize;
+        if place >= self.table.len() {
+            return Standing::Absent;
+        }
+        slots::standing(&self.table[place], key, id)
+    }
+
+    /// The id of the unfinished delivery of the link at a handle, if there is one.
+    pub fn unfinished_id(&self, handle: u32) -> Option<u32>
+        ensures { result ≡ slot_unfinished (slot_at self.now handle) }
+    {
+        let place = handle as usize;
+        if place >= self.table.len() {
+            return None;
+        }
+        slots::unfinished_id(&self.table[place])
+    }
+
+    /// Where the delivery will be kept that a transfer begins, if it begins one that stays open, where it is known
+    /// whether an open one has its id.
+    pub fn begins(&self, known: bool, transfer: &Transfer<'_>, payload: &[u8]) -> Option<Kept>
+        requires { (id : ℕ) → transfer.now.delivery_id ≡ Some id → known ≡ is_open_id self.now id }
+        ensures begins { is_some result ≡ does_begin self.now transfer.now.handle (sent_of transfer.now payload.now) }
+        ensures handle { IfSome result (λ kept. kept.handle ≡ transfer.now.handle) }
+    {
+        let handle = transfer.handle;
+        let place = handle as usize;
+        if self.window == 0 {
+            return None;
+        }
+        if place >= self.table.len() {
+            return None;
+        }
+        let reused = table::is_reused(&self.table, place, transfer.delivery_id, known);
+        match slots::begins(&self.table[place], reused, transfer, payload) {
+            Some(key) => Some(Kept { handle, key }),
+            None => None,
+        }
     }
 
     /// The flow of the session.
@@ -231,16 +278,21 @@ impl<A: Allocator + Copy> State<A> {
         }
     }
 
-    /// Takes a flow.
-    pub fn flow(&mut self, flow: &Flow<'_>) -> Result<Report, SessionFault>
+    /// Takes a flow. A link that fails is put to `ended`.
+    pub fn flow(
+        &mut self,
+        ended: &mut Option<KeptLink<A>>,
+        flow: &Flow<'_>,
+    ) -> Result<Report, SessionFault>
         ensures new { OnOk result (self.new ≡ session_after self.old (event_of self.old (Flows (flowing flow.now)))) }
         ensures accepted { OnOk result (session_fault self.old (Flows (flowing flow.now)) ≡ None) }
         ensures report { IfOk result (λ report. report ≡ report_of self.old (Flows (flowing flow.now))) }
+        ensures ended { IfOk result (λ report. IsEnded self.old report ended.new) }
         ensures refused { IfErr result (λ e. IsRefusal self.old (Flows (flowing flow.now)) e) }
         ensures err { OnErr result (self.new ≡ self.old) }
     {
         match flow.handle {
-            Some(handle) => self.link_flowed(handle, flow),
+            Some(handle) => self.link_flowed(ended, handle, flow),
             None => {
                 self.next_incoming_id = flow.next_outgoing_id;
                 Ok(Report::Nothing)
@@ -248,12 +300,18 @@ impl<A: Allocator + Copy> State<A> {
         }
     }
 
-    /// Takes a flow of the link at a handle.
-    fn link_flowed(&mut self, handle: u32, flow: &Flow<'_>) -> Result<Report, SessionFault>
+    /// Takes a flow of the link at a handle, which is put to `ended` if it fails.
+    fn link_flowed(
+        &mut self,
+        ended: &mut Option<KeptLink<A>>,
+        handle: u32,
+        flow: &Flow<'_>,
+    ) -> Result<Report, SessionFault>
         requires { flow.now.handle ≡ Some handle }
         ensures new { OnOk result (self.new ≡ session_after self.old (event_of self.old (Flows (flowing flow.now)))) }
         ensures accepted { OnOk result (session_fault self.old (Flows (flowing flow.now)) ≡ None) }
         ensures report { IfOk result (λ report. report ≡ report_of self.old (Flows (flowing flow.now))) }
+        ensures ended { IfOk result (λ report. IsEnded self.old report ended.new) }
         ensures refused { IfErr result (λ e. IsRefusal self.old (Flows (flowing flow.now)) e) }
         ensures err { OnErr result (self.new ≡ self.old) }
     {
@@ -261,7 +319,7 @@ impl<A: Allocator + Copy> State<A> {
         if place >= self.table.len() {
             return Err(SessionFault::UnattachedHandle);
         }
-        match slots::flow(&mut self.table[place], handle, flow)? {
+        match slots::flow(&mut self.table[place], ended, handle, flow)? {
             None => Ok(Report::Nothing),
             Some(report) => {
                 self.next_incoming_id = flow.next_outgoing_id;
@@ -270,15 +328,22 @@ impl<A: Allocator + Copy> State<A> {
         }
     }
 
-    /// Takes a transfer and its payload.
+    /// Takes a transfer and its payload, where it is known whether an open delivery has its id, and which was judged before if
+    /// it is known that it begins one that stays open. A link that fails is put to `ended`.
     pub fn transfer(
         &mut self,
+        ended: &mut Option<KeptLink<A>>,
+        known: bool,
+        judged: bool,
         transfer: &Transfer<'_>,
         payload: &[u8],
     ) -> Result<Report, SessionFault>
+        requires known { (id : ℕ) → transfer.now.delivery_id ≡ Some id → known ≡ is_open_id self.old id }
+        requires judged { judged ≡ true → does_begin self.old transfer.now.handle (sent_of transfer.now payload.now) ≡ true }
         ensures new { OnOk result (self.new ≡ session_after self.old (event_of self.old (Transfers transfer.now.handle (sent_of transfer.now payload.now)))) }
         ensures accepted { OnOk result (session_fault self.old (Transfers transfer.now.handle (sent_of transfer.now payload.now)) ≡ None) }
         ensures report { IfOk result (λ report. report ≡ report_of self.old (Transfers transfer.now.handle (sent_of transfer.now payload.now))) }
+        ensures ended { IfOk result (λ report. IsEnded self.old report ended.new) }
         ensures refused { IfErr result (λ e. IsRefusal self.old (Transfers transfer.now.handle (sent_of transfer.now payload.now)) e) }
         ensures err { OnErr result (self.new ≡ self.old) }
     {
@@ -289,33 +354,31 @@ impl<A: Allocator + Copy> State<A> {
         if place >= self.table.len() {
             return Err(SessionFault::UnattachedHandle);
         }
-        let reused = table::is_reused(&self.table, place, transfer.delivery_id);
-        let report = slots::transfer(&mut self.table[place], reused, transfer, payload)?;
+        let reused = table::is_reused(&self.table, place, transfer.delivery_id, known);
+        let report = slots::transfer(
+            &mut self.table[place],
+            ended,
+            reused,
+            judged,
+            transfer,
+            payload,
+        )?;
         self.window -= 1;
         self.next_incoming_id = self.next_incoming_id.wrapping_add(1);
         Ok(report)
     }
 
-    /// Takes a disposition.
-    pub fn disposition(&mut self, disposition: &Disposition<'_>) -> Report
-        ensures new { self.new ≡ session_after self.old (event_of self.old (Disposes (disposing disposition.now))) }
-        ensures report { result ≡ report_of self.old (Disposes (disposing disposition.now)) }
-    {
-        let _ = &self.table;
-        if !is_settling(disposition) {
-            return Report::Nothing;
-        }
-        let first = disposition.first;
-        let last = disposition.last.unwrap_or(first);
-        settled_report(table::peer_settled(&mut self.table, first, last))
-    }
-
-    /// Takes a detach of the link at a handle.
-    pub fn detached(&mut self, handle: u32) -> Result<PeerDetached, SessionFault>
+    /// Takes a detach of the link at a handle, which is put to `ended` if it was live.
+    pub fn detached(
+        &mut self,
+        ended: &mut Option<KeptLink<A>>,
+        handle: u32,
+    ) -> Result<PeerDetached, SessionFault>
         ensures new { OnOk result ((closed : Bool) → self.new ≡ session_after self.old (event_of self.old (Detaches handle closed))) }
         ensures accepted { OnOk result ((closed : Bool) → session_fault self.old (Detaches handle closed) ≡ None) }
         ensures dropped { IfOk result (λ detached. detached.dropped ≡ slot_ready (slot_at self.old handle)) }
         ensures live { IfOk result (λ detached. detached.live ≡ is_live (slot_at self.old handle)) }
+        ensures ended { OnOk result (ended.new ≡ live_in (slot_at self.old handle)) }
         ensures refused { IfErr result (λ e. (closed : Bool) → IsRefusal self.old (Detaches handle closed) e) }
         ensures err { OnErr result (self.new ≡ self.old) }
     {
@@ -323,7 +386,7 @@ impl<A: Allocator + Copy> State<A> {
         if place >= self.table.len() {
             return Err(SessionFault::UnattachedHandle);
         }
-        let detached = slots::detached(&mut self.table[place])?;
+        let detached = slots::detached(&mut self.table[place], ended)?;
         Ok(detached)
     }
 
@@ -361,16 +424,6 @@ impl<A: Allocator + Copy> State<A> {
         slots::link_fault(&self.table[place])
     }
 
-    /// Why a settle of the delivery with this id would be refused.
-    pub fn settle_fault(&self, id: u32) -> Option<CallFault>
-        ensures { (outcome : Outcome) → result ≡ call_fault self.now (Settle id outcome) }
-    {
-        match self.find(id) {
-            Some(found) => standing_fault(found.standing),
-            None => Some(CallFault::NoDelivery),
-        }
-    }
-
     /// Widens the window by `n` places.
     pub fn widen(&mut self, n: u32) -> Result<(), CallFault>
         ensures new { OnOk result (self.new ≡ session_after self.old (call_event self.old (Widen n))) }
@@ -385,11 +438,12 @@ impl<A: Allocator + Copy> State<A> {
         Ok(())
     }
 
-    /// Ends the link at a handle, and answers how many ready deliveries are dropped.
-    pub fn detach(&mut self, handle: u32) -> Result<u32, CallFault>
+    /// Ends the link at a handle, puts it to `ended`, and answers how many ready deliveries are dropped.
+    pub fn detach(&mut self, ended: &mut Option<KeptLink<A>>, handle: u32) -> Result<u32, CallFault>
         ensures new { OnOk result (self.new ≡ session_after self.old (call_event self.old (DetachCall handle))) }
         ensures accepted { OnOk result (call_fault self.old (DetachCall handle) ≡ None) }
         ensures dropped { IfOk result (λ dropped. dropped ≡ slot_ready (slot_at self.old handle)) }
+        ensures ended { OnOk result (ended.new ≡ live_in (slot_at self.old handle)) }
         ensures refused { IfErr result (λ e. call_fault self.old (DetachCall handle) ≡ Some e) }
         ensures err { OnErr result (self.new ≡ self.old) }
     {
@@ -397,7 +451,7 @@ impl<A: Allocator + Copy> State<A> {
         if place >= self.table.len() {
             return Err(CallFault::NoLink);
         }
-        let dropped = slots::detach(&mut self.table[place])?;
+        let dropped = slots::detach(&mut self.table[place], ended)?;
         Ok(dropped)
     }
 }
@@ -410,14 +464,14 @@ fn lacks_count(attach: &Attach<'_>) -> bool
 }
 
 /// Whether a disposition is the sender's, and settles.
-fn is_settling(disposition: &Disposition<'_>) -> bool
+pub fn is_settling(disposition: &Disposition<'_>) -> bool
     ensures { result ≡ is_settling (disposing disposition.now) }
 {
     matches!(disposition.role, Role::Sender) && disposition.settled
 }
 
 /// What is told where so many deliveries are settled.
-fn settled_report(count: u32) -> Report
+pub fn settled_report(count: u32) -> Report
     ensures { result ≡ settled_report count }
 {
     match count {

@@ -1,9 +1,8 @@
 //! What stands at the handles that were reached.
-ghost use Rattle.std.specs.Prelude.{◌≡◌, ℕ, ◌<◌, ◌≤◌, ◌+◌, ◌*◌, ◌^◌, ◌++◌, [], length, map, sum_by, Option, Some, None, OnOk, OnErr, true, false};
+ghost use Rattle.std.specs.Prelude.{◌≡◌, ℕ, ◌<◌, ◌≤◌, ◌+◌, ◌*◌, ◌^◌, ◌++◌, [], length, sum_by, Option, Some, None, OnOk, OnErr, true, false};
 ghost use Rattle.std.specs.List.{list_any};
-ghost use Rattle.amqp_link.specs.Links.{SenderSettled};
-ghost use Rattle.amqp_session.specs.Slots.{at_place, slot_reused, slot_called, padded, IsFound};
-ghost use Rattle.amqp_session.specs.Faults.{slot_settled, is_free};
+ghost use Rattle.amqp_session.specs.Slots.{at_place, slot_reused, padded, IsFound};
+ghost use Rattle.amqp_session.specs.Faults.{is_free};
 ghost use Rattle.amqp_session.specs.Sessions.{slot_ready, slot_has, slot_bytes};
 
 use crate::kept_link::KeptLink;
@@ -17,20 +16,10 @@ use std::alloc::{AllocError, Allocator};
 pub struct Found {
     /// The handle of its link.
     pub handle: u32,
+    /// Its key there.
+    pub key: usize,
     /// What it is to its receiver.
     pub standing: Standing,
-}
-
-/// Whether an open delivery has the id.
-fn has_open<A: Allocator + Copy>(table: &[Slot<KeptLink<A>>], id: u32) -> bool
-    ensures { result ≡ list_any (slot_has id) table.now }
-{
-    for slot in table {
-        if slots::has_open(slot, id) {
-            return true;
-        }
-    }
-    false
 }
 
 /// Whether nothing stands at a place.
@@ -43,36 +32,21 @@ pub fn is_free<A: Allocator + Copy>(table: &[Slot<KeptLink<A>>], place: usize) -
     }
 }
 
-/// Whether a transfer at the place that states this id begins a delivery under the id of an open one.
+/// Whether a transfer at the place that states this id begins a delivery under the id of an open one, where it is
+/// known whether one has the id.
 pub fn is_reused<A: Allocator + Copy>(
     table: &[Slot<KeptLink<A>>],
     place: usize,
     id: Option<u32>,
+    known: bool,
 ) -> bool
+    requires { (n : ℕ) → id ≡ Some n → known ≡ list_any (slot_has n) table.now }
     ensures { result ≡ slot_reused table.now id (at_place table.now place) }
 {
     match (table.get(place), id) {
-        (Some(Slot::Live(kept)), Some(id)) => kept.link().next_is_head() && has_open(table, id),
+        (Some(Slot::Live(kept)), Some(_)) => kept.link().next_is_head() && known,
         _ => false,
     }
-}
-
-/// The handle of the link with an open delivery of this id, and what that is to its receiver; `None` where no
-/// link has one.
-pub fn find<A: Allocator + Copy>(table: &[Slot<KeptLink<A>>], id: u32) -> Option<Found>
-    requires { length table.now ≤ 256 }
-    ensures { IsFound id table.now result }
-{
-    for (place, slot) in table.iter().enumerate() {
-        match slots::standing(slot, id) {
-            Standing::Absent => {}
-            standing => {
-                let handle = place as u32;
-                return Some(Found { handle, standing });
-            }
-        }
-    }
-    None
 }
 
 /// The bytes that count as kept.
@@ -99,24 +73,6 @@ pub fn ready<A: Allocator + Copy>(table: &[Slot<KeptLink<A>>]) -> u32
         ready += slots::ready(slot);
     }
     ready
-}
-
-/// The sender settles the ids from `first` to `last`, whatever links they are on. Answers how many open deliveries
-/// it settles.
-pub fn peer_settled<A: Allocator + Copy>(
-    table: &mut [Slot<KeptLink<A>>],
-    first: u32,
-    last: u32,
-) -> u32
-    requires { length table.old ≤ 256 }
-    ensures new { table.new ≡ map (slot_called (SenderSettled first last)) table.old }
-    ensures count { result ≡ sum_by (slot_settled first last) table.old }
-{
-    let mut count = 0;
-    for slot in table.iter_mut() {
-        count += slots::peer_settled(slot, first, last);
-    }
-    count
 }
 
 /// Makes room up to a place, which is then reached.

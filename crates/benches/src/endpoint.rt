@@ -30,9 +30,10 @@ pub struct Case {
     /// The bytes of a message.
     message: u32,
     by: By,
-    /// The links on which they come in turn.
-    links: u8,
-    /// The deliveries on the first link that stay open, handed up and not settled.
+    /// The sessions, and the links of each, on which they come in turn.
+    sessions: u16,
+    links: u16,
+    /// The first deliveries, which stay open, handed up and not settled.
     open: u32,
     rounds: u32,
 }
@@ -45,11 +46,12 @@ impl Measured for Case {
     }
 
     fn about(&self) -> &'static str {
-        match (self.links, self.open) {
-            (1, 0) =>
+        match (self.sessions, self.links, self.open) {
+            (1, 1, 0) =>
                 "messages of so many bytes, fed in pieces of 4096, of so many `by`, or by fills",
-            (1, _) => "messages of 100 bytes, while so many others are open",
-            _ => "messages of 100 bytes on so many links in turn",
+            (1, 1, _) => "messages of 100 bytes, while so many others are open",
+            (1, _, _) => "messages of 100 bytes on so many links in turn",
+            _ => "messages of 100 bytes on so many sessions in turn",
         }
     }
 
@@ -77,14 +79,30 @@ const fn one_link(name: &'static str, message: u32, by: By, rounds: u32) -> Case
         name,
         message,
         by,
+        sessions: 1,
         links: 1,
         open: 0,
         rounds,
     }
 }
 
+/// The same case with so many others open.
+const fn open(case: Case, name: &'static str, open: u32) -> Case {
+    Case { name, open, ..case }
+}
+
+/// The same case on so many links of so many sessions.
+const fn on(case: Case, name: &'static str, sessions: u16, links: u16) -> Case {
+    Case {
+        name,
+        sessions,
+        links,
+        ..case
+    }
+}
+
 /// Every case, in the order in which they are measured.
-pub fn cases() -> [Case; 12] {
+pub fn cases() -> [Case; 19] {
     let short = By::Pieces(4096);
     let long = By::Pieces(65536);
     let small = one_link("100", 100, short, 1_000_000);
@@ -98,21 +116,16 @@ pub fn cases() -> [Case; 12] {
         one_link("1000000", 1_000_000, short, 2_000),
         one_link("1000000-by-65536", 1_000_000, long, 2_000),
         one_link("1000000-by-fills", 1_000_000, By::Fills, 2_000),
-        Case {
-            name: "8-links",
-            links: 8,
-            ..small
-        },
-        Case {
-            name: "100-open",
-            open: 100,
-            ..small
-        },
-        Case {
-            name: "1000-open",
-            open: 1_000,
-            ..small
-        },
+        open(small, "1-open", 1),
+        open(small, "10-open", 10),
+        open(small, "100-open", 100),
+        open(small, "1000-open", 1_000),
+        on(small, "8-links", 1, 8),
+        on(small, "64-links", 1, 64),
+        on(small, "128-links", 1, 128),
+        on(small, "256-links", 1, 256),
+        on(small, "8-sessions", 8, 1),
+        on(small, "256-sessions", 256, 1),
     ]
 }
 

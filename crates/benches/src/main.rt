@@ -1,10 +1,11 @@
-//! Measures the codec, a link, a session and an endpoint, each in several cases.
+//! Measures the codec, a link, a session, dispositions and an endpoint, each in several cases.
 //!
 //! `benches GROUP [CASE [ROUNDS]]` times the cases of a group, or one of them. With no words each case is run once and
 //! not timed, so that the same is printed each time.
 #![tactic(auto)]
 
 mod codec;
+mod disposition;
 mod endpoint;
 mod frames;
 mod link;
@@ -65,6 +66,7 @@ fn run_group(
         Group::Codec => run_named(rt, alloc, &codec::cases(), name, mode),
         Group::Link => run_named(rt, alloc, &link::cases(), name, mode),
         Group::Session => run_named(rt, alloc, &session::cases(), name, mode),
+        Group::Disposition => run_named(rt, alloc, &disposition::cases(), name, mode),
         Group::Endpoint => run_named(rt, alloc, &endpoint::cases(), name, mode),
     }
 }
@@ -74,6 +76,7 @@ fn help(rt: &impl Print) -> Result<(), Failure> {
     list(rt, &codec::cases())?;
     list(rt, &link::cases())?;
     list(rt, &session::cases())?;
+    list(rt, &disposition::cases())?;
     list(rt, &endpoint::cases())?;
     Ok(())
 }

@@ -6,11 +6,18 @@ pub enum Group {
     Codec,
     Link,
     Session,
+    Disposition,
     Endpoint,
 }
 
 /// Every group, in the order in which they are run.
-pub const GROUPS: [Group; 4] = [Group::Codec, Group::Link, Group::Session, Group::Endpoint];
+pub const GROUPS: [Group; 5] = [
+    Group::Codec,
+    Group::Link,
+    Group::Session,
+    Group::Disposition,
+    Group::Endpoint,
+];
 
 /// What is to be done.
 #[derive(Clone, Copy)]
@@ -56,6 +63,7 @@ fn group_of(word: &str) -> Option<Group> {
         "codec" => Some(Group::Codec),
         "link" => Some(Group::Link),
         "session" => Some(Group::Session),
+        "disposition" => Some(Group::Disposition),
         "endpoint" => Some(Group::Endpoint),
         _ => None,
     }

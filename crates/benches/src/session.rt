@@ -4,7 +4,7 @@ mod delivery;
 
 use crate::measure::{Failure, Measured, Mode, change};
 use crate::session::delivery::{deliver, session_with};
-pub use delivery::Stopped;
+pub use delivery::{Stopped, arrive, begin, send};
 use std::alloc::Global;
 use std::rt::Clock;
 use std::time::Instant;

@@ -49,7 +49,8 @@ impl From<Stopped> for Failure {
 #[derive(Drop)]
 pub struct Run {
     endpoint: Endpoint,
-    links: u8,
+    sessions: u16,
+    links: u16,
     /// The deliveries to come that stay open.
     left_open: u32,
     /// The messages that were handed up, and their bytes.
@@ -61,18 +62,30 @@ impl Run {
     /// An endpoint with its links.
     pub fn new(alloc: Global, case: Case) -> Result<Run, Stopped> {
         let name = String::from_str(alloc, "bench")?;
-        let settings = Config::checked(name, MAX_FRAME, 0, 255, MAX_ALLOWED, case.message, WINDOW);
+        let settings = Config::checked(
+            name,
+            MAX_FRAME,
+            255,
+            255,
+            MAX_ALLOWED,
+            case.message,
+            WINDOW,
+        );
         let Some(config) = settings else {
             return Err(Stopped::Settings);
         };
         let mut run = Run {
             endpoint: Endpoint::new(alloc, config)?,
+            sessions: case.sessions,
             links: case.links,
             left_open: case.open,
             messages: 0,
             moved: 0,
         };
-        run.feed(&opening(alloc, case.links)?, By::Pieces(4096))?;
+        run.feed(
+            &opening(alloc, case.sessions, case.links)?,
+            By::Pieces(4096),
+        )?;
         run.grant()?;
         Ok(run)
     }
@@ -126,7 +139,7 @@ impl Run {
     /// Receives the message that is ready.
     fn follow(&mut self, told: Outcome) -> Result<(), Stopped> {
         match told {
-            Outcome::Event(Event::Ready { handle, .. }) => self.receive(handle),
+            Outcome::Event(Event::Ready { channel, handle }) => self.receive(channel, handle),
             Outcome::Event(Event::Failed { .. }) => Err(Stopped::Told(told)),
             Outcome::More | Outcome::Event(_) => Ok(()),
             other => Err(Stopped::Told(other)),
@@ -134,17 +147,18 @@ impl Run {
     }
 
     /// A message is handed up, and settled unless it is to stay open.
-    fn receive(&mut self, handle: u32) -> Result<(), Stopped> {
-        let taken = self.endpoint.take(0, handle)?;
+    fn receive(&mut self, channel: u16, handle: u32) -> Result<(), Stopped> {
+        let taken = self.endpoint.take(channel, handle)?;
         self.messages = self.messages.wrapping_add(1);
         self.moved = self.moved.wrapping_add(taken.message.len() as u64);
         if self.left_open > 0 {
             self.left_open -= 1;
         } else {
             self.endpoint
-                .settle(0, taken.delivery_id, Settlement::Accepted)?;
+                .settle(channel, taken.delivery_id, Settlement::Accepted)?;
         }
-        let round = CREDIT.wrapping_mul(self.links as u32);
+        let links = (self.sessions as u32).wrapping_mul(self.links as u32);
+        let round = CREDIT.wrapping_mul(links);
         if self.messages.checked_rem(round) == Some(0) {
             self.empty();
             self.grant()?;
@@ -154,10 +168,27 @@ impl Run {
 
     /// Each link gets credit.
     fn grant(&mut self) -> Result<(), Stopped> {
-        for handle in 0..self.links {
-            self.endpoint.grant(0, handle as u32, CREDIT)?;
+        for channel in 0..self.sessions {
+            self.grant_on(channel)?;
+            self.empty_after(channel);
         }
         Ok(())
+    }
+
+    /// Each link of a session does.
+    fn grant_on(&mut self, channel: u16) -> Result<(), Stopped> {
+        for handle in 0..self.links {
+            self.endpoint.grant(channel, handle as u32, CREDIT)?;
+            self.empty_after(handle);
+        }
+        Ok(())
+    }
+
+    /// Moves out what waits to be sent behind every 64th.
+    fn empty_after(&mut self, place: u16) {
+        if place % 64 == 63 {
+            self.empty();
+        }
     }
 
     /// Moves out all that waits to be sent.

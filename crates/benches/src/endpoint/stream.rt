@@ -24,6 +24,7 @@ fn messages_of(case: Case) -> u32 {
 /// Appends a frame.
 fn push(
     bytes: &mut Vec<u8>,
+    channel: u16,
     performative: &Performative<'_>,
     payload: &[u8],
 ) -> Result<(), AllocError> {
@@ -31,19 +32,19 @@ fn push(
     let room = payload.len().saturating_add(256);
     bytes.resize(start.saturating_add(room), 0)?;
     let (_, out) = bytes.as_mut_slice().split_at_mut(start);
-    let written = write_frame(0, performative, payload, out).unwrap_or(0);
+    let written = write_frame(channel, performative, payload, out).unwrap_or(0);
     bytes.truncate(start.saturating_add(written));
     Ok(())
 }
 
 /// What a sender says before its messages.
-pub fn opening(alloc: Global, links: u8) -> Result<Vec<u8>, AllocError> {
+pub fn opening(alloc: Global, sessions: u16, links: u16) -> Result<Vec<u8>, AllocError> {
     let mut bytes = Vec::from_slice(alloc, b"AMQP\x00\x01\x00\x00")?;
     let open = Performative::Open(Open {
         container_id: "sender",
         hostname: &[],
         max_frame_size: MAX_FRAME,
-        channel_max: 0,
+        channel_max: 255,
         idle_time_out: &[],
         outgoing_locales: &[],
         incoming_locales: &[],
@@ -51,6 +52,15 @@ pub fn opening(alloc: Global, links: u8) -> Result<Vec<u8>, AllocError> {
         desired_capabilities: &[],
         properties: &[],
     });
+    push(&mut bytes, 0, &open, &[])?;
+    for channel in 0..sessions {
+        begin(&mut bytes, channel, links)?;
+    }
+    Ok(bytes)
+}
+
+/// What it says to begin a session with its links.
+fn begin(bytes: &mut Vec<u8>, channel: u16, links: u16) -> Result<(), AllocError> {
     let begin = Performative::Begin(Begin {
         remote_channel: None,
         next_outgoing_id: 0,
@@ -61,20 +71,16 @@ pub fn opening(alloc: Global, links: u8) -> Result<Vec<u8>, AllocError> {
         desired_capabilities: &[],
         properties: &[],
     });
-    push(&mut bytes, &open, &[])?;
-    push(&mut bytes, &begin, &[])?;
+    push(bytes, channel, &begin, &[])?;
     for handle in 0..links {
-        push(
-            &mut bytes,
-            &Performative::Attach(attach(handle as u32)),
-            &[],
-        )?;
+        let attach = Performative::Attach(attach(handle as u32));
+        push(bytes, channel, &attach, &[])?;
     }
-    Ok(bytes)
+    Ok(())
 }
 
 impl Block {
-    /// The messages of one round, on the links in turn.
+    /// The messages of one round, on the links and sessions in turn.
     pub fn new(alloc: Global, case: Case) -> Result<Block, AllocError> {
         let payload = Vec::from_elem(alloc, 0x78, case.message as usize)?;
         let mut block = Block {
@@ -83,13 +89,20 @@ impl Block {
         };
         for index in 0..messages_of(case) {
             let handle = index.checked_rem(case.links as u32).unwrap_or(0);
-            block.push_message(handle, &payload)?;
+            let round = index.checked_div(case.links as u32).unwrap_or(0);
+            let channel = round.checked_rem(case.sessions as u32).unwrap_or(0);
+            block.push_message(channel as u16, handle, &payload)?;
         }
         Ok(block)
     }
 
     /// Appends a message in frames that are as long as they may be.
-    fn push_message(&mut self, handle: u32, payload: &[u8]) -> Result<(), AllocError> {
+    fn push_message(
+        &mut self,
+        channel: u16,
+        handle: u32,
+        payload: &[u8],
+    ) -> Result<(), AllocError> {
         let most = (MAX_FRAME - OVERHEAD) as usize;
         // Behind the frame's header, the list's, the handle and the code of the id.
         let behind = if handle == 0 { 16 } else { 17 };
@@ -99,7 +112,8 @@ impl Block {
         for _ in 0..payload.len() {
             transfer.more = rest.len() > most;
             let (piece, behind) = rest.split_at(rest.len().min(most));
-            push(&mut self.bytes, &Performative::Transfer(transfer), piece)?;
+            let transfer_frame = Performative::Transfer(transfer);
+            push(&mut self.bytes, channel, &transfer_frame, piece)?;
             if behind.is_empty() {
                 break;
             }

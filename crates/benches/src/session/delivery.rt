@@ -48,27 +48,38 @@ fn terms() -> SessionTerms {
     }
 }
 
-/// A delivery comes and is handed up. Answers how long it was.
-fn arrive(session: &mut Session, handle: u32, id: u32, payload: &[u8]) -> Result<u64, Stopped> {
+/// A delivery comes, for which there is credit then.
+pub fn send(session: &mut Session, handle: u32, id: u32, payload: &[u8]) -> Result<(), Stopped> {
     session.grant(handle, 1)?;
     let done = session.frame(&Performative::Transfer(whole(handle, id)), payload)?;
     match done.report {
-        Report::Ready { .. } => {}
-        _ => return Err(Stopped::Link),
+        Report::Ready { .. } => Ok(()),
+        _ => Err(Stopped::Link),
     }
+}
+
+/// A delivery comes and is handed up. Answers how long it was.
+pub fn arrive(session: &mut Session, handle: u32, id: u32, payload: &[u8]) -> Result<u64, Stopped> {
+    send(session, handle, id, payload)?;
     let taken = session.take(handle)?;
     Ok(taken.message.len() as u64)
 }
 
-/// A session with its links, and what stays open on the first.
-pub fn session_with(alloc: Global, case: Case, payload: &[u8]) -> Result<Session, Stopped> {
+/// A session with so many links.
+pub fn begin(alloc: Global, links: u32) -> Result<Session, Stopped> {
     let mut session = Session::begin(alloc, terms());
-    for handle in 0..case.links {
+    for handle in 0..links {
         if handle > session.terms().handle_max as u32 {
             return Err(Stopped::Link);
         }
         session.attach(&attach(handle))?;
     }
+    Ok(session)
+}
+
+/// A session with its links, and what stays open on the first.
+pub fn session_with(alloc: Global, case: Case, payload: &[u8]) -> Result<Session, Stopped> {
+    let mut session = begin(alloc, case.links)?;
     for id in 0..case.open {
         arrive(&mut session, 0, id, payload)?;
     }

@@ -8,14 +8,14 @@ use Rattle.amqp_frame.proofs.split.Splitter.filled.Goals as goal
 pub progress_of-self-inside-requires-clause-held : goal.progress_of-self-inside-requires-clause-held
 progress_of-self-inside-requires-clause-held g c =
     let i = c.self.inside in
-    let s : SplitterState = record { limit = i.limit; stage = i.stage; filled = i.bytes.filled; spare = i.bytes.spare } in
+    let s : SplitterState = record { limit = i.limit; stage = i.stage; filled = i.bytes.filled; spare = i.bytes.spare; reach = i.bytes.reach } in
     let came = room_filled s i.progress c.args.n c.self.invariant (rw (← c.self.view_is) at c.requires) in
     rw c.as_slice.ensures (rw c.fill.ensures.filled (subst (λ (k : Stage). IsHeld i.limit k (i.bytes.filled ++ take c.args.n i.bytes.spare)) c.in-Frames.is came.1))
 
 pub invariant_of-self : goal.invariant_of-self
 invariant_of-self g c =
     let i = c.self.inside in
-    let s : SplitterState = record { limit = i.limit; stage = i.stage; filled = i.bytes.filled; spare = i.bytes.spare } in
+    let s : SplitterState = record { limit = i.limit; stage = i.stage; filled = i.bytes.filled; spare = i.bytes.spare; reach = i.bytes.reach } in
     let came = room_filled s i.progress c.args.n c.self.invariant (rw (← c.self.view_is) at c.requires) in
     record {
       least = c.self.invariant.least;
@@ -27,7 +27,7 @@ invariant_of-self g c =
 pub invariant_of-self-in_default : goal.invariant_of-self-in_default
 invariant_of-self-in_default g c =
     let i = c.self.inside in
-    let s : SplitterState = record { limit = i.limit; stage = i.stage; filled = i.bytes.filled; spare = i.bytes.spare } in
+    let s : SplitterState = record { limit = i.limit; stage = i.stage; filled = i.bytes.filled; spare = i.bytes.spare; reach = i.bytes.reach } in
     let came = room_filled s i.progress c.args.n c.self.invariant (rw (← c.self.view_is) at c.requires) in
     record {
       least = c.self.invariant.least;
@@ -39,22 +39,22 @@ invariant_of-self-in_default g c =
 pub returns-in-Frames-clause-taken : goal.returns-in-Frames-clause-taken
 returns-in-Frames-clause-taken g c =
     let i = c.self.inside in
-    let s : SplitterState = record { limit = i.limit; stage = i.stage; filled = i.bytes.filled; spare = i.bytes.spare } in
-    let t : SplitterState = record { limit = i.limit; stage = i.stage; filled = c.fill.new.self.filled; spare = c.fill.new.self.spare } in
+    let s : SplitterState = record { limit = i.limit; stage = i.stage; filled = i.bytes.filled; spare = i.bytes.spare; reach = i.bytes.reach } in
+    let t : SplitterState = record { limit = i.limit; stage = i.stage; filled = c.fill.new.self.filled; spare = c.fill.new.self.spare; reach = c.fill.new.self.reach } in
     let came = room_filled s i.progress c.args.n c.self.invariant (rw (← c.self.view_is) at c.requires) in
     rw (← c.self.view_is) (room_taken s t c.args.n c.self.invariant.least came.0 came.1 refl refl c.fill.ensures.filled)
 
 pub returns-in-Frames-clause-held : goal.returns-in-Frames-clause-held
 returns-in-Frames-clause-held g c =
     let i = c.self.inside in
-    let s : SplitterState = record { limit = i.limit; stage = i.stage; filled = i.bytes.filled; spare = i.bytes.spare } in
+    let s : SplitterState = record { limit = i.limit; stage = i.stage; filled = i.bytes.filled; spare = i.bytes.spare; reach = i.bytes.reach } in
     rw c.fill.ensures.filled (room_filled s i.progress c.args.n c.self.invariant (rw (← c.self.view_is) at c.requires)).1
 
 pub returns-in_default : goal.returns-in_default
 returns-in_default g c =
     let i = c.self.inside in
-    let s : SplitterState = record { limit = i.limit; stage = i.stage; filled = i.bytes.filled; spare = i.bytes.spare } in
-    let t : SplitterState = record { limit = i.limit; stage = i.stage; filled = c.fill.new.self.filled; spare = c.fill.new.self.spare } in
+    let s : SplitterState = record { limit = i.limit; stage = i.stage; filled = i.bytes.filled; spare = i.bytes.spare; reach = i.bytes.reach } in
+    let t : SplitterState = record { limit = i.limit; stage = i.stage; filled = c.fill.new.self.filled; spare = c.fill.new.self.spare; reach = c.fill.new.self.reach } in
     let came = room_filled s i.progress c.args.n c.self.invariant (rw (← c.self.view_is) at c.requires) in
     record {
       taken = rw (← c.self.view_is) (room_taken s t c.args.n c.self.invariant.least came.0 came.1 refl refl c.fill.ensures.filled);

@@ -1,14 +1,20 @@
 use Rattle.std.proofs.Common.{arith, ℕ, ◌-◌, List, Option, sym, ap, subst, ◌∙◌}
 use Rattle.amqp_link.specs.Links.{OpenSet, how_many}
-use Rattle.amqp_link.specs.Keeping.{set_at, settled_list}
+use Rattle.amqp_link.specs.Keeping.{set_at, settled_list, IsHint}
 use Rattle.amqp_link.proofs.PlaceKeys.{from_the_start, front_written}
 use Rattle.amqp_link.proofs.KeptPlaces.{PlacedAt, many_kept, same_keys, keys_within, few_placed}
 use Rattle.amqp_link.proofs.KeptSettles.{awaiting_keys, awaiting_settled}
+use Rattle.amqp_link.proofs.Hints.{numbered}
 use Rattle.amqp_link.proofs.open_deliveries.OpenDeliveries.settle_handed_up.Goals as goal
 
 pub settle-settled-requires-clause-keys : goal.settle-settled-requires-clause-keys
 settle-settled-requires-clause-keys g c =
     awaiting_keys c.self.inside.slab c.self.inside.order.items _ _ _ _ _ c.self.invariant (c.slice_mut-handed_up.ensures.value ∙ from_the_start c.self.inside.handed_up c.self.inside.order.items)
+
+pub settle-settled-requires-clause-hint : goal.settle-settled-requires-clause-hint
+settle-settled-requires-clause-hint g c =
+    rw (c.slice_mut-handed_up.ensures.value ∙ from_the_start c.self.inside.handed_up c.self.inside.order.items)
+    (subst (λ (o : OpenSet). IsHint c.args.hint c.args.settling.ids.first c.args.settling.ids.last o.awaiting) (sym c.self.view_is) c.requires)
 
 pub close_up-requires-clause-keys : goal.close_up-requires-clause-keys
 close_up-requires-clause-keys g c =
@@ -22,7 +28,7 @@ close_up-requires-clause-keys g c =
     (awaiting_settled c.args.settling c.self.inside.slab c.settle-settled.new.slab c.self.inside.order.items _ c.settle-settled.new.places c.self.inside.handed_up c.self.inside.unfinished _ _
     c.self.inside.bytes c.self.inside.order.cap c.self.invariant (c.slice_mut-handed_up.ensures.value ∙ from_the_start c.self.inside.handed_up c.self.inside.order.items)
     c.settle-settled.ensures) in
-    omega (arith, c.len.ensures, keys_within c.settle-settled.new.slab _ _ _ _ _ done.placed)
+    omega (arith, keys_within c.settle-settled.new.slab _ _ _ _ _ done.placed)
 
 pub close_up-requires-clause-fits : goal.close_up-requires-clause-fits
 close_up-requires-clause-fits g c =
@@ -36,7 +42,7 @@ close_up-requires-clause-fits g c =
     (awaiting_settled c.args.settling c.self.inside.slab c.settle-settled.new.slab c.self.inside.order.items _ c.settle-settled.new.places c.self.inside.handed_up c.self.inside.unfinished _ _
     c.self.inside.bytes c.self.inside.order.cap c.self.invariant (c.slice_mut-handed_up.ensures.value ∙ from_the_start c.self.inside.handed_up c.self.inside.order.items)
     c.settle-settled.ensures) in
-    omega (arith, c.len.ensures, few_placed c.settle-settled.new.slab _ _ _ _ _ done.placed, c.self.inside.order.small)
+    omega (arith, few_placed c.settle-settled.new.slab _ _ _ _ _ done.placed, c.self.inside.order.small)
 
 pub invariant_of-self : goal.invariant_of-self
 invariant_of-self g c =
@@ -50,7 +56,8 @@ invariant_of-self g c =
     (awaiting_settled c.args.settling c.self.inside.slab c.settle-settled.new.slab c.self.inside.order.items _ c.settle-settled.new.places c.self.inside.handed_up c.self.inside.unfinished _ _
     c.self.inside.bytes c.self.inside.order.cap c.self.invariant (c.slice_mut-handed_up.ensures.value ∙ from_the_start c.self.inside.handed_up c.self.inside.order.items)
     c.settle-settled.ensures) in
-    (same_keys c.settle-settled.new.slab _ _ _ _ _ _ _ _ _ done c.close_up.ensures.same (omega (arith, c.close_up.ensures.few, c.len.ensures)) c.close_up.ensures.room).kept
+    (numbered c.settle-settled.new.slab c.close_up.new.slab _ _ _ _ _ _ (same_keys c.settle-settled.new.slab _ _ _ _ _ _ _ _ _ done c.close_up.ensures.same c.close_up.ensures.few
+    c.close_up.ensures.room) c.close_up.ensures.deliveries).kept
 
 pub returns-clause-new : goal.returns-clause-new
 returns-clause-new g c =
@@ -64,8 +71,9 @@ returns-clause-new g c =
     (awaiting_settled c.args.settling c.self.inside.slab c.settle-settled.new.slab c.self.inside.order.items _ c.settle-settled.new.places c.self.inside.handed_up c.self.inside.unfinished _ _
     c.self.inside.bytes c.self.inside.order.cap c.self.invariant (c.slice_mut-handed_up.ensures.value ∙ from_the_start c.self.inside.handed_up c.self.inside.order.items)
     c.settle-settled.ensures) in
+    (numbered c.settle-settled.new.slab c.close_up.new.slab c.close_up.new.places.items c.close_up.new.handed_up _ _ c.close_up.new.places.cap _
     (same_keys c.settle-settled.new.slab _ c.close_up.new.places.items _ c.close_up.new.handed_up _ _ _ c.close_up.new.places.cap _ done c.close_up.ensures.same
-    (omega (arith, c.close_up.ensures.few, c.len.ensures)) c.close_up.ensures.room).is
+    c.close_up.ensures.few c.close_up.ensures.room) c.close_up.ensures.deliveries).is
     ∙ ap (λ (o : OpenSet). record o { awaiting = settled_list c.args.settling o.awaiting }) c.self.view_is
 
 pub returns-clause-fits : goal.returns-clause-fits

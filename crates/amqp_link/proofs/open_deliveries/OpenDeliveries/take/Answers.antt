@@ -5,6 +5,7 @@ use Rattle.std.specs.Prelude.{drop}
 use Rattle.amqp_link.proofs.Keys.{same_value}
 use Rattle.amqp_link.proofs.PlaceKeys.{next_of}
 use Rattle.amqp_link.proofs.KeptPlaces.{first_at, leaves_at, moves_at, same_keys, keys_within, few_placed}
+use Rattle.amqp_link.proofs.Hints.{numbered}
 use Rattle.amqp_link.proofs.open_deliveries.OpenDeliveries.take.Goals as goal
 
 pub index-requires : goal.index-requires
@@ -44,7 +45,7 @@ close_up-requires-clause-keys g c =
     c.self.invariant c.remove-delivery.ensures.value
     (ap (λ d. d.settled) (same_value c.self.inside.slab c.in_ok-key.key c.remove-delivery.result c.index.result.now c.remove-delivery.ensures.value c.index.ensures) ∙ c.if-index.true)
     c.remove-delivery.ensures.updates c.remove-delivery.ensures.len (ap (λ (n : ℕ). c.self.inside.bytes - n) c.bytes.ensures)) in
-    omega (arith, c.len.ensures, keys_within c.remove-delivery.new.self _ _ _ _ _ left.placed)
+    omega (arith, keys_within c.remove-delivery.new.self _ _ _ _ _ left.placed)
 
 pub close_up-requires-clause-fits : goal.close_up-requires-clause-fits
 close_up-requires-clause-fits g c =
@@ -55,7 +56,7 @@ close_up-requires-clause-fits g c =
     c.self.invariant c.remove-delivery.ensures.value
     (ap (λ d. d.settled) (same_value c.self.inside.slab c.in_ok-key.key c.remove-delivery.result c.index.result.now c.remove-delivery.ensures.value c.index.ensures) ∙ c.if-index.true)
     c.remove-delivery.ensures.updates c.remove-delivery.ensures.len (ap (λ (n : ℕ). c.self.inside.bytes - n) c.bytes.ensures)) in
-    omega (arith, c.len.ensures, few_placed c.remove-delivery.new.self _ _ _ _ _ left.placed, c.self.inside.order.small)
+    omega (arith, few_placed c.remove-delivery.new.self _ _ _ _ _ left.placed, c.self.inside.order.small)
 
 pub invariant_of-self : goal.invariant_of-self
 invariant_of-self g c =
@@ -66,7 +67,8 @@ invariant_of-self g c =
     c.self.invariant c.remove-delivery.ensures.value
     (ap (λ d. d.settled) (same_value c.self.inside.slab c.in_ok-key.key c.remove-delivery.result c.index.result.now c.remove-delivery.ensures.value c.index.ensures) ∙ c.if-index.true)
     c.remove-delivery.ensures.updates c.remove-delivery.ensures.len (ap (λ (n : ℕ). c.self.inside.bytes - n) c.bytes.ensures)) in
-    (same_keys c.remove-delivery.new.self _ _ _ _ _ _ _ _ _ left c.close_up.ensures.same (omega (arith, c.close_up.ensures.few, c.len.ensures)) c.close_up.ensures.room).kept
+    (numbered c.remove-delivery.new.self c.close_up.new.slab _ _ _ _ _ _ (same_keys c.remove-delivery.new.self _ _ _ _ _ _ _ _ _ left c.close_up.ensures.same c.close_up.ensures.few
+    c.close_up.ensures.room) c.close_up.ensures.deliveries).kept
 
 pub returns-then-index-clause-some : goal.returns-then-index-clause-some
 returns-then-index-clause-some g c =
@@ -78,8 +80,9 @@ returns-then-index-clause-some g c =
     (ap (λ d. d.settled) (same_value c.self.inside.slab c.in_ok-key.key c.remove-delivery.result c.index.result.now c.remove-delivery.ensures.value c.index.ensures) ∙ c.if-index.true)
     c.remove-delivery.ensures.updates c.remove-delivery.ensures.len (ap (λ (n : ℕ). c.self.inside.bytes - n) c.bytes.ensures)) in
     rw (← c.self.view_is)
-    ((same_keys c.remove-delivery.new.self _ c.close_up.new.places.items _ c.close_up.new.handed_up _ _ _ c.close_up.new.places.cap _ left c.close_up.ensures.same
-    (omega (arith, c.close_up.ensures.few, c.len.ensures)) c.close_up.ensures.room).is)
+    ((numbered c.remove-delivery.new.self c.close_up.new.slab c.close_up.new.places.items c.close_up.new.handed_up _ _ c.close_up.new.places.cap _
+    (same_keys c.remove-delivery.new.self _ c.close_up.new.places.items _ c.close_up.new.handed_up _ _ _ c.close_up.new.places.cap _ left c.close_up.ensures.same
+    c.close_up.ensures.few c.close_up.ensures.room) c.close_up.ensures.deliveries).is)
 
 pub invariant_of-self-2 : goal.invariant_of-self-2
 invariant_of-self-2 g c =

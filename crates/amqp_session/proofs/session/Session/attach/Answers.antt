@@ -5,12 +5,17 @@ use Rattle.amqp_session.specs.Faults.{event_of}
 use Rattle.amqp_session.specs.Faults.{report_of, refusal}
 use Rattle.amqp_session.specs.Answers.{IsAttachAnswer}
 use Rattle.amqp_session.proofs.Dones.{frame_apart, frame_may, attach_answered}
+use Rattle.amqp_session.proofs.Indexed.{attach_indexed}
 use Rattle.amqp_session.proofs.session.Session.attach.Goals as goal
 
 pub invariant_of-self-2 : goal.invariant_of-self-2
-invariant_of-self-2 g c =
-    frame_apart c.open_ids_grow_by_heads.ensures c.self.inside.state c.attach.new.self (Attaches (attaching c.args.attach.now)) c.self.invariant c.is_long.ensures
-    (subst (λ (t : SessionState). c.args.attach.now.handle ≤ t.terms.handle_max) (sym c.self.view_is) c.requires, c.is_counted.ensures) c.in_ok-report.ensures.accepted c.in_ok-report.ensures.new
+invariant_of-self-2 g c = record {
+  apart =
+      frame_apart c.open_ids_grow_by_heads.ensures c.self.inside.state c.attach.new.self (Attaches (attaching c.args.attach.now)) c.self.invariant.apart c.is_long.ensures
+      (subst (λ (t : SessionState). c.args.attach.now.handle ≤ t.terms.handle_max) (sym c.self.view_is) c.requires, c.is_counted.ensures) c.in_ok-report.ensures.accepted c.in_ok-report.ensures.new;
+  indexed =
+      attach_indexed c.self.inside.index c.self.inside.state c.attach.new.self (attaching c.args.attach.now) c.in_ok-report.ensures.new c.in_ok-report.ensures.accepted c.self.invariant.indexed;
+}
 
 pub returns-clause-may : goal.returns-clause-may
 returns-clause-may g c =

@@ -1,4 +1,4 @@
-use Rattle.std.proofs.Common.{◌≡◌, subst}
+use Rattle.std.proofs.Common.{◌≡◌, ◌∙◌, subst}
 use Rattle.amqp_session.specs.Sessions.{SessionState, session_after}
 use Rattle.amqp_session.specs.Frames.{Detaches}
 use Rattle.amqp_session.specs.Faults.{event_of}
@@ -6,12 +6,21 @@ use Rattle.std.proofs.lemmas.Result.{err_from_is_err_and}
 use Rattle.amqp_session.specs.Faults.{session_fault, IsRefusal}
 use Rattle.std.specs.Prelude.{None}
 use Rattle.amqp_session.proofs.Dones.{frame_apart, frame_may}
+use Rattle.amqp_session.proofs.Indexed.{after_left, gone_left, gone_counted}
+use Rattle.amqp_session.specs.Sessions as event
 use Rattle.amqp_session.proofs.session.Session.detached.Goals as goal
 
 pub invariant_of-self-2 : goal.invariant_of-self-2
-invariant_of-self-2 g c =
-    frame_apart c.open_ids_grow_by_heads.ensures c.self.inside.state c.detached.new.self (Detaches c.args.detach.now.handle c.args.detach.now.closed) c.self.invariant c.is_long.ensures
-    tt (c.in_ok-detached.ensures.accepted c.args.detach.now.closed) (c.in_ok-detached.ensures.new c.args.detach.now.closed)
+invariant_of-self-2 g c = record {
+  apart =
+      frame_apart c.open_ids_grow_by_heads.ensures c.self.inside.state c.detached.new.self (Detaches c.args.detach.now.handle c.args.detach.now.closed) c.self.invariant.apart c.is_long.ensures
+      tt (c.in_ok-detached.ensures.accepted c.args.detach.now.closed) (c.in_ok-detached.ensures.new c.args.detach.now.closed);
+  indexed =
+      after_left c.args.detach.now.handle c.self.inside.index c.forget_link.new.self c.self.inside.state c.detached.new.self (event.PeerDetached c.args.detach.now.handle)
+      (c.in_ok-detached.ensures.new c.args.detach.now.closed) (λ id place. gone_counted id c.args.detach.now.handle c.self.inside.state.links place)
+      (λ id low. c.forget_link.ensures id low ∙ gone_left c.args.detach.now.handle id c.detached.new.ended c.self.inside.index c.self.inside.state.links c.self.invariant.indexed low c.in_ok-detached.ensures.ended)
+      c.self.invariant.indexed;
+}
 
 pub returns-clause-may : goal.returns-clause-may
 returns-clause-may g c =

@@ -2,6 +2,7 @@ use Rattle.std.proofs.Common.{arith, ◌∙◌, ap, sym}
 use Rattle.std.specs.Prelude.{None}
 use Rattle.amqp_session.specs.Calls.{at_link}
 use Rattle.amqp_session.specs.Sessions.{slot_ready}
+use Rattle.amqp_session.specs.Places.{live_in}
 use Rattle.std.proofs.lemmas.Result.{err_from_is_err_and}
 use Rattle.amqp_session.proofs.States.{slot_is, slot_past, left}
 use Rattle.amqp_session.proofs.state.State.detach.Goals as goal
@@ -31,3 +32,8 @@ returns-clause-dropped g c =
     c.in_ok-dropped.ensures.dropped
     ∙ sym (ap slot_ready (slot_is c.self.inside.terms c.self.inside.window c.self.inside.next_incoming_id c.self.inside.table.items c.args.self.now c.self.view_is c.self.invariant
     c.args.handle c.index_mut.result.now c.index_mut.ensures.value (omega arith)))
+
+pub returns-clause-ended : goal.returns-clause-ended
+returns-clause-ended g c =
+    c.in_ok-dropped.ensures.ended ∙ sym (ap live_in (slot_is c.self.inside.terms c.self.inside.window c.self.inside.next_incoming_id c.self.inside.table.items c.args.self.now c.self.view_is c.self.invariant c.args.handle
+    c.index_mut.result.now c.index_mut.ensures.value (omega arith)))

@@ -1,6 +1,7 @@
-use Rattle.std.proofs.Common.{arith, refl, ◌∙◌, ap}
+use Rattle.std.proofs.Common.{arith, refl, ◌∙◌, ap, sym}
 use Rattle.std.proofs.lemmas.Result.{err_from_is_err_and}
 use Rattle.std.specs.Prelude.{slice_set}
+use Rattle.amqp_session.specs.Places.{live_in}
 use Rattle.amqp_session.specs.Slots.{session_of}
 use Rattle.amqp_session.specs.declared.slot.Slot.TheVariants.{Free}
 use Rattle.amqp_session.proofs.States.{slot_is, slot_past, handle_free, handle_used, gone}
@@ -41,3 +42,8 @@ pub returns-clause-live : goal.returns-clause-live
 returns-clause-live g c =
     rw (slot_is c.self.inside.terms c.self.inside.window c.self.inside.next_incoming_id c.self.inside.table.items c.args.self.now c.self.view_is c.self.invariant c.args.handle c.index_mut.result.now
     c.index_mut.ensures.value (omega arith)) c.in_ok-detached.ensures.live
+
+pub returns-clause-ended : goal.returns-clause-ended
+returns-clause-ended g c =
+    c.in_ok-detached.ensures.ended ∙ sym (ap live_in (slot_is c.self.inside.terms c.self.inside.window c.self.inside.next_incoming_id c.self.inside.table.items c.args.self.now c.self.view_is c.self.invariant c.args.handle
+    c.index_mut.result.now c.index_mut.ensures.value (omega arith)))

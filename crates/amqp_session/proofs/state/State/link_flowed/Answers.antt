@@ -3,9 +3,11 @@ use Rattle.std.proofs.lemmas.Result.{err_from_is_err_and}
 use Rattle.amqp_session.specs.Frames.{flowing}
 use Rattle.amqp_session.specs.Faults.{is_free, flow_report}
 use Rattle.amqp_session.specs.Slots.{IsFlowTold}
+use Rattle.amqp_session.specs.Indexes.{IsEndedAt}
+use Rattle.std.specs.Prelude.{IfSome}
 use Rattle.amqp_session.specs.declared.report.Report.TheVariants as report
 use Rattle.amqp_session.specs.declared.slot.Slot.TheVariants.{Free}
-use Rattle.amqp_session.proofs.States.{slot_is, slot_past, link_flowed, flow_dropped, flow_kept, flow_accepted, flow_refused, flow_told, told_none, told_some, live_used, free_kept}
+use Rattle.amqp_session.proofs.States.{slot_is, ended_in, slot_past, link_flowed, flow_dropped, flow_kept, flow_accepted, flow_refused, flow_told, told_none, told_some, live_used, free_kept}
 use Rattle.amqp_session.proofs.state.State.link_flowed.Goals as goal
 
 pub returns-then-place-len-clause-refused : goal.returns-then-place-len-clause-refused
@@ -69,3 +71,10 @@ returns-in-Some-clause-report g c =
     (flowing c.args.flow.now) c.args.handle c.index_mut.result.now c.in-Some.report c.requires c.index_mut.ensures.value (omega arith)
     (told_some c.args.handle (flowing c.args.flow.now) c.index_mut.result.now c.in-Some.report
     (subst (λ o. IsFlowTold c.args.handle (flowing c.args.flow.now) c.index_mut.result.now o) c.in-Some.is c.in_ok-flow.ensures.report)).1
+
+pub returns-in-Some-clause-ended : goal.returns-in-Some-clause-ended
+returns-in-Some-clause-ended g c =
+    ended_in c.args.self.now c.args.handle c.index_mut.result.now c.in-Some.report c.flow.new.ended
+    (slot_is c.self.inside.terms c.self.inside.window c.self.inside.next_incoming_id c.self.inside.table.items c.args.self.now c.self.view_is c.self.invariant c.args.handle
+    c.index_mut.result.now c.index_mut.ensures.value (omega arith))
+    (subst (λ o. IfSome o (λ report. IsEndedAt c.args.handle c.index_mut.result.now report c.flow.new.ended)) c.in-Some.is c.in_ok-flow.ensures.ended)

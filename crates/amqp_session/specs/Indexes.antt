@@ -1,0 +1,181 @@
+-- Where the open deliveries of a session are kept, by their ids: which links have them, and under which keys.
+use Rattle.std.specs.Prelude.{◌≡◌, ℕ, ◌≤◌, ◌<◌, ◌^◌, Bool, true, false, not, ◌&&◌, nat_eq, nat_lt, if◌then◌else◌, List, [], ◌∷◌, map, Option, Some, None, is_none, option_map}
+use Rattle.std.specs.List.{list_any}
+use Rattle.std.specs.Map.{lookup}
+use Rattle.std.specs.Ordering.{nat_cmp}
+use Rattle.std.specs.BTreeMap.{is_at}
+use Rattle.amqp_session.specs.declared.index.Kept.{Kept}
+use Rattle.amqp_link.specs.Links.{Sent, LinkState, SenderSettled, deliveries, open_set, IsOnce}
+use Rattle.amqp_session.specs.declared.slot.Slot.{Slot}
+use Rattle.amqp_session.specs.declared.slot.Slot.TheVariants.{Free, Live, Waits}
+use Rattle.amqp_link.specs.Histories.{one_if}
+use Rattle.amqp_session.specs.declared.report.Report.{Report}
+use Rattle.amqp_session.specs.declared.report.Report.TheVariants as report
+use Rattle.amqp_session.specs.Places.{live_in}
+use Rattle.amqp_session.specs.Sessions.{LiveLink, SessionState, slot_at, slot_count, IsApart}
+use Rattle.amqp_link.specs.declared.settlement.Standing.{Standing}
+use Rattle.amqp_link.specs.declared.settlement.Standing.TheVariants.{Absent, Untaken, Told, Awaiting}
+use Rattle.amqp_session.specs.Calls.{slot_standing}
+use Rattle.amqp_session.specs.Slots.{at_place, came_fault, slot_called}
+use Rattle.amqp_session.specs.Faults.{transfer_fault}
+
+-- where the delivery with this id is kept
+abbrev pub found : List (ℕ × Kept) → ℕ → Option Kept
+found entries id = lookup (is_at (nat_cmp id)) entries
+
+-- the one that began last beside the others
+abbrev pub beside : Option (ℕ × Kept) → List (ℕ × Kept) → List (ℕ × Kept)
+beside None older = older
+beside (Some newest) older = newest ∷ older
+
+-- none of the others has its id
+abbrev pub IsBeside : Option (ℕ × Kept) → List (ℕ × Kept) → Type 0
+IsBeside None older = Unit {0}
+IsBeside (Some newest) older = found older newest.0 ≡ None
+
+-- an id is less than that of another, if there is another
+abbrev pub is_before : ℕ → Option (ℕ × Kept) → Bool
+is_before id None = true
+is_before id (Some other) = nat_lt id other.0
+
+-- that of one id is put in, or taken out, and the others stay
+abbrev pub IsPut : List (ℕ × Kept) → List (ℕ × Kept) → ℕ → Option Kept → Type 0
+IsPut old new id kept = (q : ℕ) → found new q ≡ (if nat_eq id q then kept else found old q)
+
+-- one begins, or none
+abbrev pub IsBegun : List (ℕ × Kept) → List (ℕ × Kept) → ℕ → Option Kept → Type 0
+IsBegun old new id None = new ≡ old
+IsBegun old new id (Some kept) = IsPut old new id (Some kept)
+
+-- and is taken out again
+abbrev pub IsNotBegun : List (ℕ × Kept) → List (ℕ × Kept) → ℕ → Option Kept → Type 0
+IsNotBegun old new id None = new ≡ old
+IsNotBegun old new id (Some kept) = IsPut old new id None
+
+-- the next one from an id on, up to the last: the least of those in between
+abbrev pub IsNext : List (ℕ × Kept) → ℕ → ℕ → Option (ℕ × Kept) → Type 0
+IsNext entries from last None = (q : ℕ) → from ≤ q → q ≤ last → found entries q ≡ None
+IsNext entries from last (Some e) = (from ≤ e.0) × (e.0 ≤ last) × (found entries e.0 ≡ Some e.1) × ((q : ℕ) → from ≤ q → q < e.0 → found entries q ≡ None)
+
+-- the link at this handle has it
+abbrev pub is_kept_at : ℕ → Option Kept → Bool
+is_kept_at handle None = false
+is_kept_at handle (Some kept) = nat_eq kept.handle handle
+
+-- what is left of it where the link at a handle is gone
+abbrev pub left_of : ℕ → Option Kept → Option Kept
+left_of handle None = None
+left_of handle (Some kept) = if nat_eq kept.handle handle then None else Some kept
+
+-- what is left of it where the delivery with an id is closed, if it is
+abbrev pub closed_of : Bool → ℕ → ℕ → Option Kept → Option Kept
+closed_of closed gone id kept = if closed && nat_eq gone id then None else kept
+
+-- a delivery with this id was given up
+abbrev pub given_up : Option ℕ → ℕ → Option Kept → Option Kept
+given_up None id kept = kept
+given_up (Some gone) id kept = if nat_eq gone id then None else kept
+
+-- the ids of the open deliveries of a link, if there is one
+abbrev pub ids_of : Option LiveLink → List ℕ
+ids_of None = []
+ids_of (Some l) = map (λ d. d.delivery_id) (deliveries l.link)
+
+-- what is left of it where those with these ids are open no longer
+abbrev pub gone_of : List ℕ → ℕ → Option Kept → Option Kept
+gone_of ids id kept = if list_any (λ gone. nat_eq gone id) ids then None else kept
+
+-- the link that ended, where this is told: that at its handle
+abbrev pub IsEnded : SessionState → Report → Option LiveLink → Type 0
+IsEnded s (report.Failed handle condition dropped) ended = ended ≡ live_in (slot_at s handle)
+IsEnded s report ended = Unit {0}
+
+-- the same, where it stood at a place
+abbrev pub IsEndedAt : ℕ → Slot LiveLink → Report → Option LiveLink → Type 0
+IsEndedAt at s (report.Failed handle condition dropped) ended = (handle ≡ at) × (ended ≡ live_in s)
+IsEndedAt at s report ended = Unit {0}
+
+-- what is left after this was told of a transfer or a flow of a link, which was this one if it ended, and whose unfinished delivery had this id
+abbrev pub told_of : Report → Option LiveLink → Option ℕ → ℕ → Option Kept → Option Kept
+told_of (report.Failed handle condition dropped) ended unfinished id kept = gone_of (ids_of ended) id kept
+told_of (report.Aborted handle) ended unfinished id kept = given_up unfinished id kept
+told_of report ended unfinished id kept = kept
+
+-- no open delivery stands so
+abbrev pub is_absent : Standing → Bool
+is_absent Absent = true
+is_absent Untaken = false
+is_absent Told = false
+is_absent (Awaiting mode) = false
+
+-- a delivery that stands so was not handed up
+abbrev pub is_untaken : Standing → Bool
+is_untaken Absent = false
+is_untaken Untaken = true
+is_untaken Told = false
+is_untaken (Awaiting mode) = false
+
+-- what is left where those go that this session has not open
+abbrev pub swept : ℕ → SessionState → Option Kept → Option Kept
+swept id s None = None
+swept id s (Some kept) = if is_absent (slot_standing id (slot_at s kept.handle)) then None else Some kept
+
+-- the same of one of which this is so
+abbrev pub swept_if : Bool → ℕ → SessionState → Option Kept → Option Kept
+swept_if so id s kept = if so then swept id s kept else kept
+
+-- An id of 32 bits is in the index exactly where a link of these has it open, under the handle of that link. [2.6.12]
+abbrev pub IsIndexed : List (ℕ × Kept) → List (Slot LiveLink) → Type 0
+IsIndexed entries slots = (id place : ℕ) → id < 2 ^ 32 → slot_count id (at_place slots place) ≡ one_if (is_kept_at place (found entries id))
+
+-- what holds of every session and its index
+pub record IsKnown (entries : List (ℕ × Kept)) (s : SessionState) : Type 0 where
+  pub apart : IsApart s
+  pub indexed : IsIndexed entries s.links
+
+-- A transfer begins a delivery that stays open, where it is known whether it does so under an open id.
+abbrev pub link_begins : Bool → LinkState → Sent → Bool
+link_begins reused l t = is_none l.unfinished && not t.aborted && is_none (came_fault reused l t)
+
+-- the same at one place
+abbrev pub slot_begins : Bool → Sent → Slot LiveLink → Bool
+slot_begins reused t Free = false
+slot_begins reused t (Live l) = link_begins reused l.link t
+slot_begins reused t Waits = false
+
+-- the id of the unfinished delivery at a place
+abbrev pub slot_unfinished : Slot LiveLink → Option ℕ
+slot_unfinished Free = None
+slot_unfinished (Live l) = option_map (λ d. d.delivery_id) l.link.unfinished
+slot_unfinished Waits = None
+
+-- no two open deliveries of the link at a place have the id
+abbrev pub IsOnceAt : ℕ → Slot LiveLink → Type 0
+IsOnceAt id Free = Unit {0}
+IsOnceAt id (Live l) = IsOnce id id (open_set l.link)
+IsOnceAt id Waits = Unit {0}
+
+-- the same of a session
+abbrev pub slot_does_begin : SessionState → Sent → Slot LiveLink → Bool
+slot_does_begin s t Free = false
+slot_does_begin s t (Live l) = is_none l.link.unfinished && not t.aborted && is_none (transfer_fault s l.link t)
+slot_does_begin s t Waits = false
+
+-- a transfer that the session accepts begins one
+abbrev pub does_begin : SessionState → ℕ → Sent → Bool
+does_begin s handle t = not (nat_eq s.window 0) && slot_does_begin s t (slot_at s handle)
+
+-- Dispositions. -------------------------------------------------------------------------------------------------------------
+
+-- the session where the sender settled these ids
+abbrev pub disposed : ℕ → ℕ → SessionState → SessionState
+disposed first last s = record s { links = map (slot_called (SenderSettled first last)) s.links }
+
+-- no other place has the id
+abbrev pub IsAlone : ℕ → ℕ → List (Slot LiveLink) → Type 0
+IsAlone id handle slots = (i : ℕ) → nat_eq handle i ≡ false → slot_count id (at_place slots i) ≡ 0
+
+-- the same as `IsKnown` of the ids from the first to the last alone
+pub record IsKnownFrom (entries : List (ℕ × Kept)) (first last : ℕ) (s : SessionState) : Type 0 where
+  pub apart : IsApart s
+  pub indexed : (id place : ℕ) → first ≤ id → id ≤ last → slot_count id (at_place s.links place) ≡ one_if (is_kept_at place (found entries id))
