@@ -27,12 +27,32 @@ pub fn put_number(out: &mut Page, number: u64) -> Result<(), AllocError>
     ensures { OnOk result (out.new.whole ≡ out.old.whole) }
 {
     if number < 10 {
-        return out.put_byte(b'0' + number as u8);
+        return out.put_byte(digit(number));
+    }
+    if number < 1000 {
+        return put_three(out, number);
     }
     put_digits(out, number)
 }
 
-/// The same, for numbers of two digits and more.
+/// The last digit of a number.
+fn digit(number: u64) -> u8 {
+    b'0' + (number % 10) as u8
+}
+
+/// The same, for numbers of two and of three digits.
+fn put_three(out: &mut Page, number: u64) -> Result<(), AllocError>
+    ensures { OnOk result (out.new.whole ≡ out.old.whole) }
+{
+    let digits = [digit(number / 100), digit(number / 10), digit(number)];
+    if number < 100 {
+        out.put(&digits[1..])
+    } else {
+        out.put(&digits)
+    }
+}
+
+/// The same, for longer ones.
 fn put_digits(out: &mut Page, number: u64) -> Result<(), AllocError>
     ensures { OnOk result (out.new.whole ≡ out.old.whole) }
 {
