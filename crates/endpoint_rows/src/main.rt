@@ -1,13 +1,18 @@
 //! Rows of the endpoint, of the server and of the sender: each file that an argument names says by its `subject` whether
-//! its calls are lines of scripts, streams to be served, or calls of a sender.
+//! its calls are lines of scripts, calls of an endpoint, streams to be served, or calls of a sender.
 #![tactic(auto)]
 
+mod calls;
+mod endpoint;
+mod parts;
 mod pieces;
 mod quotes;
 mod script;
 mod sender;
 mod server;
+mod settings;
 
+use crate::endpoint::Receiving;
 use crate::script::Script;
 use crate::sender::Sending;
 use crate::server::Server;
@@ -30,6 +35,7 @@ fn main(rt: HostRuntime) -> Result<(), Miss> {
 fn report_of(alloc: Global, heap: Heap<'_>, file: &RowFile<'_>) -> Result<String, Miss> {
     match file.subject() {
         "script" => file.run(alloc, heap, &mut Script::new(alloc)),
+        "endpoint" => file.run(alloc, heap, &mut Receiving::new(alloc, heap)),
         "server" => file.run(alloc, heap, &mut Server::new(alloc, heap)),
         "sender" => file.run(alloc, heap, &mut Sending::new(alloc, heap)),
         _ => Err(Miss::Unread("no such subject")),

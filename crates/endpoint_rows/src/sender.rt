@@ -1,12 +1,13 @@
 //! A sender of messages.
 //!
-//! - `sender S L`: a new one, of the container S and with a link of the name L.
+//! - `sender S L`: a new one, of the container S and with a link of the name L; one may be `255*s`.
 //! - `feed HEX by N`: bytes of the receiver, at most N at a time. It answers the last of what they brought.
 //! - `offer HEX`, `offer N of HEX`: a message, or one of N times these bytes. One that is refused comes back.
 //! - `output`: all that waits to be sent, or `nothing`; `output length` how many bytes that is, and `output count HEX` how
 //!   many of them are this one. `bytes M N` are those from M to N of the last output.
 //! - `close`: closes the connection, and answers whether it may be closed.
 
+use crate::parts::text_of;
 use amqp_send::{News, SendConfig, Sender};
 use row_files::words::{bytes_of, hex_of, name_of, number, two_numbers};
 use row_files::{Heap, Miss, Subject};
@@ -62,7 +63,8 @@ impl<'a> Sending<'a> {
 
     fn make(&mut self, alloc: Global, names: &str) -> Result<String, Miss> {
         let (container_id, name) = names.split_once(' ').ok_or("two names")?;
-        let Ok(config) = config_of(self.heap, container_id, name) else {
+        let (container_id, name) = (text_of(alloc, container_id)?, text_of(alloc, name)?);
+        let Ok(config) = config_of(self.heap, container_id.as_str(), name.as_str()) else {
             return refused(alloc);
         };
         if config.container_id.len() > 255 || config.name.len() > 255 {
@@ -180,7 +182,7 @@ fn message_of<'a>(
 }
 
 fn repeated<'a>(heap: Heap<'a>, bytes: &[u8], count: u32) -> Result<Vec<u8, Heap<'a>>, AllocError> {
-    let mut all = Vec::new(heap);
+    let mut all = Vec::with_capacity(heap, bytes.len().saturating_mul(count as usize))?;
     for _ in 0..count {
         all.extend_from_slice(bytes)?;
     }

@@ -4,9 +4,17 @@
 #![tactic(auto)]
 
 #[cfg(test)]
+mod devices;
+#[cfg(test)]
+mod failing;
+#[cfg(test)]
+mod fixed_heap;
+#[cfg(test)]
 mod heap;
 #[cfg(test)]
 mod memory;
+#[cfg(test)]
+mod peer;
 #[cfg(test)]
 mod receiver;
 #[cfg(test)]

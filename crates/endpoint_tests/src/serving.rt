@@ -1,7 +1,8 @@
-//! Whole connections, over devices that fail, what is read and written at once, and what is flushed before.
+//! Whole connections: what is read and written at once, and what is flushed before.
 ghost use Rattle.std.specs.Prelude.{IsTrue};
 ghost use Rattle.amqp_frame.specs.Devices.{has_failed};
 
+use crate::devices::{Calls, Kept, NEVER, Source};
 use amqp_endpoint::{Config, End, Endpoint};
 use amqp_frame::{AtHand, Device, Direct, HoldsBack};
 use amqp_perform::Outcome as Settlement;
@@ -13,23 +14,23 @@ use std::process::Abort;
 use std::test::Fail;
 
 /// The peer's header, open, begin and attach, two deliveries in one transfer each, and a close: 130 bytes.
-const STREAM: &[u8] =
+pub const STREAM: &[u8] =
     b"\x41\x4d\x51\x50\x00\x01\x00\x00\x00\x00\x00\x11\x02\x00\x00\x00\x00\x53\x10\xc0\x04\x01\xa1\x01\x61\x00\x00\x00\x14\x02\x00\x00\x00\x00\x53\x11\xc0\x07\x04\x40\x43\x52\x64\x52\x64\x00\x00\x00\x20\x02\x00\x00\x00\x00\x53\x12\xc0\x13\x0a\xa1\x01\x6c\x43\x42\x40\x40\x00\x53\x28\x45\x00\x53\x29\x45\x40\x40\x43\x00\x00\x00\x14\x02\x00\x00\x00\x00\x53\x14\xc0\x06\x03\x43\x43\xa0\x01\x74\x78\x00\x00\x00\x15\x02\x00\x00\x00\x00\x53\x14\xc0\x07\x03\x43\x52\x01\xa0\x01\x74\x78\x00\x00\x00\x0c\x02\x00\x00\x00\x00\x53\x18\x45";
 
 /// What is written: the header, the answers to open, begin and attach, a flow of one place of credit, and for each
 /// message its disposition and a flow; then the close.
-const WRITTEN: &[u8] =
+pub const WRITTEN: &[u8] =
     b"\x41\x4d\x51\x50\x00\x01\x00\x00\x00\x00\x00\x1a\x02\x00\x00\x00\x00\x53\x10\xc0\x0d\x04\xa1\x01\x72\x40\x70\x00\x00\x02\x00\x60\x00\x00\x00\x00\x00\x17\x02\x00\x00\x00\x00\x53\x11\xc0\x0a\x05\x60\x00\x00\x43\x52\x64\x43\x52\x01\x00\x00\x00\x22\x02\x00\x00\x00\x00\x53\x12\xc0\x15\x0b\xa1\x01\x6c\x43\x41\x40\x40\x00\x53\x28\x45\x00\x53\x29\x45\x40\x40\x40\x53\x0a\x00\x00\x00\x17\x02\x00\x00\x00\x00\x53\x13\xc0\x0a\x07\x43\x52\x64\x43\x43\x43\x43\x52\x01\x00\x00\x00\x16\x02\x00\x00\x00\x00\x53\x15\xc0\x09\x05\x41\x43\x40\x41\x00\x53\x24\x45\x00\x00\x00\x19\x02\x00\x00\x00\x00\x53\x13\xc0\x0c\x07\x52\x01\x52\x63\x43\x43\x43\x52\x01\x52\x01\x00\x00\x00\x17\x02\x00\x00\x00\x00\x53\x15\xc0\x0a\x05\x41\x52\x01\x40\x41\x00\x53\x24\x45\x00\x00\x00\x19\x02\x00\x00\x00\x00\x53\x13\xc0\x0c\x07\x52\x02\x52\x62\x43\x43\x43\x52\x02\x52\x01\x00\x00\x00\x0c\x02\x00\x00\x00\x00\x53\x18\x45";
 
 /// The records of both messages.
-const RECORDS: &[u8] =
+pub const RECORDS: &[u8] =
     b"\x00\x00\x00\x00\x00\x00\x00\x00\x00\x00\x00\x00\x00\x00\x00\x00\x00\x01\x78\x00\x00\x00\x00\x00\x00\x00\x00\x00\x01\x00\x00\x00\x00\x00\x00\x00\x01\x78";
 
 /// The bytes of each.
-const RECORD: usize = 19;
+pub const RECORD: usize = 19;
 
 /// The lengths of the stream at which a unit ends.
-const ENDS: [usize; 7] = [8, 25, 45, 77, 97, 118, 130];
+pub const ENDS: [usize; 7] = [8, 25, 45, 77, 97, 118, 130];
 
 /// How much answers so many of its units.
 const ANSWERS: [usize; 8] = [0, 8, 34, 57, 114, 161, 209, 221];
@@ -37,79 +38,6 @@ const ANSWERS: [usize; 8] = [0, 8, 34, 57, 114, 161, 209, 221];
 /// What is read of it where all is given that is asked for: the header, and of each frame the four bytes of SIZE, the
 /// four behind them, and what is left.
 const READS: [usize; 19] = [8, 4, 4, 9, 4, 4, 12, 4, 4, 24, 4, 4, 12, 4, 4, 13, 4, 4, 4];
-
-/// How often the writer is asked, where it keeps nothing: for the header and nine frames, and to be flushed at first, at its
-/// end, and before each of the six reads behind some of them.
-const WRITER_CALLS: usize = 18;
-
-/// How often the sink is: to be flushed at first, and twice a record, with a flush behind it.
-const SINK_CALLS: usize = 7;
-
-/// Gives at most so many bytes at a time, and fails at the read of this number, from 0 on.
-#[derive(Drop)]
-struct Source<'a> {
-    rest: &'a [u8],
-    most: usize,
-    reads: usize,
-    failing: usize,
-}
-
-impl Read for Source<'_> {
-    fn read(&mut self, buf: &mut [u8]) -> io::Result<usize> {
-        let read = self.reads;
-        self.reads = self.reads.saturating_add(1);
-        if read == self.failing {
-            return Err(io::Error::from(io::ErrorKind::Other));
-        }
-        let count = buf.len().min(self.rest.len()).min(self.most);
-        buf[..count].copy_from_slice(&self.rest[..count]);
-        self.rest = &self.rest[count..];
-        Ok(count)
-    }
-}
-
-/// Keeps what is written to it, and fails at the write or flush of this number, from 0 on.
-#[derive(Drop)]
-struct Kept {
-    bytes: Vec<u8>,
-    calls: usize,
-    failing: usize,
-}
-
-impl Kept {
-    fn called(&mut self) -> io::Result<()> {
-        let call = self.calls;
-        self.calls = self.calls.saturating_add(1);
-        if call == self.failing {
-            return Err(io::Error::from(io::ErrorKind::Other));
-        }
-        Ok(())
-    }
-}
-
-impl Write for Kept {
-    fn write(&mut self, buf: &[u8]) -> io::Result<usize> {
-        self.called()?;
-        match self.bytes.extend_from_slice(buf) {
-            Ok(()) => Ok(buf.len()),
-            Err(_) => Err(io::Error::from(io::ErrorKind::OutOfMemory)),
-        }
-    }
-
-    fn flush(&mut self) -> io::Result<()> {
-        self.called()
-    }
-}
-
-const NEVER: usize = usize::MAX;
-
-fn keeper(alloc: Global, failing: usize) -> Kept {
-    Kept {
-        bytes: Vec::new(alloc),
-        calls: 0,
-        failing,
-    }
-}
 
 /// Serves the front of the stream, with one place of credit.
 fn serve_stream<R: AtHand + Drop, W: Write + HoldsBack + Drop>(
@@ -137,16 +65,23 @@ fn serve_over<R: AtHand + Drop, W: Write + HoldsBack + Drop, S: Write + Drop>(
     requires writer { ¬ (IsTrue (has_failed writer.old)) }
     requires sink { ¬ (IsTrue (has_failed sink.old)) }
 {
+    let mut endpoint = Endpoint::new(alloc, config(alloc)?)?;
+    Ok(serve(&mut endpoint, reader, writer, sink, one_by_one()))
+}
+
+/// The container 'r', with frames of 512 bytes, channel 0, the handles 0 and 1, four deliveries of ten bytes for a link, and a
+/// window of 100 places.
+pub fn config(alloc: Global) -> Result<Config, AllocError> {
     let name = String::from_str(alloc, "r")?;
-    let Some(config) = Config::checked(name, 512, 0, 1, 4, 10, 100) else {
-        return Err(AllocError);
-    };
-    let mut endpoint = Endpoint::new(alloc, config)?;
-    let policy = Policy {
+    Config::checked(name, 512, 0, 1, 4, 10, 100).ok_or(AllocError)
+}
+
+/// One place of credit at a time, and each message accepted.
+pub fn one_by_one() -> Policy {
+    Policy {
         credit: 1,
         outcome: Settlement::Accepted,
-    };
-    Ok(serve(&mut endpoint, reader, writer, sink, policy))
+    }
 }
 
 /// The stream, in pieces of so many bytes at most, with a failure at the read of this number.
@@ -154,74 +89,12 @@ fn stream_by(most: usize, failing: usize) -> Source<'static> {
     Source {
         rest: STREAM,
         most,
-        reads: 0,
-        failing,
-    }
-}
-
-/// One device fails at one call: what was written begins what would be.
-#[test]
-fn a_device_that_fails_ends_it(rt: HostRuntime) -> Result<(), Fail> {
-    for failing in 0..20 {
-        assert_failing(&rt, rt.alloc(), failing, NEVER, NEVER)?;
-        assert_failing(&rt, rt.alloc(), NEVER, failing, NEVER)?;
-        assert_failing(&rt, rt.alloc(), NEVER, NEVER, failing)?;
-    }
-    Ok(())
-}
-
-/// Serves the stream where the calls of these numbers fail, of the reader, the writer and the sink.
-fn assert_failing(
-    rt: &impl Abort,
-    alloc: Global,
-    reads: usize,
-    writes: usize,
-    sinks: usize,
-) -> Result<(), Fail> {
-    let mut writer = keeper(alloc, writes);
-    let mut sink = keeper(alloc, sinks);
-    let reader = Direct::new(stream_by(NEVER, reads));
-    let end = serve_stream(alloc, reader, Direct::new(&mut writer), &mut sink)?;
-    assert_eq!(rt;
-        end,
-        end_of(reads, writes, sinks),
-        "{reads} {writes} {sinks}"
-    );
-    assert!(rt;
-        is_kept(end, &writer.bytes, &sink.bytes),
-        "{reads} {writes} {sinks}"
-    );
-    Ok(())
-}
-
-fn end_of(reads: usize, writes: usize, sinks: usize) -> Result<End, ServeFault> {
-    if reads < READS.len() {
-        Err(ServeFault::Read)
-    } else if writes < WRITER_CALLS {
-        Err(ServeFault::Write)
-    } else if sinks < SINK_CALLS {
-        Err(ServeFault::Sink)
-    } else {
-        Ok(End::Closed)
-    }
-}
-
-/// Whether this begins what is written and recorded in all, is all of it where nothing failed, and has no answer whose record
-/// the sink does not have.
-fn is_kept(end: Result<End, ServeFault>, written: &[u8], recorded: &[u8]) -> bool {
-    if !WRITTEN.starts_with(written) || !RECORDS.starts_with(recorded) {
-        return false;
-    }
-    let records = recorded.len() / RECORD;
-    match end {
-        Ok(_) => written.len() == WRITTEN.len() && recorded.len() == RECORDS.len(),
-        Err(ServeFault::Sink) => written.len() <= answers_to(4_usize.saturating_add(records)),
-        Err(_) => true,
+        calls: Calls::new(failing),
     }
 }
 
 /// How much answers so many units of the stream.
-fn answers_to(units: usize) -> usize {
+pub fn answers_to(units: usize) -> usize {
     ANSWERS.get(units).copied().unwrap_or(0)
 }
 
@@ -251,7 +124,7 @@ fn what_was_read_is_recorded_and_answered(rt: HostRuntime) -> Result<(), Fail> {
 
 /// What is written and recorded through buffers where the read of this number fails.
 fn kept_before(rt: &impl Abort, alloc: Global, read: usize) -> Result<(Vec<u8>, Vec<u8>), Fail> {
-    let (mut written, mut recorded) = (keeper(alloc, NEVER), keeper(alloc, NEVER));
+    let (mut written, mut recorded) = (Kept::all(alloc), Kept::all(alloc));
     let mut reader = Device::new(Direct::new(stream_by(NEVER, read)));
     let mut writer = Device::new(BufWriter::new(alloc, &mut written)?);
     let mut sink = Device::new(BufWriter::new(alloc, &mut recorded)?);
@@ -267,12 +140,13 @@ fn kept_before(rt: &impl Abort, alloc: Global, read: usize) -> Result<(Vec<u8>, 
 fn what_is_at_hand_is_served_the_same(rt: HostRuntime) -> Result<(), Fail> {
     for room in [1, 3, 50, 8192] {
         for most in [1, 3, NEVER] {
-            let mut writer = keeper(rt.alloc(), NEVER);
-            let mut sink = keeper(rt.alloc(), NEVER);
+            let mut writer = Kept::all(rt.alloc());
+            let mut sink = Kept::all(rt.alloc());
             let reader = BufReader::with_capacity(rt.alloc(), room, stream_by(most, NEVER))?;
             let end = serve_stream(rt.alloc(), reader, Direct::new(&mut writer), &mut sink)?;
             assert_eq!(rt; end, Ok(End::Closed), "{room} {most}");
-            assert!(rt; is_kept(end, &writer.bytes, &sink.bytes), "{room} {most}");
+            assert!(rt; writer.bytes.as_slice() == WRITTEN, "{room} {most}");
+            assert!(rt; sink.bytes.as_slice() == RECORDS, "{room} {most}");
         }
     }
     Ok(())
@@ -354,7 +228,7 @@ fn assert_flushed(rt: &impl Abort, alloc: Global, most: usize, room: usize) -> R
     let wire = Wire::new();
     let reader = Direct::new(asking(most, &wire));
     let writer = BufWriter::with_capacity(alloc, room, &wire)?;
-    let end = serve_stream(alloc, reader, writer, &mut keeper(alloc, NEVER))?;
+    let end = serve_stream(alloc, reader, writer, &mut Kept::all(alloc))?;
     assert_eq!(rt; end, Ok(End::Closed), "{most} {room}");
     assert_eq!(rt; wire.flushed.get(), WRITTEN.len(), "{most} {room}");
     Ok(())
@@ -408,8 +282,8 @@ fn each_read_wants_what_is_due(rt: HostRuntime) -> Result<(), Fail> {
         rest: STREAM,
         rooms: &rooms,
     };
-    let mut writer = keeper(rt.alloc(), NEVER);
-    let mut sink = keeper(rt.alloc(), NEVER);
+    let mut writer = Kept::all(rt.alloc());
+    let mut sink = Kept::all(rt.alloc());
     let end = serve_stream(
         rt.alloc(),
         Direct::new(source),

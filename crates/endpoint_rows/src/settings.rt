@@ -1,0 +1,72 @@
+//! The settings of an endpoint by their words.
+
+use crate::parts::text_of;
+use amqp_endpoint::{Config, Endpoint};
+use row_files::words::{name_of, number};
+use row_files::{Heap, Miss};
+use std::alloc::{AllocError, Global};
+
+/// The numbers of the settings, in the order of `Config::checked`.
+type Numbers = [u32; 6];
+
+/// What these settings are; an error within where memory for the name is refused.
+pub fn config_of<'a>(
+    alloc: Global,
+    heap: Heap<'a>,
+    words: &str,
+) -> Result<Result<Config<Heap<'a>>, AllocError>, Miss> {
+    let (name, numbers) = name_of(words);
+    let name = text_of(alloc, name)?;
+    let numbers = numbers_of(numbers)?;
+    let Ok(name) = String::from_str(heap, name.as_str()) else {
+        return Ok(Err(AllocError));
+    };
+    Ok(Ok(checked(name, numbers).ok_or("no such settings")?))
+}
+
+/// A new endpoint with a copy of these settings; an error within where memory is refused.
+pub fn endpoint_of<'a>(
+    alloc: Global,
+    heap: Heap<'a>,
+    words: &str,
+) -> Result<Result<Endpoint<Heap<'a>>, AllocError>, Miss> {
+    let Ok(config) = config_of(alloc, heap, words)? else {
+        return Ok(Err(AllocError));
+    };
+    let Ok(copy) = config.copy(heap) else {
+        return Ok(Err(AllocError));
+    };
+    Ok(Endpoint::new(heap, copy))
+}
+
+fn checked<'a>(name: String<Heap<'a>>, numbers: Numbers) -> Option<Config<Heap<'a>>> {
+    let [
+        max_frame,
+        channel_max,
+        handle_max,
+        allowed,
+        max_message,
+        window,
+    ] = numbers;
+    Config::checked(
+        name,
+        max_frame,
+        channel_max,
+        handle_max,
+        allowed,
+        max_message,
+        window,
+    )
+}
+
+fn numbers_of(words: &str) -> Result<Numbers, Miss> {
+    let mut words = words.split_whitespace();
+    let mut numbers = [0; 6];
+    for place in numbers.iter_mut() {
+        *place = number(words.next().ok_or("too few numbers")?)?;
+    }
+    match words.next() {
+        None => Ok(numbers),
+        Some(_) => Err(Miss::Unread("too many numbers")),
+    }
+}
