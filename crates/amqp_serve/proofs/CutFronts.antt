@@ -110,7 +110,7 @@ fewer_grow p max least m stage (u ∷ us) (v ∷ vs) a b e x y i g =
 -- Until any moment. ---------------------------------------------------------------------------------------------------
 
 -- only one stand is the end
-is_over : (b : Stand) → IsEnded b → b ≡ Over
+pub is_over : (b : Stand) → IsEnded b → b ≡ Over
 is_over (ToppingUp supplies) h = absurd h
 is_over (Receiving channel handle) h = absurd h
 is_over (Settling channel id) h = absurd h

@@ -49,7 +49,7 @@ IsEnded (Settling channel id) = ⊥
 IsEnded Starved = ⊥
 IsEnded Over = Unit {0}
 
-ended : {p : Policy} {a b : Stand} {s t : EndpointState} {xs : List Step} → Serves p a s xs b t → IsEnded a → IsEnded b
+pub ended : {p : Policy} {a b : Stand} {s t : EndpointState} {xs : List Step} → Serves p a s xs b t → IsEnded a → IsEnded b
 ended Rests h = h
 ended (MovesOut next room bytes does x) h = ended x h
 ended (Feeds next piece used told none range does x) h = absurd h

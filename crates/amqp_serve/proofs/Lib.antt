@@ -10,3 +10,7 @@ pub mod CutSteps
 pub mod CutRuns
 pub mod Cuts
 pub mod CutFronts
+pub mod Ready
+pub mod AllTaken
+pub mod Resumed
+pub mod Interrupted

@@ -55,6 +55,24 @@ never_starved c None is = by (is_dead c.phase) is
     by true f = absurd (grind (arith, f))
     by false f = absurd (grind (arith, f))
 
+acts_limit : (s t : EndpointState) (u : StreamUnit) (may : Bool) (told : Outcome) → Acts s t u may told → t.input.limit ≡ s.input.limit
+acts_limit s t u false told x = x.0.input.limit
+acts_limit s t u true told (inl acted) = acted.input.limit
+acts_limit s t u true told (inr kept) = kept.0.input.limit
+
+-- A feed leaves the largest frame that is accepted.
+pub fed_limit : (s t : EndpointState) (piece : List ℕ) (used : ℕ) (told : Outcome) → 8 ≤ s.input.limit → IsFed s t piece used told → t.input.limit ≡ s.input.limit
+fed_limit s t piece used told least = by (is_dead s.connection.phase)
+  where
+    by : (over : Bool) → steps.FeedDone over s t piece used told → t.input.limit ≡ s.input.limit
+    by true x = x.0.input.limit
+    by false x =
+        let between : EndpointState = record s { input = x.between } in
+        elim (waits_or_not x.between (subst (λ (n : ℕ). 8 ≤ n) (sym x.taken.limit) least)) [
+          | inl w ↦ acts_limit between t w.0 (room_for s.unsent w.0) told (x.comes.unit w.0 w.1) ∙ x.taken.limit
+          | inr idle ↦ (x.comes.none idle).0.input.limit ∙ x.taken.limit
+        ]
+
 -- Where nothing waits to be sent, a unit that waits is acted upon, unless memory is refused.
 pub fed_idle : (s t : EndpointState) (piece : List ℕ) (used : ℕ) (told : Outcome) → is_dead s.connection.phase ≡ false → s.unsent ≡ [] → told ≢ outcome.NoMemory → IsFed s t piece used told → IsIdle t
 fed_idle s t piece used told alive none fine x = λ u w.

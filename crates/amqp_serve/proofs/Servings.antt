@@ -55,13 +55,13 @@ ranges_of {p} (TopsUp {s} next supply supplies answer none lacks does x) = (top_
 ranges_of (Passes supply supplies lacks x) = ranges_of x
 ranges_of (Finishes next end none does x) = (tt, ranges_of x)
 
-fed_on : (xs ys : List Step) → fed (xs ++ ys) ≡ fed xs ++ fed ys
+pub fed_on : (xs ys : List Step) → fed (xs ++ ys) ≡ fed xs ++ fed ys
 fed_on xs ys = flat_map-append (λ x. taken_by x.call x.answer) xs ys
 
-moved_on : (xs ys : List Step) → moved (xs ++ ys) ≡ moved xs ++ moved ys
+pub moved_on : (xs ys : List Step) → moved (xs ++ ys) ≡ moved xs ++ moved ys
 moved_on xs ys = flat_map-append (λ x. moved_by x.answer) xs ys
 
-recorded_on : (xs ys : List Step) → recorded (xs ++ ys) ≡ recorded xs ++ recorded ys
+pub recorded_on : (xs ys : List Step) → recorded (xs ++ ys) ≡ recorded xs ++ recorded ys
 recorded_on xs ys = flat_map-append (λ x. recorded_by x.call x.answer) xs ys
 
 -- nothing has changed

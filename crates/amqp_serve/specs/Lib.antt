@@ -1,3 +1,4 @@
 pub mod Serving
 pub mod Cuts
 pub mod Supplied
+pub mod Interrupted

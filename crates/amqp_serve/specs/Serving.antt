@@ -10,7 +10,7 @@ use Rattle.amqp_session.specs.declared.slot.Slot.{Slot}
 use Rattle.amqp_session.specs.declared.slot.Slot.TheVariants.{Free, Live, Waits as Awaits}
 use Rattle.amqp_session.specs.Calls.{Widen, Grant, Take, Settle}
 use Rattle.amqp_session.specs.Places.{tabulate}
-use Rattle.amqp_session.specs.Sessions.{LiveLink, SessionState}
+use Rattle.amqp_session.specs.Sessions.{LiveLink, SessionState, slot_ready}
 use Rattle.amqp_endpoint.specs.declared.event.End.{End}
 use Rattle.amqp_endpoint.specs.declared.event.Event.TheVariants as event
 use Rattle.amqp_endpoint.specs.declared.event.Outcome.{Outcome}
@@ -23,7 +23,7 @@ use Rattle.amqp_endpoint.specs.Connections.{ConnectionState, channels, slot_at, 
 use Rattle.amqp_endpoint.specs.Lines.{line_of, may_grow_on}
 use Rattle.amqp_endpoint.specs.Runs.{Call, Feed, InSession, Output, Finish, Answer, Fed, Handed, HandedUp, MovedOut, Ended, Does, Run}
 use Rattle.amqp_endpoint.specs.Steps.{EndpointState, IsKept}
-use Rattle.amqp_endpoint.specs.Takings.{link_in}
+use Rattle.amqp_endpoint.specs.Takings.{link_in, link_at}
 use Rattle.amqp_endpoint.specs.Traces.{IsInRange, AreInRange, taken_by, moved_by}
 
 -- What is lacking. ----------------------------------------------------------------------------------------------------
@@ -216,6 +216,10 @@ pub record IsStarved (s : EndpointState) : Type 0 where
   pub wants : may_grow_on (line_of s.connection unit) ≡ true
   pub sent : s.unsent ≡ []
   pub alive : is_dead s.connection.phase ≡ false
+
+-- no message is ready to be taken on any link
+abbrev pub HasAllTaken : ConnectionState → Type 0
+HasAllTaken s = (channel handle : ℕ) → slot_ready (link_at s channel handle) ≡ 0
 
 -- these were served with no piece fed
 pub record Works (p : Policy) (a b : Stand) (old new : EndpointState) (held now kept keeps : Option (List ℕ)) : Type 0 where

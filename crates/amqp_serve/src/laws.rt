@@ -1,13 +1,14 @@
 //! What holds of every connection that is served. The calls do nothing: their contracts are the laws.
-ghost use Rattle.std.specs.Prelude.{◌≡◌, ℕ, ◌++◌, Bool, List, Option};
+ghost use Rattle.std.specs.Prelude.{◌≡◌, ℕ, ◌≤◌, ◌++◌, ◌∷◌, [], Bool, List, Option};
 ghost use Rattle.std.specs.List.{flat_map};
 ghost use Rattle.amqp_endpoint.specs.Configs.{Configured, IsConfigured};
 ghost use Rattle.amqp_endpoint.specs.Runs.{Run, IsStart};
 ghost use Rattle.amqp_endpoint.specs.Steps.{EndpointState};
 ghost use Rattle.amqp_endpoint.specs.Traces.{AreInRange, IsWholeRun, heard, message_in};
 ghost use Rattle.amqp_endpoint.specs.declared.event.End.{End};
-ghost use Rattle.amqp_serve.specs.Serving.{Stand, Over, reading, Step, Serves, IsServed, fed, moved, recorded, record_of, calls_of, answers_of};
+ghost use Rattle.amqp_serve.specs.Serving.{Stand, Receiving, Over, reading, Step, Serves, HasAllTaken, IsServed, finish_of, fed, moved, recorded, record_of, calls_of, answers_of};
 ghost use Rattle.amqp_serve.specs.Cuts.{Made, IsMade, AreAlike, IsFront};
+ghost use Rattle.amqp_serve.specs.Interrupted.{Interrupted};
 ghost use Rattle.amqp_serve.specs.declared.serving.Policy.{Policy};
 
 use amqp_endpoint::laws::runs_have_a_history;
@@ -56,4 +57,26 @@ pub fn serving_begins_the_same()
     ensures same { (p : Policy) (config : Configured) (end : End) (bytes unfed : List ℕ) (ended : Bool) (old old2 now new : EndpointState) (stand : Stand) (steps : List Step) (held has kept keeps : Option (List ℕ)) → IsConfigured config.container_id config.max_frame config.window → IsStart config old → IsStart config old2 → Serves p reading old steps stand now → (stand ≡ Over → ⊥) → bytes ≡ fed steps ++ unfed → (y : IsServed p end bytes ended old2 new held has kept keeps) → IsFront (moved steps) (moved y.steps) × IsFront (recorded steps) (recorded y.steps) }
 {
     serving_follows_the_units();
+}
+
+/// No message is ready in a new endpoint. Serving one in which none is leaves none ready, but the one that it takes next.
+#[tactic(auto, using(crate::proofs::AllTaken::start_taken, crate::proofs::AllTaken::leaves_taken))]
+pub fn serving_takes_what_is_ready()
+    ensures start { (config : Configured) (s : EndpointState) → IsStart config s → HasAllTaken s.connection }
+    ensures taken { (p : Policy) (b : Stand) (s t : EndpointState) (steps : List Step) → 8 ≤ s.input.limit → HasAllTaken s.connection → Serves p reading s steps b t → ((channel handle : ℕ) → b ≡ Receiving channel handle → ⊥) → HasAllTaken t.connection }
+{}
+
+/// Serving that broke off where memory was refused and went on from where it was left, as often as it did so, is one run over
+/// all bytes that were read, as if memory had been ample: what was written and recorded is what that run moved out and
+/// recorded, and it ends so. (That the buffer of every endpoint has room for eight bytes `holds_a_header` says.) So two new
+/// endpoints that were served to their end over the same bytes wrote and recorded the same and ended alike, whether or not
+/// memory was refused on the way, and at any moment before its end such serving has moved out and recorded a beginning of it.
+/// The calls that were made, those with the refused feeds, are a run of the endpoint too.
+pub fn refusals_leave_no_trace()
+    ensures served { (p : Policy) (end : End) (more : List ℕ) (ended : Bool) (old mid new : EndpointState) (held now last kept keeps lasts : Option (List ℕ)) (steps : List Step) → 8 ≤ old.input.limit → Interrupted p old held kept steps mid now keeps → (y : IsServed p end more ended mid new now last keeps lasts) → (z : IsServed p end (fed steps ++ more) ended old new held last kept lasts) × (moved z.steps ≡ moved (steps ++ y.steps)) × (recorded z.steps ≡ recorded (steps ++ y.steps)) }
+    ensures same { (p : Policy) (config : Configured) (more : List ℕ) (end end2 : End) (ended ended2 : Bool) (old mid new old2 new2 : EndpointState) (held now last kept keeps lasts held2 now2 kept2 keeps2 : Option (List ℕ)) (steps : List Step) → IsConfigured config.container_id config.max_frame config.window → IsStart config old → IsStart config old2 → Interrupted p old held kept steps mid now keeps → (y : IsServed p end more ended mid new now last keeps lasts) → (z : IsServed p end2 (fed steps ++ more) ended2 old2 new2 held2 now2 kept2 keeps2) → (end ≡ end2) × (moved (steps ++ y.steps) ≡ moved z.steps) × (recorded (steps ++ y.steps) ≡ recorded z.steps) × AreAlike held last held2 now2 × AreAlike kept lasts kept2 keeps2 }
+    ensures begun { (p : Policy) (config : Configured) (end : End) (unfed : List ℕ) (old mid last : EndpointState) (held now kept keeps : Option (List ℕ)) (steps more : List Step) (stand : Stand) (made : Made) → IsConfigured config.container_id config.max_frame config.window → IsStart config old → Interrupted p old held kept steps mid now keeps → Serves p reading mid more stand last → (stand ≡ Over → ⊥) → IsMade p config (fed (steps ++ more) ++ unfed) made end → IsFront (moved (steps ++ more)) made.written × IsFront (recorded (steps ++ more)) made.recorded }
+    ensures run { (p : Policy) (end : End) (more : List ℕ) (ended : Bool) (old mid new : EndpointState) (held now last kept keeps lasts : Option (List ℕ)) (steps : List Step) → Interrupted p old held kept steps mid now keeps → (y : IsServed p end more ended mid new now last keeps lasts) → Run old (calls_of (steps ++ y.steps ++ finish_of end ∷ [])) (answers_of (steps ++ y.steps ++ finish_of end ∷ [])) new × AreInRange (calls_of (steps ++ y.steps ++ finish_of end ∷ [])) }
+{
+    serving_ignores_cuts();
 }

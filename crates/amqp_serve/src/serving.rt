@@ -5,7 +5,7 @@ ghost use Rattle.amqp_frame.specs.Devices.{device_inner, device_hand, has_failed
 ghost use Rattle.amqp_frame.specs.Splits.{IsOver};
 ghost use Rattle.amqp_endpoint.specs.Connections.{is_dead};
 ghost use Rattle.amqp_endpoint.specs.Steps.{EndpointState, MayRead, IsKept};
-ghost use Rattle.amqp_serve.specs.Serving.{ToppingUp, Receiving, all_supplies, reading, stand_told, Works, Served, HasRead, BrokeOff, HasBroken, IsServed, IsIdle, IsStarved};
+ghost use Rattle.amqp_serve.specs.Serving.{ToppingUp, Receiving, all_supplies, reading, stand_told, Works, Served, HasRead, BrokeOff, HasBroken, IsServed, IsIdle, IsStarved, HasAllTaken};
 ghost use Rattle.amqp_serve.specs.Supplied.{IsSupplied, IsSuppliedBehind, IsOnlyIn, session_told};
 
 use crate::records::write_record;
@@ -62,10 +62,11 @@ pub enum ServeFault {
 ///
 /// `Read`, `Write` and `Sink` where that device has failed; of two that failed the sink is named, and else the writer.
 /// `NoMemory` at the first unit that wants memory and is refused it, also one that waits at entry, unless the flush behind it
-/// fails: the unit waits in the endpoint, and nothing that was read is lost. What was written until then begins what would be written, and what was recorded what would be
-/// recorded; at `Read` and `NoMemory` it is all of it. At each error but `Sink` what was recorded is flushed, and then what
-/// was written, as far as these devices let it. Behind `Sink` the writer may hold back answers whose records were lost: its
-/// bytes are to be thrown away.
+/// fails: the unit waits in the endpoint, and nothing that was read is lost, so that another call goes on from there as if
+/// memory had been ample (`refusals_leave_no_trace`). What was written until then begins what would be written, and what was
+/// recorded what would be recorded; at `Read` and `NoMemory` it is all of it. At each error but `Sink` what was recorded is
+/// flushed, and then what was written, as far as these devices let it. Behind `Sink` the writer may hold back answers whose
+/// records were lost: its bytes are to be thrown away.
 pub fn serve<A: Allocator + Copy, R: AtHand + Drop, W: Write + HoldsBack + Drop, S: Write + Drop>(
     endpoint: &mut Endpoint<A>,
     reader: &mut Device<R>,
@@ -85,8 +86,9 @@ pub fn serve<A: Allocator + Copy, R: AtHand + Drop, W: Write + HoldsBack + Drop,
     // Nothing waits to be written while it reads, and it reads only until the connection is over.
     ensures waited { result ≡ Err ServeFault.Read → (endpoint.new.unsent ≡ []) × (is_dead endpoint.new.connection.phase ≡ false) }
 
-    // Where memory was refused the unit that wants it waits in the endpoint.
+    // Where memory was refused the unit that wants it waits in the endpoint, and no message is ready there, unless one was at entry.
     ensures starved { result ≡ Err ServeFault.NoMemory → IsStarved endpoint.new }
+    ensures taken { HasAllTaken endpoint.old.connection → result ≡ Err ServeFault.NoMemory → HasAllTaken endpoint.new.connection }
 
     // What was recorded is flushed, and what was written, unless these devices failed.
     ensures recorded { ¬ (IsTrue (has_failed sink.new)) → is_flushed sink.new ≡ true }
@@ -100,6 +102,7 @@ pub fn serve<A: Allocator + Copy, R: AtHand + Drop, W: Write + HoldsBack + Drop,
         × BrokeOff policy e reading bytes endpoint.old endpoint.new (W.contents (device_inner writer.old)) (W.contents (device_inner writer.new)) (S.contents (device_inner sink.old))
         (S.contents (device_inner sink.new))) }
 {
+    endpoint.holds_a_header(); // a law, for the proof
     match run(endpoint, reader, writer, sink, policy) {
         Ok(end) => Ok(end),
         Err(ServeFault::Read) => {
