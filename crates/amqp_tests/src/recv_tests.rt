@@ -14,11 +14,11 @@ use std::process::Abort;
 use std::test::Fail;
 
 /// The peer's header, open, begin and attach, two deliveries in one transfer each, and a close: 130 bytes.
-const STREAM: &[u8] =
+pub const STREAM: &[u8] =
     b"\x41\x4d\x51\x50\x00\x01\x00\x00\x00\x00\x00\x11\x02\x00\x00\x00\x00\x53\x10\xc0\x04\x01\xa1\x01\x61\x00\x00\x00\x14\x02\x00\x00\x00\x00\x53\x11\xc0\x07\x04\x40\x43\x52\x64\x52\x64\x00\x00\x00\x20\x02\x00\x00\x00\x00\x53\x12\xc0\x13\x0a\xa1\x01\x6c\x43\x42\x40\x40\x00\x53\x28\x45\x00\x53\x29\x45\x40\x40\x43\x00\x00\x00\x14\x02\x00\x00\x00\x00\x53\x14\xc0\x06\x03\x43\x43\xa0\x01\x74\x78\x00\x00\x00\x15\x02\x00\x00\x00\x00\x53\x14\xc0\x07\x03\x43\x52\x01\xa0\x01\x74\x78\x00\x00\x00\x0c\x02\x00\x00\x00\x00\x53\x18\x45";
 
 /// The records of both messages.
-const RECORDS: &[u8] =
+pub const RECORDS: &[u8] =
     b"\x00\x00\x00\x00\x00\x00\x00\x00\x00\x00\x00\x00\x00\x00\x00\x00\x00\x01\x78\x00\x00\x00\x00\x00\x00\x00\x00\x00\x01\x00\x00\x00\x00\x00\x00\x00\x01\x78";
 
 /// How many bytes answer the stream.
@@ -157,6 +157,23 @@ fn served(
     connections: u32,
     most: usize,
 ) -> Result<(bool, String, Vec<u8>), AllocError> {
+    let queue = Queue {
+        peers,
+        accepted: Cell::new(0),
+    };
+    served_by(alloc, &queue, connections, most)
+}
+
+/// The same of the peers that a listener has.
+pub fn served_by<L: OpenListener>(
+    alloc: Global,
+    listener: &L,
+    connections: u32,
+    most: usize,
+) -> Result<(bool, String, Vec<u8>), AllocError>
+where
+    L::Stream: Read + Write + OpenStream + Drop,
+{
     let name = String::from_str(alloc, "r")?;
     let Some(config) = Config::checked(name, 512, 0, 1, 4, 10, 100) else {
         return Err(AllocError);
@@ -164,10 +181,6 @@ fn served(
     let policy = Policy {
         credit: 1,
         outcome: Outcome::Accepted,
-    };
-    let queue = Queue {
-        peers,
-        accepted: Cell::new(0),
     };
     let mut sink = Sink {
         bytes: Vec::new(alloc),
@@ -178,7 +191,7 @@ fn served(
     };
     let all_closed = recv_on(
         alloc,
-        &queue,
+        listener,
         &config,
         policy,
         connections,
@@ -196,7 +209,8 @@ fn talker<'a>(bytes: &'a [u8], wire: &'a Wire) -> Option<Peer<'a>> {
     })
 }
 
-const AMPLE: usize = 1000;
+/// Room for all records.
+pub const AMPLE: usize = 1000;
 
 /// Asserts that both messages of the stream were recorded twice.
 fn assert_recorded_twice(rt: &impl Abort, records: &[u8]) {

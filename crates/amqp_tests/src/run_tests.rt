@@ -1,5 +1,7 @@
 //! The program on a host of its own: the exit statuses, and what stands on standard error.
 
+use crate::loopback_tests::{connected, listening};
+use crate::recv_tests::{RECORDS, STREAM};
 use amqp_commands::run::run;
 use amqp_frame::HEADER;
 use std::alloc::{Alloc, Allocator, Global};
@@ -11,6 +13,7 @@ use std::io::{self, BufRead, ErrorKind, Input, Read, Seek, SeekFrom, Write};
 use std::net::{Net, SocketAddr, TcpListener, TcpStream};
 use std::process::{Abort, ExitCode};
 use std::rt::{Env, Files};
+use std::test::Fail;
 
 /// A file that gives its bytes, and then ends or fails.
 #[derive(Clone, Copy)]
@@ -65,7 +68,8 @@ impl OpenFile for Bytes<'_> {
     }
 }
 
-/// A host with these words, this one file if any, this standard input, and a standard output that may be shut.
+/// A host with these words, this one file if any, this standard input, a standard output that may be shut, and a listener if
+/// any.
 #[derive(Drop)]
 struct Host<'a> {
     alloc: Global,
@@ -73,6 +77,7 @@ struct Host<'a> {
     file: Option<Bytes<'a>>,
     input: &'a [u8],
     is_shut: bool,
+    listener: Option<&'a TcpListener>,
     out: RefCell<String>,
     err: RefCell<String>,
 }
@@ -213,14 +218,17 @@ impl<'a> Files for Host<'a> {
     }
 }
 
-/// It reaches no other.
+/// It reaches no other, and listens where its listener does.
 impl Net for Host<'_> {
     type Stream = TcpStream;
 
     type Listener = TcpListener;
 
     fn bind(&self, _addr: SocketAddr) -> io::Result<TcpListener> {
-        Err(io::Error::from(ErrorKind::Unsupported))
+        match self.listener {
+            Some(listener) => listener.try_clone(),
+            None => Err(io::Error::from(ErrorKind::Unsupported)),
+        }
     }
 
     fn connect(&self, _addr: SocketAddr) -> io::Result<TcpStream> {
@@ -236,6 +244,7 @@ fn host_of<'a>(alloc: Global, words: &'a [&'a str], file: Option<Bytes<'a>>) -> 
         file,
         input: &[],
         is_shut: false,
+        listener: None,
         out: RefCell::new(String::new(alloc)),
         err: RefCell::new(String::new(alloc)),
     }
@@ -249,6 +258,7 @@ fn host_fed<'a>(alloc: Global, words: &'a [&'a str], input: &'a [u8]) -> Host<'a
         file: None,
         input,
         is_shut: false,
+        listener: None,
         out: RefCell::new(String::new(alloc)),
         err: RefCell::new(String::new(alloc)),
     }
@@ -344,6 +354,36 @@ fn says_that_an_address_is_not_open(rt: HostRuntime) {
     let recv: [&str; 4] = ["amqp", "recv", "--listen", "127.0.0.1:5672"];
     let host = host_of(rt.alloc(), &recv, None);
     assert_ends(&rt, host, ExitCode::FAILURE, "", "fault: Open\n");
+}
+
+/// Two peers that have sent all that they send wait at a listener of this machine.
+#[test]
+fn ends_where_standard_output_is_closed(rt: HostRuntime) -> Result<(), Fail> {
+    let words: [&str; 6] = [
+        "amqp",
+        "recv",
+        "--listen",
+        "127.0.0.1:5672",
+        "--connections",
+        "2",
+    ];
+    let closed = "connection 1: Closed\nconnection 2: Closed\n";
+    for (is_shut, status, told, records) in [
+        (false, ExitCode::SUCCESS, closed, 2 * RECORDS.len()),
+        (true, ExitCode::FAILURE, "connection 1: Sink\n", 0),
+    ] {
+        let (listener, address) = listening(&rt)?;
+        let first = connected(&rt, address, STREAM)?;
+        let second = connected(&rt, address, STREAM)?;
+        let mut host = host_of(rt.alloc(), &words, None);
+        host.is_shut = is_shut;
+        host.listener = Some(&listener);
+        assert!(rt; run(&host) == status);
+        let (out, err) = (host.out.into_inner(), host.err.into_inner());
+        assert_eq!(rt; (out.len(), err.as_str()), (records, told));
+        drop((first, second));
+    }
+    Ok(())
 }
 
 #[test]

@@ -1,7 +1,7 @@
 //! Calls that ask for the bytes of the heap.
 //!
 //! `heap live = 0` asks whether so many bytes live, and answers `true` or `false`; so do `<`, `<=` and `>=`, and
-//! `heap requested` of the bytes that were granted since the run began. In place of the number may stand `mark` or
+//! `heap peak` of the most that lived at a time, and `heap requested` of the bytes that were granted, since the run began. In place of the number may stand `mark` or
 //! `mark+N`: a call `heap mark` keeps what there is, the most of it where there are several in a run.
 
 use crate::words::{cut, name_of, number};
@@ -32,6 +32,7 @@ impl Mark {
                 return Ok("()");
             }
             ("live", asked) => compared(live, asked, self.live)?,
+            ("peak", asked) => compared(heap.peak(), asked, self.live)?,
             ("requested", asked) => compared(requested, asked, self.requested)?,
             _ => return Err(Miss::Unread("no such call of the heap")),
         };

@@ -20,6 +20,8 @@ struct Counts {
     left: Cell<u64>,
     requested: Cell<u64>,
     live: Cell<u64>,
+    /// The most that lived at a time.
+    peak: Cell<u64>,
 }
 
 impl<B: Allocator> TestHeap<B> {
@@ -32,15 +34,17 @@ impl<B: Allocator> TestHeap<B> {
                 left: Cell::new(number),
                 requested: Cell::new(0),
                 live: Cell::new(0),
+                peak: Cell::new(0),
             },
         }
     }
 
     /// Counts requests and their bytes anew, and refuses the request of this number from here on, as a new heap would.
-    /// What lives is counted on.
+    /// What lives is counted on, and is the most that did so far.
     pub fn restart(&self, number: u64) {
         self.counts.left.set(number);
         self.counts.requested.set(0);
+        self.counts.peak.set(self.counts.live.get());
     }
 
     /// Whether a request is still to be refused.
@@ -56,6 +60,11 @@ impl<B: Allocator> TestHeap<B> {
     /// The bytes that were granted and not given back.
     pub fn live(&self) -> u64 {
         self.counts.live.get()
+    }
+
+    /// The most of them at a time.
+    pub fn peak(&self) -> u64 {
+        self.counts.peak.get()
     }
 }
 
@@ -80,7 +89,9 @@ impl Counts {
         let size = size as u64;
         self.requested
             .set(self.requested.get().saturating_add(size));
-        self.live.set(self.live.get().saturating_add(size));
+        let live = self.live.get().saturating_add(size);
+        self.live.set(live);
+        self.peak.set(self.peak.get().max(live));
     }
 
     fn note_freed(&self, size: usize) {
