@@ -20,7 +20,7 @@ use std::alloc::Global;
 use std::env;
 
 /// The lists of the gate.
-const COUNT: u64 = 10_000;
+const COUNT: u64 = 100_000;
 
 const SEED: u64 = 1;
 
