@@ -82,7 +82,8 @@ fn one_that_waits_is_served_behind_others_that_fail(rt: HostRuntime) -> Result<(
     assert_eq!(rt; records.as_slice(), RECORDS);
     for (stream, answered) in [(other, 8), (inside, 34), (between, 57)] {
         let bytes = received(rt.alloc(), stream)?;
-        assert_eq!(rt; bytes.as_slice(), &WRITTEN[..answered]);
+        assert_eq!(rt; bytes.len(), answered);
+        assert!(rt; WRITTEN.starts_with(&bytes));
     }
     assert_answered(&rt, rt.alloc(), waiting)
 }

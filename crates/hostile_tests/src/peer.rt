@@ -1,5 +1,7 @@
 //! A peer that makes its bytes as they are asked for.
 
+ghost use Rattle.std.specs.Prelude.{◌≤◌, length};
+
 use std::io::{self, Read};
 
 /// Where a unit has a number, big-endian in so many bytes.
@@ -68,24 +70,43 @@ impl<'a> Peer<'a> {
     }
 }
 
+impl Peer<'_> {
+    /// Gives of the opening.
+    fn give_opening(&mut self, buf: &mut [u8]) -> usize
+        ensures { result ≤ length buf.old }
+    {
+        let count = give(buf, self.opening, self.most);
+        self.opening = self.opening.get(count..).unwrap_or(&[]);
+        count
+    }
+
+    /// Gives of the unit.
+    fn give_unit(&mut self, buf: &mut [u8]) -> usize
+        ensures { result ≤ length buf.old }
+    {
+        self.turn();
+        let count = give(buf, self.unit.get(self.at..).unwrap_or(&[]), self.most);
+        self.at = self.at.saturating_add(count);
+        count
+    }
+}
+
+/// Copies the first bytes, as many as are there and have room, at most so many.
+fn give(buf: &mut [u8], source: &[u8], most: usize) -> usize
+    ensures { result ≤ length buf.old }
+{
+    let count = buf.len().min(source.len()).min(most);
+    buf[..count].copy_from_slice(&source[..count]);
+    count
+}
+
 impl Read for Peer<'_> {
     fn read(&mut self, buf: &mut [u8]) -> io::Result<usize> {
-        let is_opening = !self.opening.is_empty();
-        if !is_opening {
-            self.turn();
-        }
-        let source = if is_opening {
-            self.opening
+        let count = if self.opening.is_empty() {
+            self.give_unit(buf)
         } else {
-            self.unit.get(self.at..).unwrap_or(&[])
+            self.give_opening(buf)
         };
-        let count = buf.len().min(source.len()).min(self.most);
-        buf[..count].copy_from_slice(&source[..count]);
-        if is_opening {
-            self.opening = self.opening.get(count..).unwrap_or(&[]);
-        } else {
-            self.at = self.at.saturating_add(count);
-        }
         self.given = self.given.saturating_add(count as u64);
         Ok(count)
     }

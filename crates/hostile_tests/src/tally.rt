@@ -118,12 +118,17 @@ impl Write for Tally {
 /// The frames in the order of their names, with how many of each, and the last condition.
 impl Display for Tally {
     fn fmt<W: fmt::Write>(&self, f: &mut Formatter<W>) -> fmt::Result {
-        let mut mark = "got=";
+        f.write_str("got=")?;
+        let mut is_first = true;
         for (name, count) in NAMES.iter().zip(self.counts.iter()) {
-            if *count > 0 {
-                write!(f, "{mark}{name}")?;
-                mark = ",";
+            if *count == 0 {
+                continue;
             }
+            if !is_first {
+                f.write_str(",")?;
+            }
+            is_first = false;
+            f.write_str(name)?;
             if *count > 1 {
                 write!(f, "*{count}")?;
             }

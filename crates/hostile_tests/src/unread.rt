@@ -35,9 +35,9 @@ pub fn unread(
         most = most.max(endpoint.held());
     }
     let memory = heap.requested().saturating_sub(requested);
-    endpoint.output(&mut room[..10]);
+    endpoint.output(&mut [0; 10]);
     let waiting = endpoint.feed(&[]).outcome;
-    endpoint.output(&mut room[..1]);
+    endpoint.output(&mut [0; 1]);
     let last = endpoint.feed(&[]).outcome;
     Ok(format!(in alloc;
         "{acted} of {times}, held {most}, memory {memory}, {waiting:?}, {last:?}"
