@@ -21,6 +21,8 @@ pub enum Order<'a> {
     Recv {
         address: &'a str,
         settings: RecvSettings,
+        /// The file of the limits for links, if there is one.
+        limits: Option<&'a str>,
     },
     /// To send this file as one message to the listener at this address.
     Send {
@@ -61,11 +63,11 @@ fn recv_line<'a>(alloc: Global) -> Result<Command<'a>, AllocError> {
         .about("Serves connections, and writes the records of their messages")
         .arg(address)?
         .arg(connections)?;
-    with_limits(alloc, recv)
+    with_bounds(alloc, recv)
 }
 
 /// The same command, with the limits of what its peers may send.
-fn with_limits<'a>(alloc: Global, recv: Command<'a>) -> Result<Command<'a>, AllocError> {
+fn with_bounds<'a>(alloc: Global, recv: Command<'a>) -> Result<Command<'a>, AllocError> {
     let max_frame = number(alloc, "max-frame", 512, 1048576, "65536").help(
         "The longest frame that is accepted, in bytes",
     );
@@ -78,10 +80,17 @@ fn with_limits<'a>(alloc: Global, recv: Command<'a>) -> Result<Command<'a>, Allo
     let window = number(alloc, "window", 0, 2147483647, "2048").help(
         "The places of a session's window at its begin",
     );
+    let limits = Arg::new(alloc, "limits")
+        .long("limits")
+        .value_name("FILE")
+        .help(
+            "Other limits for links by how their names begin: PREFIX ALLOWED MAX_MESSAGE on each line",
+        );
     recv.arg(max_frame)?
         .arg(allowed)?
         .arg(max_message)?
-        .arg(window)
+        .arg(window)?
+        .arg(limits)
 }
 
 /// The settings of a command line that was read as one of [`recv_line`].
@@ -147,7 +156,12 @@ pub fn order_of<'a>(matches: &ArgMatches<'a>) -> Option<Order<'a>> {
     if let Some(recv) = matches.subcommand_matches("recv") {
         let address = recv.get_str("ADDR")?;
         let settings = recv_settings(recv)?;
-        return Some(Order::Recv { address, settings });
+        let limits = recv.get_str("limits");
+        return Some(Order::Recv {
+            address,
+            settings,
+            limits,
+        });
     }
     if let Some(replay) = matches.subcommand_matches("replay") {
         let script = replay.get_str("SCRIPT")?;

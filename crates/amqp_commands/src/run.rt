@@ -11,7 +11,7 @@ use amqp_dump::{DumpFault, dump};
 use amqp_endpoint::Config;
 use amqp_frame::Device;
 use amqp_perform::Outcome;
-use amqp_script::{ScriptFault, replay_script};
+use amqp_script::{ScriptFault, read_limits, replay_script};
 use amqp_serve::Policy;
 use clap::error::ErrorKind;
 use std::alloc::{AllocError, Global};
@@ -74,7 +74,13 @@ fn obey<R: Print + Eprint + Input + Env + Files + Net + AllocGlobal>(
     };
     match order_of(&matches) {
         Some(Order::Dump { file }) => dump_file(rt, file),
-        Some(Order::Recv { address, settings }) => recv(rt, address, settings),
+        Some(
+            Order::Recv {
+                address,
+                settings,
+                limits,
+            },
+        ) => recv(rt, address, settings, limits),
         Some(Order::Replay { script }) => replay_file(rt, script),
         Some(Order::Send { address, file }) => send(rt, address, file),
         None => Ok(ExitCode::from(USAGE)),
@@ -158,10 +164,11 @@ const CHANNEL_MAX: u32 = 7;
 const HANDLE_MAX: u32 = 7;
 
 /// Serves connections, with the records on standard output and how each was served on standard error.
-fn recv<R: Print + Eprint + Net + AllocGlobal>(
+fn recv<R: Print + Eprint + Files + Net + AllocGlobal>(
     rt: &R,
     address: &str,
     settings: RecvSettings,
+    limits: Option<&str>,
 ) -> Result<ExitCode, Fault> {
     let alloc = rt.alloc();
     let policy = Policy {
@@ -171,6 +178,10 @@ fn recv<R: Print + Eprint + Net + AllocGlobal>(
     let connections = settings.connections;
     let Some(config) = configured(alloc, settings)? else {
         return Ok(ExitCode::from(USAGE));
+    };
+    let config = match limits {
+        Some(path) => limited(rt, config, path)?,
+        None => config,
     };
     let Ok(listener) = TcpListener::bind(rt, address) else {
         return Err(Fault::Open);
@@ -215,6 +226,18 @@ fn configured(alloc: Global, settings: RecvSettings) -> Result<Option<Config>, A
         max_message,
         window,
     ))
+}
+
+/// The same settings with the limits of a file.
+fn limited<R: Files + AllocGlobal>(rt: &R, config: Config, path: &str) -> Result<Config, Fault> {
+    let file = match fs::open(rt, path) {
+        Ok(file) => file,
+        Err(_) => return Err(Fault::Open),
+    };
+    match read_limits(rt.alloc(), config, &mut Device::new(file)) {
+        Ok(config) => Ok(config),
+        Err(fault) => Err(Fault::Script(fault)),
+    }
 }
 
 /// Sends a file, and prints what became of it on standard output.

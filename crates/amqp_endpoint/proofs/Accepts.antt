@@ -1,6 +1,6 @@
 -- What a unit comes to, and a call that is not refused, is an event that the connection accepts.
 use Rattle.std.proofs.Common.{arith, ◌≡◌, ℕ, zero, suc, ◌*◌, ◌^◌, ◌<◌, ◌≤◌, subst, Bool, true, false, ◌||◌, List, [], ◌∷◌, length, drop, refl, sym, ap, ◌∙◌, ltb-false, Option, Some, None}
-use Rattle.std.specs.Prelude.{unwrap_or, slice_get, slice_index, is_some, nat_lt, nat_le, if◌then◌else◌, bytes_eq}
+use Rattle.std.specs.Prelude.{unwrap_or, slice_get, slice_index, is_some, is_none, nat_lt, nat_le, if◌then◌else◌, bytes_eq}
 use Rattle.std.proofs.lemmas.Bool.{leb-false, cond_both, or_right}
 use Rattle.amqp_frame.specs.declared.units.TheConstants.{HEADER}
 use Rattle.amqp_frame.specs.Units.{StreamUnit, HeaderUnit, FrameUnit, FaultUnit, bytes_of, channel_of, body_of, offset_of}
@@ -20,11 +20,13 @@ use Rattle.amqp_session.specs.declared.slot.Slot.TheVariants.{Free, Live, Waits}
 use Rattle.amqp_session.specs.declared.terms.SessionTerms.{SessionTerms}
 use Rattle.amqp_session.specs.Calls as asks
 use Rattle.amqp_session.specs.Faults as session
-use Rattle.amqp_session.specs.Frames.{Frame, Attaches, Flows, Transfers, Disposes, Detaches, IsInRange}
+use Rattle.amqp_session.specs.Frames.{Flowing, Frame, Attaches, Flows, Transfers, Disposes, Detaches, IsInRange}
 use Rattle.amqp_session.specs.Histories as lived
 use Rattle.amqp_session.specs.Laws.{IsCallInRange}
 use Rattle.amqp_session.specs.Places.{IfLive, Life, life_state, IsInUse}
-use Rattle.amqp_session.specs.Sessions.{SessionState, SessionEvent, SessionMay}
+use Rattle.amqp_session.specs.Sessions as event
+use Rattle.amqp_session.specs.Sessions.{LiveLink, SessionState, SessionEvent, SessionMay}
+use Rattle.amqp_link.specs.Links.{Sent, Delivery, first_ready, is_beyond}
 use Rattle.amqp_session.proofs.Firsts.{neither}
 use Rattle.amqp_session.proofs.Places.{got, tabulate_long}
 use Rattle.amqp_session.proofs.Tables.{same_live, present, found}
@@ -32,8 +34,8 @@ use Rattle.amqp_endpoint.specs.declared.fault.CallFault.{CallFault}
 use Rattle.amqp_endpoint.specs.declared.fault.CallFault.TheVariants as refused
 use Rattle.amqp_endpoint.specs.declared.phase.Phase.{Phase}
 use Rattle.amqp_endpoint.specs.declared.phase.Phase.TheVariants as phase
-use Rattle.amqp_endpoint.specs.Configs.{Configured}
-use Rattle.amqp_endpoint.specs.Connections.{ConnectionState, ConnectionEvent, ConnectionMay, channels, slot_at, lesser, channel_limit, is_unopened, is_open, is_closing, is_dead}
+use Rattle.amqp_endpoint.specs.Configs.{Configured, bounds_for}
+use Rattle.amqp_endpoint.specs.Connections.{ConnectionState, ConnectionEvent, ConnectionMay, IsLimited, channels, slot_at, lesser, channel_limit, is_unopened, is_open, is_closing, is_dead}
 use Rattle.amqp_endpoint.specs.Fields.{Read, Opens, Begins, Ends, Closes, ForSession, Other, begin_in, attach_in, transfer_in, read_in}
 use Rattle.amqp_endpoint.specs.Lines.{Line, attach_too_high, by_fault, session_line, channel_line, opened_line, unopened_line, read_line, unread_line, body_line, frame_line, is_read_close}
 use Rattle.amqp_endpoint.specs.Lines.{closing_line, line_of, event_on}
@@ -49,30 +51,30 @@ whole_range absence (Whole n) is = omega (arith, is.0.1)
 whole_range absence (Bytes octets) is = omega arith
 whole_range absence (Span text) is = omega arith
 
--- the numbers of what was read
-abbrev IsRead : Read → Type 0
-IsRead (Opens o) = Unit {0}
-IsRead (Begins b) = b.next_outgoing_id < 2 ^ 32
-IsRead Ends = Unit {0}
-IsRead Closes = Unit {0}
-IsRead (ForSession (Attaches a)) = unwrap_or a.initial_delivery_count 0 < 2 ^ 32
-IsRead (ForSession (Flows f)) = Unit {0}
-IsRead (ForSession (Transfers handle t)) = unwrap_or t.delivery_id 0 < 2 ^ 32
-IsRead (ForSession (Disposes d)) = Unit {0}
-IsRead (ForSession (Detaches handle closed)) = Unit {0}
-IsRead Other = Unit {0}
+-- the numbers of what was read, and what a link may keep that begins
+abbrev IsRead : Configured → Read → Type 0
+IsRead config (Opens o) = Unit {0}
+IsRead config (Begins b) = b.next_outgoing_id < 2 ^ 32
+IsRead config Ends = Unit {0}
+IsRead config Closes = Unit {0}
+IsRead config (ForSession (Attaches a)) = (unwrap_or a.initial_delivery_count 0 < 2 ^ 32) × (a.bounds ≡ bounds_for config a.name)
+IsRead config (ForSession (Flows f)) = Unit {0}
+IsRead config (ForSession (Transfers handle t)) = unwrap_or t.delivery_id 0 < 2 ^ 32
+IsRead config (ForSession (Disposes d)) = Unit {0}
+IsRead config (ForSession (Detaches handle closed)) = Unit {0}
+IsRead config Other = Unit {0}
 
-begin_ranged : (cells : List Cell) → AreOfFields begin_fields cells → IsRead (begin_in cells)
-begin_ranged (a ∷ b ∷ c ∷ d ∷ e ∷ rest) all = whole_range mandatory b all.1.0
-begin_ranged _ all = tt
+begin_ranged : (config : Configured) (cells : List Cell) → AreOfFields begin_fields cells → IsRead config (begin_in cells)
+begin_ranged config (a ∷ b ∷ c ∷ d ∷ e ∷ rest) all = whole_range mandatory b all.1.0
+begin_ranged config _ all = tt
 
-attach_ranged : (cells : List Cell) → AreOfFields attach_fields cells → IsRead (attach_in cells)
-attach_ranged (a ∷ b ∷ c ∷ d ∷ e ∷ f ∷ g ∷ h ∷ i ∷ j ∷ rest) all = whole_range optional j all.1.1.1.1.1.1.1.1.1.0
-attach_ranged _ all = tt
+attach_ranged : (config : Configured) (cells : List Cell) → AreOfFields attach_fields cells → IsRead config (attach_in config cells)
+attach_ranged config (a ∷ b ∷ c ∷ d ∷ e ∷ f ∷ g ∷ h ∷ i ∷ j ∷ rest) all = (whole_range optional j all.1.1.1.1.1.1.1.1.1.0, refl)
+attach_ranged config _ all = tt
 
-transfer_ranged : (cells : List Cell) (payload : List ℕ) → AreOfFields transfer_fields cells → IsRead (transfer_in cells payload)
-transfer_ranged (a ∷ b ∷ c ∷ d ∷ e ∷ f ∷ g ∷ h ∷ i ∷ j ∷ rest) payload all = whole_range optional b all.1.0
-transfer_ranged _ payload all = tt
+transfer_ranged : (config : Configured) (cells : List Cell) (payload : List ℕ) → AreOfFields transfer_fields cells → IsRead config (transfer_in cells payload)
+transfer_ranged config (a ∷ b ∷ c ∷ d ∷ e ∷ f ∷ g ∷ h ∷ i ∷ j ∷ rest) payload all = whole_range optional b all.1.0
+transfer_ranged config _ payload all = tt
 
 abbrev WhatIsRead : Type 0
 WhatIsRead = (bytes : List ℕ) (d : Descriptor) (cells : List Cell) (payload : List ℕ) → ((i : ℕ) → slice_index bytes i < 256) → body_at bytes ≡ Some (d, cells, payload) → BodyOf bytes d cells payload
@@ -81,21 +83,21 @@ abbrev WhatIsWritten : Type 0
 WhatIsWritten = (bytes : List ℕ) (d : Descriptor) (fields : List Field) (cells : List Cell) (payload : List ℕ) → ((i : ℕ) → slice_index bytes i < 256) →
     BodyOf bytes d cells payload → fields_of d ≡ Some fields → AreOfFields fields cells
 
-read_ranged : (d : Descriptor) (cells : List Cell) (payload : List ℕ) → ((fields : List Field) → fields_of d ≡ Some fields → AreOfFields fields cells) → IsRead (read_in d cells payload)
-read_ranged of_type.Open (a ∷ b ∷ c ∷ d ∷ rest) payload all = tt
-read_ranged of_type.Open _ payload all = tt
-read_ranged of_type.Begin cells payload all = begin_ranged cells (all begin_fields refl)
-read_ranged of_type.Attach cells payload all = attach_ranged cells (all attach_fields refl)
-read_ranged of_type.Flow (a ∷ b ∷ c ∷ d ∷ e ∷ f ∷ g ∷ h ∷ i ∷ j ∷ rest) payload all = tt
-read_ranged of_type.Flow _ payload all = tt
-read_ranged of_type.Transfer cells payload all = transfer_ranged cells payload (all transfer_fields refl)
-read_ranged of_type.Disposition (a ∷ b ∷ c ∷ d ∷ rest) payload all = tt
-read_ranged of_type.Disposition _ payload all = tt
-read_ranged of_type.Detach (a ∷ b ∷ rest) payload all = tt
-read_ranged of_type.Detach _ payload all = tt
-read_ranged of_type.End cells payload all = tt
-read_ranged of_type.Close cells payload all = tt
-read_ranged _ cells payload all = tt
+read_ranged : (config : Configured) (d : Descriptor) (cells : List Cell) (payload : List ℕ) → ((fields : List Field) → fields_of d ≡ Some fields → AreOfFields fields cells) → IsRead config (read_in config d cells payload)
+read_ranged config of_type.Open (a ∷ b ∷ c ∷ d ∷ rest) payload all = tt
+read_ranged config of_type.Open _ payload all = tt
+read_ranged config of_type.Begin cells payload all = begin_ranged config cells (all begin_fields refl)
+read_ranged config of_type.Attach cells payload all = attach_ranged config cells (all attach_fields refl)
+read_ranged config of_type.Flow (a ∷ b ∷ c ∷ d ∷ e ∷ f ∷ g ∷ h ∷ i ∷ j ∷ rest) payload all = tt
+read_ranged config of_type.Flow _ payload all = tt
+read_ranged config of_type.Transfer cells payload all = transfer_ranged config cells payload (all transfer_fields refl)
+read_ranged config of_type.Disposition (a ∷ b ∷ c ∷ d ∷ rest) payload all = tt
+read_ranged config of_type.Disposition _ payload all = tt
+read_ranged config of_type.Detach (a ∷ b ∷ rest) payload all = tt
+read_ranged config of_type.Detach _ payload all = tt
+read_ranged config of_type.End cells payload all = tt
+read_ranged config of_type.Close cells payload all = tt
+read_ranged config _ cells payload all = tt
 
 -- Places. ---------------------------------------------------------------------------------------------------------------
 
@@ -131,15 +133,62 @@ May s l = ConnectionMay s (event_on s l)
 pub one_of : (P : Line → Type 0) (b : Bool) (l m : Line) → (b ≡ true → P l) → (b ≡ false → P m) → P (if b then l else m)
 one_of P b l m = cond_both b l m P
 
-in_range : (s : SessionState) (f : Frame) → IsRead (ForSession f) → attach_too_high s f ≡ false → IsInRange s.terms.handle_max f
-in_range s (Attaches a) read low = (ltb-false s.terms.handle_max a.handle low, read)
-in_range s (Flows f) read low = tt
-in_range s (Transfers handle t) read low = read
-in_range s (Disposes d) read low = tt
-in_range s (Detaches handle closed) read low = tt
+in_range : (config : Configured) (s : SessionState) (f : Frame) → IsRead config (ForSession f) → attach_too_high s f ≡ false → IsInRange s.terms.handle_max f
+in_range config s (Attaches a) read low = (ltb-false s.terms.handle_max a.handle low, read.0)
+in_range config s (Flows f) read low = tt
+in_range config s (Transfers handle t) read low = read
+in_range config s (Disposes d) read low = tt
+in_range config s (Detaches handle closed) read low = tt
+
+-- a link begins with the bounds that its attach was read with, and no other event of a session begins one
+one_event : (config : Configured) (b : Bool) (d e : SessionEvent) → IsLimited config d → IsLimited config e → IsLimited config (if b then d else e)
+one_event config true d e x y = x
+one_event config false d e x y = y
+
+flow_limited : (config : Configured) (handle : ℕ) (f : Flowing) (x : Slot LiveLink) → IsLimited config (session.flow_event handle f x)
+flow_limited config handle f Free = tt
+flow_limited config handle f (Live l) =
+    one_event config (is_beyond l.link.delivery_count l.link.credit f.delivery_count) (event.LinkFlowEnded handle f.next_outgoing_id)
+    (event.LinkFlowCame handle f.next_outgoing_id f.delivery_count) tt tt
+flow_limited config handle f Waits = tt
+
+named_limited : (config : Configured) (t : SessionState) (f : Flowing) (o : Option ℕ) → IsLimited config (session.named_event t f o)
+named_limited config t f None = tt
+named_limited config t f (Some handle) = flow_limited config handle f (event.slot_at t handle)
+
+transfer_limited : (config : Configured) (t : SessionState) (handle : ℕ) (x : Sent) (slot : Slot LiveLink) → IsLimited config (session.transfer_event t handle x slot)
+transfer_limited config t handle x Free = tt
+transfer_limited config t handle x (Live l) = one_event config (is_none (session.transfer_fault t l.link x)) (event.TransferCame handle x) (event.TransferEnded handle) tt tt
+transfer_limited config t handle x Waits = tt
+
+frame_limited : (config : Configured) (t : SessionState) (f : Frame) → IsRead config (ForSession f) → IsLimited config (session.event_of t f)
+frame_limited config t (Attaches a) read =
+    one_event config (is_none (session.refusal t.terms a)) (event.LinkAttached a.handle (session.attached t.terms a)) (event.LinkRefused a.handle) read.1 tt
+frame_limited config t (Flows f) read = named_limited config t f f.handle
+frame_limited config t (Transfers handle x) read = transfer_limited config t handle x (event.slot_at t handle)
+frame_limited config t (Disposes d) read = one_event config (session.is_settling d) (event.PeerSettled d.first (session.last_of d)) event.Ignored tt tt
+frame_limited config t (Detaches handle closed) read = tt
+
+first_limited : (config : Configured) (handle : ℕ) (o : Option Delivery) → IsLimited config (asks.first_taken handle o)
+first_limited config handle None = tt
+first_limited config handle (Some d) = tt
+
+take_limited : (config : Configured) (handle : ℕ) (x : Slot LiveLink) → IsLimited config (asks.take_event handle x)
+take_limited config handle Free = tt
+take_limited config handle (Live l) = first_limited config handle (first_ready l.link)
+take_limited config handle Waits = tt
+
+call_limited : (config : Configured) (t : SessionState) (c : asks.Call) → IsLimited config (asks.call_event t c)
+call_limited config t (asks.Widen n) = tt
+call_limited config t (asks.Grant handle n) = tt
+call_limited config t (asks.Drain handle) = tt
+call_limited config t (asks.Take handle) = take_limited config handle (event.slot_at t handle)
+call_limited config t (asks.Settle id outcome) = tt
+call_limited config t (asks.SettleRange first last outcome) = tt
+call_limited config t (asks.Detach handle) = tt
 
 module _ (s : ConnectionState) (stands : Stands s) (shut : is_closing s.phase ≡ false) (over : is_dead s.phase ≡ false) where
-  session_may : is_open s.phase ≡ true → (channel : ℕ) (t : SessionState) (f : Frame) → slot_at s channel ≡ Live t → IsRead (ForSession f) → May s (session_line channel t f)
+  session_may : is_open s.phase ≡ true → (channel : ℕ) (t : SessionState) (f : Frame) → slot_at s channel ≡ Live t → IsRead s.config (ForSession f) → May s (session_line channel t f)
   session_may opened channel t f e read =
       one_of (May s) (attach_too_high t f) line.HandleTooHigh (by_fault channel t f (session.session_fault t f)) (λ high. ((over, shut), tt, tt)) (λ low. by_it low (session.session_fault t f) refl)
     where
@@ -147,14 +196,14 @@ module _ (s : ConnectionState) (stands : Stands s) (shut : is_closing s.phase �
       at_place = here s channel (Live t) e tt
 
       by_it : attach_too_high t f ≡ false → (o : Option SessionFault) → session.session_fault t f ≡ o → May s (by_fault channel t f o)
-      by_it low None none = (opened, tt, (t, at_place, stands.frames channel t f at_place (in_range t f read low) none))
+      by_it low None none = (opened, tt, (t, at_place, (stands.frames channel t f at_place (in_range s.config t f read low) none, frame_limited s.config t f read)))
       by_it low (Some fault) some = (opened, tt, (Live t, at_place, tt))
 
-  channel_may : is_open s.phase ≡ true → (channel : ℕ) (r : Read) → channel ≤ channel_limit s.phase → IsRead r → (x : Slot SessionState) → slot_at s channel ≡ x → May s (channel_line channel x r)
+  channel_may : is_open s.phase ≡ true → (channel : ℕ) (r : Read) → channel ≤ channel_limit s.phase → IsRead s.config r → (x : Slot SessionState) → slot_at s channel ≡ x → May s (channel_line channel x r)
   channel_may opened channel (Opens o) low read Free e = ((over, shut), tt, tt)
   channel_may opened channel (Begins b) low read Free e =
       one_of (May s) (is_some b.remote_channel) line.BeginMisplaced (line.PeerBegins channel b) (λ so. ((over, shut), tt, tt))
-      (λ so. (opened, tt, (free_here s stands channel low e, record { window = refl; first = read; handles = lesser_low s.config.handle_max b.handle_max; bounds = refl })))
+      (λ so. (opened, tt, (free_here s stands channel low e, record { window = refl; first = read; handles = lesser_low s.config.handle_max b.handle_max })))
   channel_may opened channel Ends low read Free e = ((over, shut), tt, tt)
   channel_may opened channel Closes low read Free e = ((over, shut), tt, tt)
   channel_may opened channel (ForSession f) low read Free e = ((over, shut), tt, tt)
@@ -181,7 +230,7 @@ module _ (s : ConnectionState) (stands : Stands s) (shut : is_closing s.phase �
       by_phase phase.Closing a b c = absurd (grind (arith, a))
       by_phase phase.Dead a b c = absurd (grind (arith, b))
 
-  opened_may : is_open s.phase ≡ true → (channel : ℕ) (r : Read) → channel ≤ channel_limit s.phase → IsRead r → May s (opened_line s channel r)
+  opened_may : is_open s.phase ≡ true → (channel : ℕ) (r : Read) → channel ≤ channel_limit s.phase → IsRead s.config r → May s (opened_line s channel r)
   opened_may opened channel (Opens o) low read = ((over, shut), tt, tt)
   opened_may opened channel (Begins b) low read = channel_may opened channel (Begins b) low read (slot_at s channel) refl
   opened_may opened channel Ends low read = channel_may opened channel Ends low read (slot_at s channel) refl
@@ -199,7 +248,7 @@ module _ (s : ConnectionState) (stands : Stands s) (shut : is_closing s.phase �
       by_phase phase.Dead a = absurd (grind (arith, a))
   unopened_may before r = ((over, shut), tt, tt)
 
-  read_may : (channel : ℕ) (r : Read) → channel ≤ channel_limit s.phase → IsRead r → May s (read_line s channel r)
+  read_may : (channel : ℕ) (r : Read) → channel ≤ channel_limit s.phase → IsRead s.config r → May s (read_line s channel r)
   read_may channel r low read =
       one_of (May s) (is_unopened s.phase) (unopened_line r) (opened_line s channel r) (λ before. unopened_may before r) (λ after. opened_may (is_opened after) channel r low read)
 
@@ -208,11 +257,11 @@ module _ (s : ConnectionState) (stands : Stands s) (shut : is_closing s.phase �
   unread_may body.InvalidField = ((over, shut), tt, tt)
 
   body_may : (channel : ℕ) (bytes : List ℕ) (o : Option (Descriptor × List Cell × List ℕ)) → channel ≤ channel_limit s.phase →
-      ((d : Descriptor) (cells : List Cell) (payload : List ℕ) → o ≡ Some (d, cells, payload) → IsRead (read_in d cells payload)) → May s (body_line s channel bytes o)
+      ((d : Descriptor) (cells : List Cell) (payload : List ℕ) → o ≡ Some (d, cells, payload) → IsRead s.config (read_in s.config d cells payload)) → May s (body_line s channel bytes o)
   body_may channel bytes None low read = unread_may (fault_of bytes)
-  body_may channel bytes (Some x) low read = read_may channel (read_in x.0 x.1 x.2) low (read x.0 x.1 x.2 refl)
+  body_may channel bytes (Some x) low read = read_may channel (read_in s.config x.0 x.1 x.2) low (read x.0 x.1 x.2 refl)
 
-  frame_may : (channel : ℕ) (bytes : List ℕ) → ((d : Descriptor) (cells : List Cell) (payload : List ℕ) → body_at bytes ≡ Some (d, cells, payload) → IsRead (read_in d cells payload)) →
+  frame_may : (channel : ℕ) (bytes : List ℕ) → ((d : Descriptor) (cells : List Cell) (payload : List ℕ) → body_at bytes ≡ Some (d, cells, payload) → IsRead s.config (read_in s.config d cells payload)) →
       May s (frame_line s channel bytes)
   frame_may channel [] read = (over, tt, tt)
   frame_may channel (b ∷ bytes) read =
@@ -245,7 +294,7 @@ unit_may found written s stands (FrameUnit bytes) over each =
     let low = dropped_bytes (4 * offset_of bytes) bytes each in
     one_of (May s) (is_closing s.phase) (closing_line part) (frame_line s (channel_of bytes) part) (λ so. closing_may s part so over)
     (λ so. frame_may s stands so over (channel_of bytes) part
-    (λ d cells payload e. read_ranged d cells payload (λ fields table. written part d fields cells payload low (found part d cells payload low e) table)))
+    (λ d cells payload e. read_ranged s.config d cells payload (λ fields table. written part d fields cells payload low (found part d cells payload low e) table)))
 
 -- Calls. ----------------------------------------------------------------------------------------------------------------
 
@@ -262,7 +311,7 @@ slot_may : (s : ConnectionState) → Stands s → (channel : ℕ) (c : asks.Call
     ConnectionMay s (slot_event channel x c)
 slot_may s stands channel c over range Free e none = absurd (grind (arith, none))
 slot_may s stands channel c over range (Live t) e none =
-    let at_place = here s channel (Live t) e tt in (opened (is_open s.phase) refl, tt, (t, at_place, stands.calls channel t c at_place range (not_refused (asks.call_fault t c) none)))
+    let at_place = here s channel (Live t) e tt in (opened (is_open s.phase) refl, tt, (t, at_place, (stands.calls channel t c at_place range (not_refused (asks.call_fault t c) none), call_limited s.config t c)))
   where
     opened : (b : Bool) → is_open s.phase ≡ b → b ≡ true
     opened true so = refl

@@ -70,6 +70,7 @@ module _ (handle : ℕ) where
   call_most s (asks.Drain place) = omega (arith, same_either {X = ℕ} (nat_eq place handle) 0)
   call_most s (asks.Widen n) = omega arith
   call_most s (asks.Settle id o) = omega arith
+  call_most s (asks.SettleRange first last o) = omega arith
   call_most s (asks.Detach place) = omega arith
 
 -- One event of the connection. ------------------------------------------------------------------------------------------

@@ -2,7 +2,7 @@
 use Rattle.std.proofs.Common.{arith, ◌≡◌, ℕ, zero, suc, ◌+◌, ◌^◌, ◌<◌, ◌≤◌, Bool, true, false, cond, List, [], ◌∷◌, ◌++◌, find, refl, sym, ap, ◌∙◌, subst, Option, Some, None}
 use Rattle.std.specs.Prelude.{if◌then◌else◌, slice_get, nat_lt}
 use Rattle.std.specs.List.{AllByRecursion, list_any, count_by}
-use Rattle.std.proofs.lemmas.Bool.{eq-eqb, or_parts}
+use Rattle.std.proofs.lemmas.Bool.{eq-eqb, ltb-true, or_parts}
 use Rattle.std.proofs.lemmas.List.Sums.{sum_by-append}
 use Rattle.std.proofs.lemmas.Option.{same_Some}
 use Rattle.amqp_link.specs.declared.settlement.Standing.{Standing}
@@ -18,12 +18,14 @@ use Rattle.amqp_session.specs.Calls.{Take, Settle, Grant, Widen, take_event, fir
 use Rattle.amqp_session.specs.Faults.{or_else}
 use Rattle.amqp_session.specs.Sessions as one
 use Rattle.amqp_session.specs.Sessions.{LiveLink, SessionState, SessionEvent, Called, live_begins, live_after, session_begins, session_after, slot_count, table_count, IsApart}
+use Rattle.amqp_session.specs.declared.fault.CallFault as of_session
 use Rattle.amqp_session.proofs.Ids.{table_cons}
+use Rattle.amqp_session.proofs.RangeFaults.{settle_is}
 use Rattle.amqp_session.proofs.Standings.{count_cons, slot_within, parts_count, none_has, absent_none, some_stands}
 use Rattle.amqp_session.proofs.Tables.{found}
 use Rattle.amqp_endpoint.specs.declared.fault.CallFault.{CallFault}
 use Rattle.amqp_endpoint.specs.Calls.{call_fault, call_event, slot_event, at_session, of_option, full_fault, has_room}
-use Rattle.amqp_endpoint.specs.Configs.{Configured}
+use Rattle.amqp_endpoint.specs.Configs.{Configured, bounds_for}
 use Rattle.amqp_endpoint.specs.Connections as event
 use Rattle.amqp_endpoint.specs.Connections.{ConnectionState, ConnectionEvent, connection_after, slot_at, is_open}
 use Rattle.amqp_endpoint.specs.declared.event.Event.TheVariants as told
@@ -128,6 +130,7 @@ settle_accepted begins goes_on law config place at granted messages old new chan
     ap (λ (c : ConnectionState). call_fault c unsent channel (Settle d.delivery_id outcome)) is
     ∙ ap (λ (o : Option CallFault). or_else o (or_else (at_session (slot_at after channel) (Settle d.delivery_id outcome)) (full_fault unsent))) (none_before _ _ does.0)
     ∙ ap (λ (y : Slot SessionState). or_else (at_session y (Settle d.delivery_id outcome)) (full_fault unsent)) session
+    ∙ ap (λ (o : Option of_session.CallFault). or_else (of_option o) (full_fault unsent)) (settle_is t d.delivery_id apart small)
     ∙ ap (λ (x : Standing). or_else (of_option (standing_fault x)) (full_fault unsent)) stands
     ∙ with_room unsent (room refl)
   where
@@ -179,13 +182,24 @@ settle_accepted begins goes_on law config place at granted messages old new chan
     kept : Delivery
     kept = record x.delivery { message = [] }
 
-    stands : standing_in d.delivery_id t.links ≡ Awaiting kept.rcv_settle_mode
-    stands =
+    awaits : slot_standing d.delivery_id (Live l) ≡ Awaiting kept.rcv_settle_mode
+    awaits =
         let left = left_there x.delivery (sym (ap (λ (y : Handed). y.settled) x.is) ∙ unsettled) in
         let has = eq-eqb x.delivery.delivery_id d.delivery_id (sym (ap (λ (y : Handed). y.delivery_id) x.is)) in
-        stands_in d.delivery_id kept.rcv_settle_mode t.links handle l few get
-        (last_awaits d.delivery_id l.link x.link.link.awaiting kept (ap (λ (ds : List Delivery). x.link.link.awaiting ++ ds) left) has untold
-        (omega (arith, few, slot_within d.delivery_id t.links handle (Live l) get)))
+        last_awaits d.delivery_id l.link x.link.link.awaiting kept (ap (λ (ds : List Delivery). x.link.link.awaiting ++ ds) left) has untold
+        (omega (arith, few, slot_within d.delivery_id t.links handle (Live l) get))
+
+    stands : standing_in d.delivery_id t.links ≡ Awaiting kept.rcv_settle_mode
+    stands = stands_in d.delivery_id kept.rcv_settle_mode t.links handle l few get awaits
+
+    small : d.delivery_id < 2 ^ 32
+    small = by (nat_lt d.delivery_id (2 ^ 32)) refl
+      where
+        by : (b : Bool) → nat_lt d.delivery_id (2 ^ 32) ≡ b → d.delivery_id < 2 ^ 32
+        by true less = ltb-true d.delivery_id (2 ^ 32) less
+        by false more =
+            let least : link.one_if (nat_lt d.delivery_id (2 ^ 32)) ≡ 0 = ap link.one_if more in
+            absurd (omega (arith, least, apart d.delivery_id, slot_within d.delivery_id t.links handle (Live l) get, some_stands d.delivery_id (Live l) kept.rcv_settle_mode awaits))
 
 -- What an endpoint that was used accepts. -----------------------------------------------------------------------------------
 
@@ -210,7 +224,7 @@ module _ (law : RunsAreWhole) (config : Configured) (place at granted messages :
       take_accepted s new piece used channel handle (omega (arith, limit, u.within.some_frame)) fed unsent
 
   -- credit within what is allowed
-  pub grant_follows : (channel handle n : ℕ) (l : LiveLink) → link_at s.connection channel handle ≡ Live l → l.link.credit + open_count l.link + n ≤ config.bounds.allowed →
+  pub grant_follows : (channel handle n : ℕ) (l : LiveLink) → link_at s.connection channel handle ≡ Live l → l.link.credit + open_count l.link + n ≤ (bounds_for config l.name).allowed →
       IsAccepted s channel (Grant handle n)
   grant_follows channel handle n l here few = λ unsent room. by (slot_at s.connection channel) refl here unsent (room refl)
     where
@@ -219,7 +233,7 @@ module _ (law : RunsAreWhole) (config : Configured) (place at granted messages :
       by Free is there unsent room = absurd (grind (arith, there))
       by (Live t) is there unsent room =
           let bounds = bounds_here config history sound channel t (ap (λ (c : ConnectionState). slot_at c channel) (sym is_state) ∙ is) handle l there in
-          let allowed : l.link.terms.bounds.allowed ≡ config.bounds.allowed = ap (λ (b : LinkBounds). b.allowed) bounds in
+          let allowed : l.link.terms.bounds.allowed ≡ (bounds_for config l.name).allowed = ap (λ (b : LinkBounds). b.allowed) bounds in
           grant_accepted s.connection unsent channel handle n l (wide channel t is) here room (omega (arith, few, allowed))
       by Waits is there unsent room = absurd (grind (arith, there))
 

@@ -19,6 +19,7 @@ use Rattle.amqp_perform.specs.Performatives.{attach_cells, flow_cells, transfer_
 use Rattle.amqp_link.specs.Links.{sent_of}
 use Rattle.amqp_session.specs.Frames.{Attaches, Flows, Transfers, Disposes, attaching, flowing, disposing}
 use Rattle.amqp_perform.specs.Cells.{number_in, flag_in, span_in}
+use Rattle.amqp_endpoint.specs.Configs.{Configured, bounds_for}
 use Rattle.amqp_endpoint.specs.Fields.{octets_in, role_in, sender_mode_of, receiver_mode_of, receiver_mode_in}
 use Rattle.amqp_endpoint.specs.Fields.{ForSession, attach_in, flow_in, transfer_in, disposition_in, read_in, read_of}
 
@@ -65,8 +66,8 @@ span_back (b ∷ text) = refl
 
 -- Performatives. --------------------------------------------------------------------------------------------------------
 
-attach_read : (p : Attach) → attach_in (attach_cells p) ≡ ForSession (Attaches (attaching p))
-attach_read p =
+attach_read : (config : Configured) (p : Attach) → attach_in config (attach_cells p) ≡ ForSession (Attaches (attaching p (bounds_for config p.name.now)))
+attach_read config p =
     rw (
       role_back p.role,
       sender_back p.snd_settle_mode,
@@ -96,13 +97,13 @@ disposition_read : (p : Disposition) → disposition_in (disposition_cells p) �
 disposition_read p = rw (role_back p.role, number_back p.last, flag_back p.settled) refl
 
 -- a performative in hand says what its fields say
-pub in_hand : (p : Performative) (payload : List ℕ) → read_in (type_of p) (performative_cells p) payload ≡ read_of p payload
-in_hand (performative.Open p) payload = refl
-in_hand (performative.Begin p) payload = rw (number_back p.remote_channel) refl
-in_hand (performative.Attach p) payload = attach_read p
-in_hand (performative.Flow p) payload = flow_read p
-in_hand (performative.Transfer p) payload = transfer_read p payload
-in_hand (performative.Disposition p) payload = disposition_read p
-in_hand (performative.Detach p) payload = rw (flag_back p.closed) refl
-in_hand (performative.End p) payload = refl
-in_hand (performative.Close p) payload = refl
+pub in_hand : (config : Configured) (p : Performative) (payload : List ℕ) → read_in config (type_of p) (performative_cells p) payload ≡ read_of config p payload
+in_hand config (performative.Open p) payload = refl
+in_hand config (performative.Begin p) payload = rw (number_back p.remote_channel) refl
+in_hand config (performative.Attach p) payload = attach_read config p
+in_hand config (performative.Flow p) payload = flow_read p
+in_hand config (performative.Transfer p) payload = transfer_read p payload
+in_hand config (performative.Disposition p) payload = disposition_read p
+in_hand config (performative.Detach p) payload = rw (flag_back p.closed) refl
+in_hand config (performative.End p) payload = refl
+in_hand config (performative.Close p) payload = refl

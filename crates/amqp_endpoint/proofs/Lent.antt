@@ -1,6 +1,7 @@
 -- A session that its connection lent.
 use Rattle.std.proofs.Common.{arith, ◌≡◌, ℕ, List, refl, ap, ◌∙◌, sym, Option, Some, None}
 use Rattle.std.specs.Prelude.{slice_get, slice_set, unwrap_or}
+use Rattle.std.proofs.lemmas.Option.{same_Some}
 use Rattle.amqp_session.specs.declared.slot.Slot.{Slot}
 use Rattle.amqp_session.specs.declared.slot.Slot.TheVariants.{Free, Live, Waits}
 use Rattle.amqp_session.specs.Places.{live_in}
@@ -8,7 +9,7 @@ use Rattle.amqp_session.specs.Sessions.{SessionState, SessionEvent, session_afte
 use Rattle.amqp_session.proofs.Tables.{put_again}
 use Rattle.amqp_perform.specs.Said.{Said}
 use Rattle.amqp_session.specs.Calls as session
-use Rattle.amqp_endpoint.specs.Calls.{at_session, call_event, call_spoken, slot_event, slot_spoken}
+use Rattle.amqp_endpoint.specs.Calls.{at_session, of_option, call_event, call_spoken, slot_event, slot_spoken}
 use Rattle.amqp_endpoint.specs.Replies.{on_channel}
 use Rattle.amqp_endpoint.specs.Connections as event
 use Rattle.amqp_endpoint.specs.Connections.{ConnectionState, connection_after, slot_at}
@@ -34,6 +35,12 @@ went_on s i t e live =
 -- or is as it was
 pub stayed : (s : ConnectionState) (i : ℕ) (t : SessionState) → slot_at s i ≡ Live t → with_session s i t ≡ s
 stayed s i t live = ap (λ (ls : Table). record s { sessions = ls }) (put_again s.sessions i (Live t) (stands (slice_get s.sessions i) t live))
+
+-- the fault of a call for the live session there
+pub fault_there : (x : Slot SessionState) (s : SessionState) (c : session.Call) → Some s ≡ live_in x → of_option (session.call_fault s c) ≡ at_session x c
+fault_there Free s c e = absurd (grind (arith, e))
+fault_there (Live t) s c e = ap (λ (u : SessionState). of_option (session.call_fault u c)) (same_Some s t e)
+fault_there Waits s c e = absurd (grind (arith, e))
 
 -- A call that its session accepted, seen from the connection.
 pub called : (s : ConnectionState) (i : ℕ) (t new : SessionState) (c : session.Call) (said : List Said) → Some t ≡ live_in (slot_at s i) →

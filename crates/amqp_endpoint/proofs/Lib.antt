@@ -1,3 +1,4 @@
+pub mod LimitTables
 pub mod InHand
 pub mod Steps
 pub mod Accepts

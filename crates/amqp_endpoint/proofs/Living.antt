@@ -1,5 +1,5 @@
 -- A session that lives in a connection, and a link of it: what the history gives them.
-use Rattle.std.proofs.Common.{arith, ◌≡◌, ℕ, inl, inr, true, List, sym, ap, ◌∙◌, subst}
+use Rattle.std.proofs.Common.{arith, ◌≡◌, ℕ, inl, inr, true, List, sym, subst}
 use Rattle.std.proofs.lemmas.Bool.{cases_Bool}
 use Rattle.amqp_session.specs.declared.slot.Slot.{Slot}
 use Rattle.amqp_session.specs.declared.slot.Slot.TheVariants.{Free, Live, Waits}
@@ -9,8 +9,8 @@ use Rattle.amqp_session.specs.Places.{Life, IfLive}
 use Rattle.amqp_session.specs.Sessions as one
 use Rattle.amqp_session.specs.Sessions.{Attached, LiveLink, SessionState, SessionEvent, IsApart}
 use Rattle.amqp_link.specs.Links.{LinkEvent}
-use Rattle.amqp_endpoint.specs.Configs.{Configured}
-use Rattle.amqp_endpoint.specs.Connections.{ConnectionEvent, channels, slot_at, is_open}
+use Rattle.amqp_endpoint.specs.Configs.{Configured, bounds_for}
+use Rattle.amqp_endpoint.specs.Connections.{ConnectionEvent, HasBounds, channels, slot_at, is_open}
 use Rattle.amqp_endpoint.specs.Histories.{part, phase_of, state_of, IsSoundPart, Sound}
 use Rattle.amqp_endpoint.proofs.Messages.{HasLife, has_life}
 
@@ -37,10 +37,9 @@ module _ (config : Configured) (h : List ConnectionEvent) (sound : Sound config 
   pub apart_here : IsApart s
   apart_here = subst IsApart (sym life.is) well.session.apart
 
-  -- the bounds of its links are those that the connection offers
-  pub bounds_here : (handle : ℕ) (l : LiveLink) → one.slot_at s handle ≡ Live l → l.link.terms.bounds ≡ config.bounds
+  -- the bounds of its links are those of their names
+  pub bounds_here : (handle : ℕ) (l : LiveLink) → one.slot_at s handle ≡ Live l → l.link.terms.bounds ≡ bounds_for config l.name
   bounds_here handle l there =
       let x = has_life lived.live_state (one.handles life.begin) (λ k. lived.part k life.past) handle l (subst (λ (t : SessionState). one.slot_at t handle ≡ Live l) life.is there) in
-      let terms = life.begin in
-      let fine = subst (λ (p : Slot (Life Attached LinkEvent)). IfLive (λ y. lived.IsSoundPart terms y.0 y.1) p) x.stands (well.session.links handle x.below) in
-      ap (λ (y : LiveLink). y.link.terms.bounds) x.is ∙ fine.attached.bounds ∙ well.begun.bounds
+      let so = subst (λ (p : Slot (Life Attached LinkEvent)). IfLive (λ (y : Life Attached LinkEvent). HasBounds config y.0) p) x.stands (well.limited handle) in
+      subst (λ (y : LiveLink). y.link.terms.bounds ≡ bounds_for config y.name) (sym x.is) so

@@ -22,9 +22,9 @@ use Rattle.amqp_session.proofs.Places.{got}
 use Rattle.amqp_session.proofs.FrameEvents.{IsOfFrames, of_frame}
 use Rattle.amqp_session.proofs.Tables.{same_live}
 use Rattle.amqp_endpoint.specs.declared.event.Event.{Event}
-use Rattle.amqp_endpoint.specs.Configs.{Configured}
+use Rattle.amqp_endpoint.specs.Configs.{Configured, bounds_for}
 use Rattle.amqp_endpoint.specs.Connections as event
-use Rattle.amqp_endpoint.specs.Connections.{ConnectionState, ConnectionEvent, channels, slot_at, connection_ready}
+use Rattle.amqp_endpoint.specs.Connections.{ConnectionState, ConnectionEvent, HasBounds, channels, slot_at, connection_ready}
 use Rattle.amqp_endpoint.specs.Calls as calls
 use Rattle.amqp_endpoint.specs.Histories.{part, state_of, IsSoundPart, Sound}
 use Rattle.amqp_endpoint.specs.Lines.{Line, line_of, event_on, told_on}
@@ -80,6 +80,7 @@ session_told channel h s (asks.Widen n) = refl
 session_told channel h s (asks.Grant handle n) = refl
 session_told channel h s (asks.Drain handle) = refl
 session_told channel h s (asks.Settle id o) = refl
+session_told channel h s (asks.SettleRange first last o) = refl
 session_told channel h s (asks.Detach handle) = refl
 
 call_told : (channel : ℕ) (h : List ConnectionEvent) (x : Slot SessionState) (c : asks.Call) →
@@ -162,14 +163,14 @@ first_of a past taken sound all =
 has_part : OpenSelected → (config : Configured) (part : Slot (Life Attached LinkEvent)) (a : Attached) (past : List LinkEvent) (granted : ℕ) (taken : List Handed) (l : LiveLink) →
     part ≡ Live (a, past)
     → l ≡ lived.live_state a past → link.Sound a.terms past → link.grants past ≡ granted →
-    a.terms.bounds ≡ config.bounds →
+    HasBounds config a →
     taken ≡ map handed_of (handed_up past) → HasItsPart config part granted taken l
 has_part select config part a past granted taken l stands is sound grants bounds all =
     let long : length taken ≡ length (handed_up past) = ap (λ (x : List Handed). length x) all ∙ length-map (handed_up past) handed_of in
-    let allowed = allowed_in a.terms.bounds config.bounds bounds in
+    let allowed = allowed_in a.terms.bounds (bounds_for config a.name) bounds in
     let s = link.state_of a.terms past in
     let spent : s.credit + link.heads past + link.advances a.terms past ≡ link.grants past = omega (arith, sound.spent) in
-    let within : s.credit + open_count s ≤ config.bounds.allowed = omega (arith, sound.within, allowed) in
+    let within : s.credit + open_count s ≤ (bounds_for config a.name).allowed = omega (arith, sound.within, allowed) in
     record {
       attached = a;
       past = past;
@@ -184,7 +185,7 @@ has_part select config part a past granted taken l stands is sound grants bounds
       awaiting = ap (λ (x : LiveLink). x.link.awaiting) is
           ∙ ap (λ (n : ℕ). map (link.shown_awaiting a.terms past) (filter (λ g. not (link.is_settled a.terms past g)) (take n (wholes past)))) (sym long);
       opened = ap (λ (x : LiveLink). open_count x.link) is ∙ select a.terms past;
-      within = subst (λ (x : LiveLink). x.link.credit + open_count x.link ≤ config.bounds.allowed) (sym is) within;
+      within = subst (λ (x : LiveLink). x.link.credit + open_count x.link ≤ (bounds_for config x.name).allowed) (sym is) within;
     }
 
 -- of a link that lives, the messages taken and the rest are what its part of the history gives
@@ -192,13 +193,13 @@ pub taken_in_order : OpenSelected → (config : Configured) (h : List Connection
     HasItsPart config (link_part channel handle h) (granted_since channel handle h) (taken_in channel handle (lives channel handle h) h) l
 taken_in_order select config h channel handle l sound here = by (slot_at (state_of config h) channel) refl here
   where
-    of_link : (terms : SessionTerms) (past : List SessionEvent) → part channel h ≡ Live (terms, past) → lived.Sound terms past → terms.bounds ≡ config.bounds →
+    of_link : (terms : SessionTerms) (past : List SessionEvent) → part channel h ≡ Live (terms, past) → IsSoundPart config terms past →
         HasLife lived.live_state (of_session.handles terms) (λ k. lived.part k past) handle l → HasItsPart config (link_part channel handle h) (granted_since channel handle h)
         (taken_in channel handle (lives channel handle h) h) l
-    of_link terms past there well same x =
+    of_link terms past there well x =
         let part_is : link_part channel handle h ≡ Live (x.begin, x.past) = ap (λ (p : Slot (Life SessionTerms SessionEvent)). part_in handle p) there ∙ x.stands in
-        let fine = subst (λ (p : Slot (Life Attached LinkEvent)). IfLive (λ life. lived.IsSoundPart terms life.0 life.1) p) x.stands (well.links handle x.below) in
-        let bounds = fine.attached.bounds ∙ same in
+        let fine = subst (λ (p : Slot (Life Attached LinkEvent)). IfLive (λ life. lived.IsSoundPart terms life.0 life.1) p) x.stands (well.session.links handle x.below) in
+        let bounds = subst (λ (p : Slot (Life Attached LinkEvent)). IfLive (λ (life : Life Attached LinkEvent). HasBounds config life.0) p) x.stands (well.limited handle) in
         let all = taken_by_part channel handle h x.begin x.past part_is in
         has_part select config (link_part channel handle h) x.begin x.past (granted_since channel handle h) (taken_in channel handle (lives channel handle h) h) l part_is x.is fine.link
         (grants_of_life channel handle h x.begin x.past part_is) bounds all
@@ -208,7 +209,7 @@ taken_in_order select config h channel handle l sound here = by (slot_at (state_
     of_session_at s x at =
         let well = subst (λ (p : Slot (Life SessionTerms SessionEvent)). IfLive (λ life. IsSoundPart config life.0 life.1) p) x.stands (sound.sessions channel x.below) in
         let link_here = subst (λ (t : SessionState). of_session.slot_at t handle ≡ Live l) x.is at in
-        of_link x.begin x.past x.stands well.session well.begun.bounds (has_life lived.live_state (of_session.handles x.begin) (λ k. lived.part k x.past) handle l link_here)
+        of_link x.begin x.past x.stands well (has_life lived.live_state (of_session.handles x.begin) (λ k. lived.part k x.past) handle l link_here)
 
     by : (x : Slot SessionState) → slot_at (state_of config h) channel ≡ x → link_in handle x ≡ Live l → HasItsPart config (link_part channel handle h) (granted_since channel handle h)
         (taken_in channel handle (lives channel handle h) h) l

@@ -155,7 +155,7 @@ unread_is body.InvalidField t e = grind (arith, e)
 body_is : (s : ConnectionState) (k : ℕ) (bytes : List ℕ) (o : Option (Descriptor × List Cell × List ℕ)) (t : SessionState) → session_in (body_line s k bytes o) ≡ Some t →
     StandsOpen s (body_line s k bytes o) t
 body_is s k bytes None t e = absurd (unread_is (fault_of bytes) t e)
-body_is s k bytes (Some x) t e = read_is s k (read_in x.0 x.1 x.2) t (is_unopened s.phase) refl e
+body_is s k bytes (Some x) t e = read_is s k (read_in s.config x.0 x.1 x.2) t (is_unopened s.phase) refl e
 
 above_is : (s : ConnectionState) (k : ℕ) (bytes : List ℕ) (o : Option (Descriptor × List Cell × List ℕ)) (t : SessionState) (b : Bool) →
     session_in (if b then line.ChannelTooHigh else body_line s k bytes o) ≡ Some t → StandsOpen s (if b then line.ChannelTooHigh else body_line s k bytes o) t

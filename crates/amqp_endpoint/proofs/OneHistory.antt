@@ -28,7 +28,7 @@ use Rattle.amqp_endpoint.specs.Lines as line
 use Rattle.amqp_endpoint.specs.Lines.{Line, line_of, event_on, told_on}
 use Rattle.amqp_endpoint.specs.Replies.{joined, reply_on}
 use Rattle.amqp_endpoint.specs.Runs as given
-use Rattle.amqp_endpoint.specs.Runs.{Call, Feed, InSession, Close, Heartbeat, Output, Held, Finish, Answer, Fed, Dropped, HandedUp, Refused, MovedOut, Holds, Ended}
+use Rattle.amqp_endpoint.specs.Runs.{Call, Feed, InSession, Close, Heartbeat, Output, Held, Finish, Answer, Fed, Dropped, Named, HandedUp, Refused, MovedOut, Holds, Ended}
 use Rattle.amqp_endpoint.specs.Runs.{IsWritten, IsBeat, IsMoved, IsFinished, Does, Run, IsStart, Happened, Acted, Called, Closed, Beat, Over, units_of, events}
 use Rattle.amqp_endpoint.specs.Steps.{EndpointState, IsKept, IsActed, Acts, Comes, FeedDone, may_act, room_for, told_outcome, acted_after}
 use Rattle.amqp_endpoint.specs.Traces.{moved_by, Told, Tells, Done, Ends, all_taken, heard, has_finished, event_told, told_of, tellings, IsTraced, IsWholeRun}
@@ -186,6 +186,7 @@ does_alike max least old new was is (InSession channel c) (Refused f) x d e = ke
 does_alike max least old new was is (InSession channel c) (Fed n o) x d e = asked_alike max old new was is channel c x d.0 d.1 e.1
 does_alike max least old new was is (InSession channel c) given.Accepted x d e = asked_alike max old new was is channel c x d.0 d.1 e.1
 does_alike max least old new was is (InSession channel c) (Dropped n) x d e = asked_alike max old new was is channel c x d.0 d.1 e.1
+does_alike max least old new was is (InSession channel c) (Named n) x d e = asked_alike max old new was is channel c x d.0 d.1 e.1
 does_alike max least old new was is (InSession channel c) (HandedUp y) x d e = asked_alike max old new was is channel c x d.0 d.1 e.1
 does_alike max least old new was is (InSession channel c) (MovedOut b) x d e = asked_alike max old new was is channel c x d.0 d.1 e.1
 does_alike max least old new was is (InSession channel c) (Holds n) x d e = asked_alike max old new was is channel c x d.0 d.1 e.1
@@ -194,6 +195,7 @@ does_alike max least old new was is Close (Refused f) x d e = kept_alike max old
 does_alike max least old new was is Close (Fed n o) x d e = closed_alike max old new was is x d.0 d.1 e.1
 does_alike max least old new was is Close given.Accepted x d e = closed_alike max old new was is x d.0 d.1 e.1
 does_alike max least old new was is Close (Dropped n) x d e = closed_alike max old new was is x d.0 d.1 e.1
+does_alike max least old new was is Close (Named n) x d e = closed_alike max old new was is x d.0 d.1 e.1
 does_alike max least old new was is Close (HandedUp y) x d e = closed_alike max old new was is x d.0 d.1 e.1
 does_alike max least old new was is Close (MovedOut b) x d e = closed_alike max old new was is x d.0 d.1 e.1
 does_alike max least old new was is Close (Holds n) x d e = closed_alike max old new was is x d.0 d.1 e.1
@@ -202,6 +204,7 @@ does_alike max least old new was is Heartbeat (Refused f) x d e = kept_alike max
 does_alike max least old new was is Heartbeat (Fed n o) x d e = beat_alike max old new was is x d.1 e.1
 does_alike max least old new was is Heartbeat given.Accepted x d e = beat_alike max old new was is x d.1 e.1
 does_alike max least old new was is Heartbeat (Dropped n) x d e = beat_alike max old new was is x d.1 e.1
+does_alike max least old new was is Heartbeat (Named n) x d e = beat_alike max old new was is x d.1 e.1
 does_alike max least old new was is Heartbeat (HandedUp y) x d e = beat_alike max old new was is x d.1 e.1
 does_alike max least old new was is Heartbeat (MovedOut b) x d e = beat_alike max old new was is x d.1 e.1
 does_alike max least old new was is Heartbeat (Holds n) x d e = beat_alike max old new was is x d.1 e.1

@@ -1,6 +1,6 @@
 -- Each answer to a unit, and to a call, fits the room that is kept for it.
 use Rattle.std.proofs.Common.{arith, ◌≡◌, ℕ, ◌+◌, ◌≤◌, Bool, true, false, ◌||◌, List, [], ◌∷◌, ◌++◌, length, refl, ltb-false, Option, Some, None}
-use Rattle.std.specs.Prelude.{nat_lt, if◌then◌else◌, is_some, bytes_eq, sum_by}
+use Rattle.std.specs.Prelude.{nat_eq, nat_lt, if◌then◌else◌, is_some, bytes_eq, sum_by}
 use Rattle.std.proofs.lemmas.List.Sums.{sum_by-cons}
 use Rattle.std.proofs.lemmas.List.{length-append}
 use Rattle.amqp_types.specs.declared.kind.Kind.TheVariants as kind
@@ -14,7 +14,7 @@ use Rattle.amqp_perform.specs.declared.fault.BodyFault.{BodyFault}
 use Rattle.amqp_perform.specs.declared.fault.BodyFault.TheVariants as body
 use Rattle.amqp_perform.specs.declared.outcome.Outcome.{Outcome}
 use Rattle.amqp_perform.specs.declared.outcome.Outcome.TheVariants as outcome
-use Rattle.amqp_perform.specs.Cells.{Cell}
+use Rattle.amqp_perform.specs.Cells.{Cell, Absent, Whole}
 use Rattle.amqp_perform.specs.Conditions.{condition_span}
 use Rattle.amqp_perform.specs.Outcomes.{outcome_span}
 use Rattle.amqp_perform.specs.Performatives.{is_receiver, span}
@@ -27,7 +27,7 @@ use Rattle.amqp_session.specs.declared.report.Report.TheVariants as report
 use Rattle.amqp_session.specs.declared.slot.Slot.{Slot}
 use Rattle.amqp_session.specs.declared.slot.Slot.TheVariants.{Free, Live, Waits}
 use Rattle.amqp_session.specs.declared.terms.SessionTerms.{SessionTerms}
-use Rattle.amqp_session.specs.Calls.{Call, Widen, Grant, Drain, Take, Settle, Detach, call_event, call_answer, settles_at_once, standing_in}
+use Rattle.amqp_session.specs.Calls.{Call, Widen, Grant, Drain, Take, Settle, SettleRange, Detach, call_event, call_answer, range_said, settles_at_once, standing_in}
 use Rattle.amqp_session.specs.Faults as session
 use Rattle.amqp_session.specs.Faults.{where_so, refusal, attach_fault, attach_answer, slot_flow, failure_answer, flow_answer, echo_answer, detach_answer}
 use Rattle.amqp_session.specs.Frames.{Attaching, Flowing, Frame, Attaches, Flows, Transfers, Disposes, Detaches, is_coordinator, attach_said, count_stated, refusal_said, detach_said, failure_said}
@@ -123,8 +123,12 @@ pub link_flow_most : (next window handle count credit : ℕ) (drain : Bool) → 
 link_flow_most next window handle count credit drain = omega arith
 
 -- a disposition
-pub disposition_most : (id : ℕ) (settled : Bool) (o : Outcome) → said_most (disposition_said id settled o) ≤ 400
-disposition_most id settled o = omega (arith, span_long (outcome_span o), outcome_long o)
+pub disposition_most : (first last : ℕ) (settled : Bool) (o : Outcome) → said_most (disposition_said first last settled o) ≤ 400
+disposition_most first last settled o = omega (arith, span_long (outcome_span o), outcome_long o, last_most (nat_eq first last))
+  where
+    last_most : (b : Bool) → cell_most (if b then Absent else Whole last) ≤ 17
+    last_most true = omega arith
+    last_most false = omega arith
 
 -- Answers. --------------------------------------------------------------------------------------------------------------
 
@@ -173,7 +177,7 @@ flow_long after f _ = echo_long after f.handle f.echo
 
 attach_long : (t : SessionState) (a : Attaching) → attach_fault t a ≡ None → (o : Option Condition) → refusal t.terms a ≡ o → all_most (attach_answer t.terms a o) ≤ 2560
 attach_long t a none None e =
-    one_most (attach_said t.terms.bounds.max_message_size a) 1600 (omega arith) (attach_most t.terms.bounds.max_message_size a (short_name t a none) (short_ends t.terms a e))
+    one_most (attach_said a.bounds.max_message_size a) 1600 (omega arith) (attach_most a.bounds.max_message_size a (short_name t a none) (short_ends t.terms a e))
 attach_long t a none (Some c) e =
     let one = refusal_most a (short_name t a none) in
     let two = failure_most a.handle c in
@@ -194,14 +198,18 @@ answer_long t (Transfers handle x) none = failure_long (session.report_of t (Tra
 answer_long t (Disposes d) none = omega arith
 answer_long t (Detaches handle closed) none = detach_long handle closed (of_session.slot_at t handle)
 
+range_long : (first last : ℕ) (o : Outcome) (t : SessionState) → all_most (range_said first last o t ∷ []) ≤ 2560
+range_long first last o t =
+    let settled = settles_at_once (standing_in first t.links) in one_most (disposition_said first last settled o) 400 (omega arith) (disposition_most first last settled o)
+
 call_long : (t : SessionState) (c : Call) → all_most (call_answer t c) ≤ 2560
 call_long t (Widen n) =
     let after = session_after t (call_event t (Widen n)) in one_most (flow_said after.next_incoming_id after.window) 400 (omega arith) (flow_most after.next_incoming_id after.window)
 call_long t (Grant handle n) = let after = session_after t (call_event t (Grant handle n)) in slot_flow_long after handle (of_session.slot_at after handle)
 call_long t (Drain handle) = let after = session_after t (call_event t (Drain handle)) in slot_flow_long after handle (of_session.slot_at after handle)
 call_long t (Take handle) = omega arith
-call_long t (Settle id o) =
-    let settled = settles_at_once (standing_in id t.links) in one_most (disposition_said id settled o) 400 (omega arith) (disposition_most id settled o)
+call_long t (Settle id o) = range_long id id o t
+call_long t (SettleRange first last o) = range_long first last o t
 call_long t (Detach handle) = one_most (detach_said handle true []) 400 (omega arith) (detach_most handle true)
 
 -- Units. ----------------------------------------------------------------------------------------------------------------
@@ -278,7 +286,7 @@ module _ (law : SaidLong) (s : ConnectionState) (short : length s.config.contain
       unread (body.Decode e) = close_long condition.DecodeError
       unread body.InvalidField = close_long condition.InvalidField
   body_fits channel bytes (Some x) =
-      let r = read_in x.0 x.1 x.2 in
+      let r = read_in s.config x.0 x.1 x.2 in
       one_of (Fits s) (is_unopened s.phase) (unopened_line r) (opened_line s channel r) (λ before. unopened_fits r) (λ after. opened_fits channel r)
 
   frame_fits : (channel : ℕ) (bytes : List ℕ) → Fits s (frame_line s channel bytes)

@@ -24,7 +24,7 @@ use Rattle.amqp_endpoint.specs.Connections as event
 use Rattle.amqp_endpoint.specs.Connections.{ConnectionState, is_dead, is_closing, is_unopened, slot_at}
 use Rattle.amqp_endpoint.specs.Lines.{line_of}
 use Rattle.amqp_endpoint.specs.Replies.{joined, reply_on, close_said}
-use Rattle.amqp_endpoint.specs.Runs.{Call, Feed, InSession, Close, Heartbeat, Output, Held, Finish, Answer, Fed, Accepted, Dropped, HandedUp, Refused, MovedOut, Holds, Ended}
+use Rattle.amqp_endpoint.specs.Runs.{Call, Feed, InSession, Close, Heartbeat, Output, Held, Finish, Answer, Fed, Accepted, Dropped, Named, HandedUp, Refused, MovedOut, Holds, Ended}
 use Rattle.amqp_endpoint.specs.Runs.{IsWritten, IsBeat, IsMoved, IsFinished, Does, Run, IsStart}
 use Rattle.amqp_endpoint.specs.Steps.{EndpointState, IsKept, IsActed, Acts, Comes, FeedDone, room_for, may_act}
 use Rattle.amqp_endpoint.proofs.Endpoints.{rest_few, header_few, free_at, due_no_header}
@@ -134,6 +134,7 @@ called_long fit s old new channel (session.Widen n) few room e = written_long fi
 called_long fit s old new channel (session.Grant handle n) few room e = written_long fit s old new channel (session.Grant handle n) room e
 called_long fit s old new channel (session.Drain handle) few room e = written_long fit s old new channel (session.Drain handle) room e
 called_long fit s old new channel (session.Settle id o) few room e = written_long fit s old new channel (session.Settle id o) room e
+called_long fit s old new channel (session.SettleRange first last o) few room e = written_long fit s old new channel (session.SettleRange first last o) room e
 called_long fit s old new channel (session.Detach handle) few room e = written_long fit s old new channel (session.Detach handle) room e
 
 called : CallsFit → (config : Configured) (old new : EndpointState) (channel : ℕ) (c : session.Call) → IsRoomy config old → call_fault old.connection old.unsent channel c ≡ None →
@@ -267,6 +268,7 @@ module _ (said : SaidLong) (units : UnitsFit) (calls : CallsFit) (config : Confi
   does old new (InSession channel c) (Fed n o) x d = called calls config old new channel c x d.0 d.1
   does old new (InSession channel c) Accepted x d = called calls config old new channel c x d.0 d.1
   does old new (InSession channel c) (Dropped n) x d = called calls config old new channel c x d.0 d.1
+  does old new (InSession channel c) (Named n) x d = called calls config old new channel c x d.0 d.1
   does old new (InSession channel c) (HandedUp y) x d = called calls config old new channel c x d.0 d.1
   does old new (InSession channel c) (MovedOut b) x d = called calls config old new channel c x d.0 d.1
   does old new (InSession channel c) (Holds n) x d = called calls config old new channel c x d.0 d.1
@@ -275,6 +277,7 @@ module _ (said : SaidLong) (units : UnitsFit) (calls : CallsFit) (config : Confi
   does old new Close (Fed n o) x d = closes old new x d.0 d.1
   does old new Close Accepted x d = closes old new x d.0 d.1
   does old new Close (Dropped n) x d = closes old new x d.0 d.1
+  does old new Close (Named n) x d = closes old new x d.0 d.1
   does old new Close (HandedUp y) x d = closes old new x d.0 d.1
   does old new Close (MovedOut b) x d = closes old new x d.0 d.1
   does old new Close (Holds n) x d = closes old new x d.0 d.1
@@ -283,6 +286,7 @@ module _ (said : SaidLong) (units : UnitsFit) (calls : CallsFit) (config : Confi
   does old new Heartbeat (Fed n o) x d = beats old new x d.0 d.1
   does old new Heartbeat Accepted x d = beats old new x d.0 d.1
   does old new Heartbeat (Dropped n) x d = beats old new x d.0 d.1
+  does old new Heartbeat (Named n) x d = beats old new x d.0 d.1
   does old new Heartbeat (HandedUp y) x d = beats old new x d.0 d.1
   does old new Heartbeat (MovedOut b) x d = beats old new x d.0 d.1
   does old new Heartbeat (Holds n) x d = beats old new x d.0 d.1

@@ -5,8 +5,8 @@ use Rattle.amqp_perform.specs.declared.performative.Performative.{Performative}
 use Rattle.amqp_perform.specs.declared.performative.Transfer.{Transfer}
 use Rattle.amqp_perform.specs.declared.performative.Performative.TheVariants as performative
 use Rattle.amqp_perform.specs.Conditions.{condition_span}
-use Rattle.std.proofs.lemmas.List.{length-append}
-use Rattle.amqp_perform.specs.Said.{Said, said_frame}
+use Rattle.std.proofs.lemmas.List.{append_assoc, append-nil, length-append}
+use Rattle.amqp_perform.specs.Said.{Said, said, said_frame}
 use Rattle.amqp_perform.specs.declared.condition.Condition.{Condition}
 use Rattle.amqp_link.specs.Links.{Sent, sent_of}
 use Rattle.amqp_session.specs.declared.report.Report.{Report}
@@ -19,12 +19,15 @@ use Rattle.amqp_session.specs.declared.slot.Slot.{Slot}
 use Rattle.amqp_session.specs.declared.slot.Slot.TheVariants.{Free, Live, Waits}
 use Rattle.amqp_session.specs.Answers.{answer_said}
 use Rattle.amqp_session.specs.Faults.{failure_answer, session_fault, event_of, answer_of, frame_may_grow, session_condition, IsRefusal}
-use Rattle.amqp_session.specs.Frames.{Frame, Attaches, Flows, Transfers, Disposes, Detaches, frame_of, attaching, flowing, disposing}
+use Rattle.amqp_perform.specs.declared.performative.Detach.{Detach}
+use Rattle.amqp_session.specs.Frames.{Attaching, Frame, Attaches, Flows, Transfers, Disposes, Detaches, attaching, flowing, disposing, refusal_said}
+use Rattle.amqp_endpoint.specs.Configs.{Configured, bounds_for}
+use Rattle.amqp_endpoint.specs.Fields.{frame_in}
 use Rattle.amqp_session.specs.Sessions.{SessionState, SessionEvent, session_after}
 use Rattle.amqp_endpoint.specs.declared.event.Event.{Event}
 use Rattle.amqp_endpoint.specs.declared.event.Event.TheVariants as told
 use Rattle.amqp_endpoint.specs.declared.event.Scope.TheVariants as scope
-use Rattle.amqp_endpoint.specs.Acting.{IsTold, IsDone, IsWithout, IsLive, IsForSession, FrameDone, IsFramed, IsUnframed, is_beyond, replied, ending}
+use Rattle.amqp_endpoint.specs.Acting.{attach_answered, IsTold, IsDone, IsWithout, IsLive, IsForSession, FrameDone, IsFramed, IsUnframed, is_beyond, replied, ending}
 use Rattle.amqp_endpoint.specs.Connections as event
 use Rattle.amqp_endpoint.specs.Connections.{ConnectionState, connection_after, slot_at, channel_ready}
 use Rattle.amqp_endpoint.specs.Lines as line
@@ -58,16 +61,16 @@ pub unframed_as : (s new : ConnectionState) (channel : ℕ) (t : SessionState) (
 unframed_as s new channel t f r e is done = subst (λ (r : Result Done SessionFault). FrameDone s new channel t f r) is done
 
 -- an attach is too high where its frame is
-beyond_is : (p : Performative) (payload : List ℕ) (t : SessionState) (f : Frame) → frame_of p payload ≡ Some f → is_beyond (Live t) p ≡ attach_too_high t f
-beyond_is (performative.Open p) payload t f e = absurd (grind (arith, e))
-beyond_is (performative.Begin p) payload t f e = absurd (grind (arith, e))
-beyond_is (performative.Attach p) payload t f e = ap (λ (g : Frame). attach_too_high t g) (same_Some (Attaches (attaching p)) f e)
-beyond_is (performative.Flow p) payload t f e = ap (λ (g : Frame). attach_too_high t g) (same_Some (Flows (flowing p)) f e)
-beyond_is (performative.Transfer p) payload t f e = ap (λ (g : Frame). attach_too_high t g) (same_Some (Transfers p.handle (sent_of p payload)) f e)
-beyond_is (performative.Disposition p) payload t f e = ap (λ (g : Frame). attach_too_high t g) (same_Some (Disposes (disposing p)) f e)
-beyond_is (performative.Detach p) payload t f e = ap (λ (g : Frame). attach_too_high t g) (same_Some (Detaches p.handle p.closed) f e)
-beyond_is (performative.End p) payload t f e = absurd (grind (arith, e))
-beyond_is (performative.Close p) payload t f e = absurd (grind (arith, e))
+beyond_is : (config : Configured) (p : Performative) (payload : List ℕ) (t : SessionState) (f : Frame) → frame_in config p payload ≡ Some f → is_beyond (Live t) p ≡ attach_too_high t f
+beyond_is config (performative.Open p) payload t f e = absurd (grind (arith, e))
+beyond_is config (performative.Begin p) payload t f e = absurd (grind (arith, e))
+beyond_is config (performative.Attach p) payload t f e = ap (λ (g : Frame). attach_too_high t g) (same_Some (Attaches (attaching p (bounds_for config p.name.now))) f e)
+beyond_is config (performative.Flow p) payload t f e = ap (λ (g : Frame). attach_too_high t g) (same_Some (Flows (flowing p)) f e)
+beyond_is config (performative.Transfer p) payload t f e = ap (λ (g : Frame). attach_too_high t g) (same_Some (Transfers p.handle (sent_of p payload)) f e)
+beyond_is config (performative.Disposition p) payload t f e = ap (λ (g : Frame). attach_too_high t g) (same_Some (Disposes (disposing p)) f e)
+beyond_is config (performative.Detach p) payload t f e = ap (λ (g : Frame). attach_too_high t g) (same_Some (Detaches p.handle p.closed) f e)
+beyond_is config (performative.End p) payload t f e = absurd (grind (arith, e))
+beyond_is config (performative.Close p) payload t f e = absurd (grind (arith, e))
 
 -- a transfer is no attach
 pub transfer_low : (x : Slot SessionState) (p : Transfer) → false ≡ is_beyond x (performative.Transfer p)
@@ -76,23 +79,44 @@ transfer_low (Live t) p = refl
 transfer_low Waits p = refl
 
 -- what is written for an answer is what it says of the frame
-replied_is : (p : Performative) (payload : List ℕ) (t : SessionState) (f : Frame) (x : Answer) → frame_of p payload ≡ Some f → replied (Live t) p x ≡ answer_said t.terms f x
-replied_is (performative.Open p) payload t f x e = absurd (grind (arith, e))
-replied_is (performative.Begin p) payload t f x e = absurd (grind (arith, e))
-replied_is (performative.Attach p) payload t f x e = by_answer x ∙ ap (λ (g : Frame). answer_said t.terms g x) (same_Some (Attaches (attaching p)) f e)
+replied_is : (config : Configured) (p : Performative) (payload : List ℕ) (t : SessionState) (f : Frame) (x : Answer) → frame_in config p payload ≡ Some f → replied config p x ≡ answer_said t.terms f x
+replied_is config (performative.Open p) payload t f x e = absurd (grind (arith, e))
+replied_is config (performative.Begin p) payload t f x e = absurd (grind (arith, e))
+replied_is config (performative.Attach p) payload t f x e = by_answer x ∙ ap (λ (g : Frame). answer_said t.terms g x) (same_Some (Attaches (attaching p (bounds_for config p.name.now))) f e)
   where
-    by_answer : (x : Answer) → replied (Live t) (performative.Attach p) x ≡ answer_said t.terms (Attaches (attaching p)) x
+    by_answer : (x : Answer) → replied config (performative.Attach p) x ≡ answer_said t.terms (Attaches (attaching p (bounds_for config p.name.now))) x
     by_answer answer.Nothing = refl
     by_answer (answer.Flow q) = refl
     by_answer (answer.Detach q) = refl
     by_answer answer.Attach = refl
     by_answer (answer.Refusal q) = refl
-replied_is (performative.Flow p) payload t f x e = ap (λ (g : Frame). answer_said t.terms g x) (same_Some (Flows (flowing p)) f e)
-replied_is (performative.Transfer p) payload t f x e = ap (λ (g : Frame). answer_said t.terms g x) (same_Some (Transfers p.handle (sent_of p payload)) f e)
-replied_is (performative.Disposition p) payload t f x e = ap (λ (g : Frame). answer_said t.terms g x) (same_Some (Disposes (disposing p)) f e)
-replied_is (performative.Detach p) payload t f x e = ap (λ (g : Frame). answer_said t.terms g x) (same_Some (Detaches p.handle p.closed) f e)
-replied_is (performative.End p) payload t f x e = absurd (grind (arith, e))
-replied_is (performative.Close p) payload t f x e = absurd (grind (arith, e))
+replied_is config (performative.Flow p) payload t f x e = ap (λ (g : Frame). answer_said t.terms g x) (same_Some (Flows (flowing p)) f e)
+replied_is config (performative.Transfer p) payload t f x e = ap (λ (g : Frame). answer_said t.terms g x) (same_Some (Transfers p.handle (sent_of p payload)) f e)
+replied_is config (performative.Disposition p) payload t f x e = ap (λ (g : Frame). answer_said t.terms g x) (same_Some (Disposes (disposing p)) f e)
+replied_is config (performative.Detach p) payload t f x e = ap (λ (g : Frame). answer_said t.terms g x) (same_Some (Detaches p.handle p.closed) f e)
+replied_is config (performative.End p) payload t f x e = absurd (grind (arith, e))
+replied_is config (performative.Close p) payload t f x e = absurd (grind (arith, e))
+
+-- an attach that is refused is answered by two frames
+pub refused_by_two : (a : Attaching) (x : Answer) (d : Detach) (reply : Said) → x ≡ answer.Refusal d → reply ≡ refusal_said a → attach_answered a x ≡ reply ∷ said (performative.Detach d) ∷ []
+refused_by_two a x d reply refused says = ap (λ (y : Answer). attach_answered a y) refused ∙ ap (λ (y : Said). y ∷ said (performative.Detach d) ∷ []) (sym says)
+
+-- where two frames fit, so does the first
+pub first_fits : (channel : ℕ) (xs : List Said) (x y : Said) → length (joined (on_channel channel xs)) ≤ 2560 → xs ≡ x ∷ y ∷ [] → length (said_frame channel x []) ≤ 2560
+first_fits channel xs x y short two =
+    let all = subst (λ (xs : List Said). length (joined (on_channel channel xs)) ≤ 2560) two short in
+    let one = said_frame channel x [] in
+    let other = said_frame channel y [] in
+    omega (arith, all, length-append one (other ++ []), length-append other [])
+
+-- and the two behind what is there
+pub both_put : (before middle after : List ℕ) (channel : ℕ) (xs : List Said) (x y : Said) → xs ≡ x ∷ y ∷ [] → middle ≡ before ++ said_frame channel x [] → after ≡ middle ++ said_frame channel y [] →
+    after ≡ before ++ joined (on_channel channel xs)
+both_put before middle after channel xs x y two first second =
+    let one = said_frame channel x [] in
+    let other = said_frame channel y [] in
+    second ∙ ap (λ (bytes : List ℕ). bytes ++ other) first ∙ append_assoc before one other ∙ ap (λ (bytes : List ℕ). before ++ (one ++ bytes)) (sym (append-nil other))
+    ∙ ap (λ (zs : List Said). before ++ joined (on_channel channel zs)) (sym two)
 
 -- where two frames fit, the second fits behind the first
 pub both_fit : (before out : List ℕ) (channel : ℕ) (xs : List Said) (x y : Said) → length before + 2560 ≤ 8192 → length (joined (on_channel channel xs)) ≤ 2560 → xs ≡ x ∷ y ∷ [] →
@@ -148,19 +172,17 @@ want_is t f fault.UnattachedHandle ends r = absurd (grind (arith, ends))
 want_is t f fault.ResourceLimit ends r = absurd (grind (arith, ends))
 want_is t f fault.InvalidField ends r = absurd (grind (arith, ends))
 
-module _ (s new : ConnectionState) (channel : ℕ) (p : Performative) (payload : List ℕ) (t : SessionState) (f : Frame) (live : slot_at s channel ≡ Live t) (is : frame_of p payload ≡ Some f) where
+module _ (s new : ConnectionState) (channel : ℕ) (p : Performative) (payload : List ℕ) (t : SessionState) (f : Frame) (live : slot_at s channel ≡ Live t) (is : frame_in s.config p payload ≡ Some f) where
   line_is : (o : Option SessionFault) → false ≡ is_beyond (slot_at s channel) p → session_fault t f ≡ o → session_line channel t f ≡ by_fault channel t f o
   line_is o low e =
-      let not_high : attach_too_high t f ≡ false = sym (beyond_is p payload t f is) ∙ sym (ap (λ (x : Slot SessionState). is_beyond x p) live) ∙ sym low in
+      let not_high : attach_too_high t f ≡ false = sym (beyond_is s.config p payload t f is) ∙ sym (ap (λ (x : Slot SessionState). is_beyond x p) live) ∙ sym low in
       ap (λ (b : Bool). if b then line.HandleTooHigh else by_fault channel t f (session_fault t f)) not_high ∙ ap (λ (o : Option SessionFault). by_fault channel t f o) e
 
-  answer_is : (d : Done) → IsFramed s new channel t f d → replied (slot_at new channel) p d.answer ≡ answer_of t f
+  answer_is : (d : Done) → IsFramed s new channel t f d → replied new.config p d.answer ≡ answer_of t f
   answer_is d framed =
-      ap (λ (c : ConnectionState). replied (slot_at c channel) p d.answer) framed.after
-      ∙ ap (λ (x : Slot SessionState). replied x p d.answer) (slot_framed s channel t (event_of t f) live)
-      ∙ replied_is p payload (session_after t (event_of t f)) f d.answer is ∙ sym framed.answer
+      ap (λ (c : ConnectionState). replied c.config p d.answer) framed.after ∙ replied_is s.config p payload (session_after t (event_of t f)) f d.answer is ∙ sym framed.answer
 
-  pub answer_fits : SaidLong → (d : Done) → IsFramed s new channel t f d → length (joined (on_channel channel (replied (slot_at new channel) p d.answer))) ≤ 2560
+  pub answer_fits : SaidLong → (d : Done) → IsFramed s new channel t f d → length (joined (on_channel channel (replied new.config p d.answer))) ≤ 2560
   answer_fits law d framed =
       let m = channel_long law channel (answer_of t f) in
       let short : length (joined (on_channel channel (answer_of t f))) ≤ 2560 = omega (arith, m, answer_long t f framed.accepted) in
@@ -168,7 +190,7 @@ module _ (s new : ConnectionState) (channel : ℕ) (p : Performative) (payload :
 
   -- it is taken
   pub taken : false ≡ is_beyond (slot_at s channel) p → (d : Done) → IsFramed s new channel t f d → (before after : List ℕ) (report : Option Event) →
-      after ≡ before ++ joined (on_channel channel (replied (slot_at new channel) p d.answer)) → report ≡ report_told channel d.report → IsDone s new before after (session_line channel t f) report
+      after ≡ before ++ joined (on_channel channel (replied new.config p d.answer)) → report ≡ report_told channel d.report → IsDone s new before after (session_line channel t f) report
   taken low d framed before after report written tells =
       subst (λ (l : Line). IsDone s new before after l report) (sym (line_is None low framed.accepted)) (record {
         connection = framed.after;

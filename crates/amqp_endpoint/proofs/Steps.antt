@@ -1,10 +1,11 @@
 -- One event more: what the connection shows stays what its history gives.
 use Rattle.std.proofs.Common.{arith, ◌≡◌, ℕ, ◌^◌, ◌<◌, ◌≤◌, subst, Bool, true, false, List, [], ◌∷◌, refl, sym, ap, ◌∙◌}
-use Rattle.std.specs.Prelude.{unwrap_or, if◌then◌else◌}
+use Rattle.std.specs.Prelude.{nat_eq, unwrap_or, if◌then◌else◌}
 use Rattle.std.specs.List.{list_any}
 use Rattle.amqp_session.specs.declared.slot.Slot.{Slot}
-use Rattle.amqp_session.specs.declared.slot.Slot.TheVariants.{Free}
+use Rattle.amqp_session.specs.declared.slot.Slot.TheVariants.{Free, Live, Waits}
 use Rattle.amqp_session.specs.declared.terms.SessionTerms.{SessionTerms}
+use Rattle.amqp_session.specs.Places.{Happens, Nothing, Begins, GoesOn, AllGoOn, Leaves, Gone, AllGone, Life, IfLive, slot_map, new_life, lived_on, life_after}
 use Rattle.amqp_session.specs.Sessions.{SessionState, SessionEvent, SessionMay}
 use Rattle.amqp_session.specs.Sessions as one
 use Rattle.amqp_session.specs.Histories as session
@@ -15,7 +16,7 @@ use Rattle.amqp_endpoint.specs.Configs.{Configured}
 use Rattle.amqp_endpoint.specs.Connections as event
 use Rattle.amqp_endpoint.specs.Connections.{ConnectionState, ConnectionEvent, channels, channel_limit, is_dead, is_open, is_end, is_own_close, opened_by, phase_after, happens, connection_begins}
 use Rattle.amqp_endpoint.specs.Connections.{connection_after}
-use Rattle.amqp_endpoint.specs.Connections.{IsTimely, IsOffered, IsBegun, ConnectionMay}
+use Rattle.amqp_endpoint.specs.Connections.{IsTimely, IsOffered, IsBegun, HasBounds, IsLimited, MayIn, ConnectionMay}
 use Rattle.amqp_endpoint.specs.Histories.{opening_in, phase_of, part, state_of, IsSoundPart, Sound, after_all, Accepted}
 
 -- what a session owes
@@ -41,12 +42,50 @@ ConnectionGoesOn = (config : Configured) (h : List ConnectionEvent) (e : Connect
 part_begins : SessionBegins → (config : Configured) → config.window < 2 ^ 31 → (terms : SessionTerms) → IsBegun config terms →
     (one.session_begins terms ≡ session.state_of terms []) × IsSoundPart config terms []
 part_begins law config narrow terms begun =
-    let first = law terms (subst (λ (n : ℕ). n < 2 ^ 31) (sym begun.window) narrow) begun.first in (first.0, record { begun = begun; session = first.1 })
+    let first = law terms (subst (λ (n : ℕ). n < 2 ^ 31) (sym begun.window) narrow) begun.first in (first.0, record { begun = begun; session = first.1; limited = λ handle. tt })
 
-part_goes_on : SessionGoesOn → (config : Configured) (terms : SessionTerms) (h : List SessionEvent) (e : SessionEvent) → IsSoundPart config terms h → SessionMay (session.state_of terms h) e →
+-- What holds of how each life begins holds of all that live.
+abbrev BeginsSo : {B E : Type 0} → (B → Type 0) → Happens B E → Type 0
+BeginsSo P (Begins place begin) = P begin
+BeginsSo P x = Unit {0}
+
+module _ {B E : Type 0} (P : B → Type 0) where
+  abbrev Kept : Slot (Life B E) → Type 0
+  Kept l = IfLive (λ (life : Life B E). P life.0) l
+
+  pick : (b : Bool) (l m : Slot (Life B E)) → Kept l → Kept m → Kept (if b then l else m)
+  pick true l m x y = x
+  pick false l m x y = y
+
+  lives_on : (e : E) (l : Slot (Life B E)) → Kept l → Kept (slot_map (λ life. lived_on life e) l)
+  lives_on e Free x = tt
+  lives_on e (Live life) x = x
+  lives_on e Waits x = tt
+
+  keeps : (k : ℕ) (x : Happens B E) (l : Slot (Life B E)) → BeginsSo P x → Kept l → Kept (life_after k x l)
+  keeps k Nothing l so was = was
+  keeps k (Begins place begin) l so was = pick (nat_eq place k) (Live (new_life begin)) l so was
+  keeps k (GoesOn place e) l so was = pick (nat_eq place k) (slot_map (λ life. lived_on life e) l) l (lives_on e l was) was
+  keeps k (AllGoOn e) l so was = lives_on e l was
+  keeps k (Leaves place) l so was = pick (nat_eq place k) Waits l tt was
+  keeps k (Gone place) l so was = pick (nat_eq place k) Free l tt was
+  keeps k AllGone l so was = tt
+
+limit_of : (config : Configured) (e : SessionEvent) → IsLimited config e → BeginsSo (HasBounds config) (one.happens e)
+limit_of config (one.LinkAttached handle a) so = so
+limit_of config e so = tt
+
+part_goes_on : SessionGoesOn → (config : Configured) (terms : SessionTerms) (h : List SessionEvent) (e : SessionEvent) → IsSoundPart config terms h → MayIn config (session.state_of terms h) e →
     (one.session_after (session.state_of terms h) e ≡ session.state_of terms (e ∷ h)) × IsSoundPart config terms (e ∷ h)
 part_goes_on law config terms h e sound may =
-    let next = law terms h e sound.session may in (next.0, record { begun = sound.begun; session = next.1 })
+    let next = law terms h e sound.session may.0 in (
+      next.0,
+      record {
+        begun = sound.begun;
+        session = next.1;
+        limited = λ handle. keeps (HasBounds config) handle (one.happens e) (session.part handle h) (limit_of config e may.1) (sound.limited handle);
+      },
+    )
 
 -- The phase. ------------------------------------------------------------------------------------------------------------
 
@@ -125,7 +164,7 @@ begins_sound config = (refl, record { limit = omega arith; sessions = λ k l. tt
 pub goes_on_sound : SessionBegins → SessionGoesOn → ConnectionGoesOn
 unfolding made
 goes_on_sound begins step config h e narrow sound may =
-    let life = places_step one.session_begins one.session_after session.state_of (IsBegun config) SessionMay (IsSoundPart config) (channels config) (λ channel. part channel h) in
+    let life = places_step one.session_begins one.session_after session.state_of (IsBegun config) (MayIn config) (IsSoundPart config) (channels config) (λ channel. part channel h) in
     let table = life (happens e) (part_begins begins config narrow) (part_goes_on step config) sound.sessions may.2 in
     let p = phase_on h e may.0 in
     let after = connection_after (state_of config h) e in

@@ -232,7 +232,7 @@ none_given s channel handle (event.InSession place e) may none =
     where_none (nat_eq place channel) (at_handle handle (handed_up_in e)) (λ same.
     let here : slot_at s channel ≡ Live may.2.0 = ap (λ (k : ℕ). unwrap_or (slice_get s.sessions k) Free) (sym (eqb-true place channel same))
     ∙ ap (λ (o : Option (Slot SessionState)). unwrap_or o Free) may.2.1 in
-    none_at may.2.0 handle e may.2.2 (λ l at. none l (ap (λ (x : Slot SessionState). link_in handle x) here ∙ at)))
+    none_at may.2.0 handle e may.2.2.0 (λ l at. none l (ap (λ (x : Slot SessionState). link_in handle x) here ∙ at)))
 none_given s channel handle event.HeaderCame may none = refl
 none_given s channel handle event.HeaderRefused may none = refl
 none_given s channel handle (event.Opened m c) may none = refl
@@ -303,7 +303,7 @@ gives_there config h channel handle (event.InSession place e) d may given =
     let c = chosen (nat_eq place channel) (at_handle handle (handed_up_in e)) d given in
     let s = life_at lived.state_of (event.channels config) (λ k. part k h) place may.2.0 may.2.1 in
     let at : part channel h ≡ Live s.0 = ap (λ (k : ℕ). part k h) (sym (eqb-true place channel c.0)) ∙ s.1 in
-    let may_there = subst (λ (t : SessionState). SessionMay t e) s.2 may.2.2 in
+    let may_there = subst (λ (t : SessionState). SessionMay t e) s.2 may.2.2.0 in
     let l = gives_in s.0.0 s.0.1 handle e d may_there c.1 in
     let after : part channel (event.InSession place e ∷ h) ≡ Live (lived_on s.0 e) = goes_here channel place e (part channel h) s.0 c.0 at in
     ((l.0.0, ap (λ (x : Slot (Life SessionTerms SessionEvent)). part_in handle x) after ∙ l.0.1), and_false (nat_eq place channel) (attaches_at handle e) l.1)

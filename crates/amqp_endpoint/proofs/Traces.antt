@@ -34,7 +34,7 @@ use Rattle.amqp_endpoint.specs.Histories as of_connection
 use Rattle.amqp_endpoint.specs.Histories.{phase_of, state_of, Sound}
 use Rattle.amqp_endpoint.specs.Lines.{line_of, event_on, told_on}
 use Rattle.amqp_endpoint.specs.Replies.{joined, reply_on}
-use Rattle.amqp_endpoint.specs.Runs.{Call, Feed, InSession, Close, Heartbeat, Output, Held, Finish, Answer, Fed, Accepted, Dropped, HandedUp, Refused, MovedOut, Holds, Ended}
+use Rattle.amqp_endpoint.specs.Runs.{Call, Feed, InSession, Close, Heartbeat, Output, Held, Finish, Answer, Fed, Accepted, Dropped, Named, HandedUp, Refused, MovedOut, Holds, Ended}
 use Rattle.amqp_endpoint.specs.Runs.{handed, link_handed, session_answer, accepted_answer, IsWritten, IsBeat, IsMoved, IsFinished, Does}
 use Rattle.amqp_endpoint.specs.Runs.{Run, IsStart, Happened, Acted, Called, Closed, Beat, Over, units_of, events, written}
 use Rattle.amqp_endpoint.specs.Steps.{EndpointState, IsKept, IsActed, Acts, Comes, FeedDone, may_act, told_outcome, acted_after}
@@ -470,6 +470,7 @@ session_still s (session.Widen n) = refl
 session_still s (session.Grant handle n) = refl
 session_still s (session.Drain handle) = refl
 session_still s (session.Settle id o) = refl
+session_still s (session.SettleRange first last o) = refl
 
 -- no call of a session moves bytes out
 pub answer_still : (s : Slot SessionState) (c : session.Call) → moved_by (accepted_answer s c) ≡ []
@@ -645,6 +646,7 @@ module _ (begins : ConnectionBegins) (goes_on : ConnectionGoesOn) (units : Units
   does took moved told h old new (InSession channel c) (Fed n o) x range d = in_session took moved told h old new channel c (Fed n o) x range d
   does took moved told h old new (InSession channel c) Accepted x range d = in_session took moved told h old new channel c Accepted x range d
   does took moved told h old new (InSession channel c) (Dropped n) x range d = in_session took moved told h old new channel c (Dropped n) x range d
+  does took moved told h old new (InSession channel c) (Named n) x range d = in_session took moved told h old new channel c (Named n) x range d
   does took moved told h old new (InSession channel c) (HandedUp y) x range d = in_session took moved told h old new channel c (HandedUp y) x range d
   does took moved told h old new (InSession channel c) (MovedOut b) x range d = in_session took moved told h old new channel c (MovedOut b) x range d
   does took moved told h old new (InSession channel c) (Holds n) x range d = in_session took moved told h old new channel c (Holds n) x range d
@@ -653,6 +655,7 @@ module _ (begins : ConnectionBegins) (goes_on : ConnectionGoesOn) (units : Units
   does took moved told h old new Close (Fed n o) x range d = closes took moved told h old new (Fed n o) x d
   does took moved told h old new Close Accepted x range d = closes took moved told h old new Accepted x d
   does took moved told h old new Close (Dropped n) x range d = closes took moved told h old new (Dropped n) x d
+  does took moved told h old new Close (Named n) x range d = closes took moved told h old new (Named n) x d
   does took moved told h old new Close (HandedUp y) x range d = closes took moved told h old new (HandedUp y) x d
   does took moved told h old new Close (MovedOut b) x range d = closes took moved told h old new (MovedOut b) x d
   does took moved told h old new Close (Holds n) x range d = closes took moved told h old new (Holds n) x d
@@ -661,6 +664,7 @@ module _ (begins : ConnectionBegins) (goes_on : ConnectionGoesOn) (units : Units
   does took moved told h old new Heartbeat (Fed n o) x range d = beats took moved told h old new (Fed n o) x d
   does took moved told h old new Heartbeat Accepted x range d = beats took moved told h old new Accepted x d
   does took moved told h old new Heartbeat (Dropped n) x range d = beats took moved told h old new (Dropped n) x d
+  does took moved told h old new Heartbeat (Named n) x range d = beats took moved told h old new (Named n) x d
   does took moved told h old new Heartbeat (HandedUp y) x range d = beats took moved told h old new (HandedUp y) x d
   does took moved told h old new Heartbeat (MovedOut b) x range d = beats took moved told h old new (MovedOut b) x d
   does took moved told h old new Heartbeat (Holds n) x range d = beats took moved told h old new (Holds n) x d

@@ -22,7 +22,7 @@ use Rattle.amqp_endpoint.specs.Connections as event
 use Rattle.amqp_endpoint.specs.Connections.{ConnectionState, ConnectionEvent, ConnectionMay, channels, slot_at}
 use Rattle.amqp_endpoint.specs.Calls.{call_event}
 use Rattle.amqp_endpoint.specs.Credits.{granted_to, granted_on, granted_since}
-use Rattle.amqp_endpoint.specs.Held.{held, held_most, link_most, session_count, link_count}
+use Rattle.amqp_endpoint.specs.Held.{held, any_link_most, counted_most, session_count, link_count}
 use Rattle.amqp_endpoint.specs.Histories.{state_of, Accepted}
 use Rattle.amqp_endpoint.specs.Lines.{line_of, event_on, told_on}
 use Rattle.amqp_endpoint.specs.Runs.{Call, Answer, Does, Run, IsStart, Handed, handed_of, Happened, Acted, Called, Closed, Beat, Over, events}
@@ -261,8 +261,8 @@ module _ (channel handle : ℕ) where
 -- What is held. ---------------------------------------------------------------------------------------------------------
 
 -- more sessions and links hold no less
-most_more : (config : Configured) (a b m n : ℕ) → a ≤ b → m ≤ n → held_most config a m ≤ held_most config b n
-most_more config a b m n l k = omega (arith, mul-le-mul_right (link_most config) k, l)
+most_more : (config : Configured) (a b m n : ℕ) → a ≤ b → m ≤ n → counted_most config a m ≤ counted_most config b n
+most_more config a b m n l k = omega (arith, mul-le-mul_right (any_link_most config) k, l)
 
 -- a whole run's endpoint holds no more than any of its configuration
 pub held_within : (config : Configured) (calls : List Call) (answers : List Answer) (last : EndpointState) → IsWholeRun config calls answers last → held last ≤ held_by_any config
@@ -270,7 +270,7 @@ held_within config calls answers last r =
     let w = r.past.within in
     let sessions = session_count last.connection in
     let links : link_count last.connection ≤ channels config * suc config.handle_max = omega (arith, w.links, mul-le-mul_right (suc config.handle_max) w.sessions) in
-    omega (arith, w.most, most_more config sessions (channels config) (link_count last.connection) (channels config * suc config.handle_max) w.sessions links)
+    omega (arith, w.most, w.by_count, most_more config sessions (channels config) (link_count last.connection) (channels config * suc config.handle_max) w.sessions links)
 
 -- One call more. --------------------------------------------------------------------------------------------------------
 

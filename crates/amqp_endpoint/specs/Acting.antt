@@ -16,6 +16,7 @@ use Rattle.amqp_session.specs.Answers.{said_by, answer_said, IsWithin}
 use Rattle.amqp_session.specs.Faults.{session_fault, session_condition, event_of, report_of, answer_of, IsRefusal}
 use Rattle.amqp_session.specs.Frames.{Attaching, Frame, attaching, attach_said, refusal_said}
 use Rattle.amqp_session.specs.Sessions.{SessionState}
+use Rattle.amqp_endpoint.specs.Configs.{Configured, bounds_for}
 use Rattle.amqp_endpoint.specs.Connections.{InSession}
 use Rattle.amqp_endpoint.specs.declared.event.Event.{Event}
 use Rattle.amqp_endpoint.specs.Connections.{ConnectionState, connection_after}
@@ -62,20 +63,15 @@ abbrev pub is_beyond : Slot SessionState → Performative → Bool
 is_beyond (Live s) (performative.Attach p) = nat_lt s.terms.handle_max p.handle
 is_beyond _ p = false
 
--- What is written for the answer to a performative that the session there has taken: an attach that is accepted is answered by an attach, one that is refused by an attach and a detach. [2.6.3]
-abbrev pub attach_replied : Slot SessionState → Attaching → List Said
-attach_replied Free a = []
-attach_replied (Live s) a = attach_said s.terms.bounds.max_message_size a ∷ []
-attach_replied Waits a = []
+-- What is written for the answer to a performative that its session has taken: an attach that is accepted is answered by an attach, one that is refused by an attach and a detach. [2.6.3]
+abbrev pub attach_answered : Attaching → Answer → List Said
+attach_answered a answer.Attach = attach_said a.bounds.max_message_size a ∷ []
+attach_answered a (answer.Refusal d) = refusal_said a ∷ said (performative.Detach d) ∷ []
+attach_answered a x = said_by x
 
-abbrev pub attach_answered : Slot SessionState → Attaching → Answer → List Said
-attach_answered slot a answer.Attach = attach_replied slot a
-attach_answered slot a (answer.Refusal d) = refusal_said a ∷ said (performative.Detach d) ∷ []
-attach_answered slot a x = said_by x
-
-abbrev pub replied : Slot SessionState → Performative → Answer → List Said
-replied slot (performative.Attach p) x = attach_answered slot (attaching p) x
-replied slot p x = said_by x
+abbrev pub replied : Configured → Performative → Answer → List Said
+replied config (performative.Attach p) x = attach_answered (attaching p (bounds_for config p.name.now)) x
+replied config p x = said_by x
 
 -- the condition with which a session ends that refuses a frame; none where it was refused memory, which ends nothing
 abbrev pub ending : SessionFault → Option Condition

@@ -43,6 +43,10 @@ credit_said p = said (performative.Flow p) ∷ []
 abbrev pub outcome_said : Disposition → List Said
 outcome_said p = said (performative.Disposition p) ∷ []
 
+-- a settlement of a range also gives how many deliveries it named
+abbrev pub named_said : Disposition × ℕ → List Said
+named_said told = outcome_said told.0
+
 -- The answer of a session to a call, where `said` is what is said for what it gives.
 abbrev pub SessionAsked : {X : Type 0} → (X → List Said) → SessionState → SessionState → session.Call → Result X session_fault.CallFault → Type 0
 SessionAsked said old new c (Ok x) = (session.call_fault old c ≡ None) × (new ≡ session_after old (session.call_event old c)) × (session.call_answer old c ≡ said x)

@@ -5,7 +5,7 @@ use Rattle.amqp_session.specs.declared.fault.CallFault.TheVariants as of_session
 use Rattle.amqp_session.specs.declared.slot.Slot.{Slot}
 use Rattle.amqp_session.specs.declared.slot.Slot.TheVariants.{Free, Live, Waits}
 use Rattle.amqp_session.specs.Calls as session
-use Rattle.amqp_session.specs.Calls.{Widen, Grant, Drain, Take, Settle, Detach}
+use Rattle.amqp_session.specs.Calls.{Widen, Grant, Drain, Take, Settle, SettleRange, Detach}
 use Rattle.amqp_session.specs.Faults.{or_else, where_so}
 use Rattle.amqp_session.specs.Sessions.{SessionState}
 use Rattle.amqp_endpoint.specs.declared.fault.CallFault.{CallFault}
@@ -42,6 +42,7 @@ fault_of_session of_session.NoLink = refused.NoLink
 fault_of_session of_session.NoDelivery = refused.NoDelivery
 fault_of_session of_session.NotTaken = refused.NotTaken
 fault_of_session of_session.AlreadyTold = refused.AlreadyTold
+fault_of_session of_session.MixedModes = refused.MixedModes
 fault_of_session of_session.NothingReady = refused.NothingReady
 fault_of_session of_session.TooMuchCredit = refused.TooMuchCredit
 fault_of_session of_session.WindowTooWide = refused.WindowTooWide

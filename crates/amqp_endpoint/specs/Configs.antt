@@ -1,13 +1,15 @@
 -- What an endpoint is set up with, and within which ranges.
 use Rattle.std.specs.Prelude.{ℕ, ◌^◌, ◌<◌, ◌≤◌, List, length}
 use Rattle.amqp_link.specs.Bounds.{Bounds, IsBounded}
+use Rattle.amqp_endpoint.specs.Limits.{Limit, longest, bounds_in}
 
 pub record Configured : Type 0 where
   pub container_id : List ℕ  -- the container-id of this side, in UTF-8 [2.7.1]
   pub max_frame : ℕ  -- the longest frame that is accepted, in bytes
   pub channel_max : ℕ  -- the highest channel that is offered
   pub handle_max : ℕ  -- the highest handle that is offered [2.7.2]
-  pub bounds : Bounds  -- what each link may keep
+  pub bounds : Bounds  -- what each link may keep whose name begins with no prefix of the limits
+  pub limits : List Limit  -- and what others may
   pub window : ℕ  -- the places of a session's incoming window at its begin [2.5.6]
 
 -- the ranges that are not those of a type
@@ -17,6 +19,10 @@ pub record IsConfigured (container_id : List ℕ) (max_frame window : ℕ) : Typ
   pub some_frame : 512 ≤ max_frame
   pub most_frame : max_frame ≤ 1048576
   pub most_window : window < 2 ^ 31
+
+-- what a link of this name may keep
+abbrev pub bounds_for : Configured → List ℕ → Bounds
+bounds_for config name = bounds_in config.bounds (longest name config.limits)
 
 -- what can be asked for
 pub record IsAsked (container_id : List ℕ) (max_frame channel_max handle_max allowed max_message window : ℕ) : Type 0 where

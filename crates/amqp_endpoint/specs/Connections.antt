@@ -4,10 +4,10 @@ use Rattle.amqp_session.specs.declared.slot.Slot.{Slot}
 use Rattle.amqp_session.specs.declared.slot.Slot.TheVariants.{Free, Live, Waits}
 use Rattle.amqp_session.specs.declared.terms.SessionTerms.{SessionTerms}
 use Rattle.amqp_session.specs.Places.{Happens, Nothing, Begins, GoesOn, Leaves, Gone, AllGone, tabulate, places_after, places_may}
-use Rattle.amqp_session.specs.Sessions.{SessionState, SessionEvent, session_begins, session_after, SessionMay, session_bytes, session_ready}
+use Rattle.amqp_session.specs.Sessions.{Attached, SessionState, SessionEvent, LinkAttached, session_begins, session_after, SessionMay, session_bytes, session_ready}
 use Rattle.amqp_endpoint.specs.declared.phase.Phase.{Phase}
 use Rattle.amqp_endpoint.specs.declared.phase.Phase.TheVariants as phase
-use Rattle.amqp_endpoint.specs.Configs.{Configured}
+use Rattle.amqp_endpoint.specs.Configs.{Configured, bounds_for}
 
 -- A connection. Its sessions stand in the order of their channels, from 0 to the highest that is offered.
 pub record ConnectionState : Type 0 where
@@ -158,7 +158,6 @@ pub record IsBegun (config : Configured) (terms : SessionTerms) : Type 0 where
   pub window : terms.incoming_window ≡ config.window
   pub first : terms.next_outgoing_id < 2 ^ 32
   pub handles : terms.handle_max ≤ config.handle_max
-  pub bounds : terms.bounds ≡ config.bounds
 
 -- in which phase it may come
 abbrev pub IsTimely : Phase → ConnectionEvent → Type 0
@@ -182,5 +181,17 @@ abbrev pub IsOffered : Configured → ConnectionEvent → Type 0
 IsOffered config (Opened max_frame_size channel_max) = channel_max ≤ config.channel_max
 IsOffered config e = Unit {0}
 
+-- a link begins with what one of its name may keep [2.6.3]
+abbrev pub HasBounds : Configured → Attached → Type 0
+HasBounds config a = a.terms.bounds ≡ bounds_for config a.name
+
+abbrev pub IsLimited : Configured → SessionEvent → Type 0
+IsLimited config (LinkAttached handle a) = HasBounds config a
+IsLimited config e = Unit {0}
+
+-- it may happen to a session of this connection
+abbrev pub MayIn : Configured → SessionState → SessionEvent → Type 0
+MayIn config s e = SessionMay s e × IsLimited config e
+
 abbrev pub ConnectionMay : ConnectionState → ConnectionEvent → Type 0
-ConnectionMay s e = IsTimely s.phase e × IsOffered s.config e × places_may (IsBegun s.config) SessionMay s.sessions (happens e)
+ConnectionMay s e = IsTimely s.phase e × IsOffered s.config e × places_may (IsBegun s.config) (MayIn s.config) s.sessions (happens e)

@@ -7,7 +7,7 @@ use Rattle.amqp_link.specs.declared.link.Taken.{Taken}
 use Rattle.amqp_session.specs.declared.slot.Slot.{Slot}
 use Rattle.amqp_session.specs.declared.slot.Slot.TheVariants.{Free, Live, Waits as Awaits}
 use Rattle.amqp_session.specs.declared.view.LinkView.{LinkView}
-use Rattle.amqp_session.specs.Calls.{Widen, Grant, Drain, Take, Settle, Detach}
+use Rattle.amqp_session.specs.Calls.{Widen, Grant, Drain, Take, Settle, SettleRange, Detach}
 use Rattle.amqp_session.specs.Sessions as session
 use Rattle.amqp_session.specs.Sessions.{SessionState}
 use Rattle.amqp_session.specs.Slots.{IsViewAt}
@@ -22,7 +22,7 @@ use Rattle.amqp_endpoint.specs.Acting.{IsDone}
 use Rattle.amqp_endpoint.specs.Configs.{Configured}
 use Rattle.amqp_endpoint.specs.Connections.{ConnectionState, slot_at, is_open, is_dead}
 use Rattle.amqp_endpoint.specs.Lines.{line_of, may_grow_on}
-use Rattle.amqp_endpoint.specs.Runs.{Call, Feed, InSession, Close, Heartbeat, Output, Held, Finish, Answer, Fed, Accepted, Dropped, Handed, HandedUp, Refused, MovedOut, Holds, Ended, Run, IsStart}
+use Rattle.amqp_endpoint.specs.Runs.{Call, Feed, InSession, Close, Heartbeat, Output, Held, Finish, Answer, Fed, Accepted, Dropped, Named, Handed, HandedUp, Refused, MovedOut, Holds, Ended, Run, IsStart}
 use Rattle.amqp_endpoint.specs.Steps.{EndpointState, room_for}
 
 -- What is kept true. --------------------------------------------------------------------------------------------------
@@ -73,6 +73,7 @@ call_of (call.Widen channel n) = InSession channel (Widen n)
 call_of (call.Drain channel handle) = InSession channel (Drain handle)
 call_of (call.Take channel handle) = InSession channel (Take handle)
 call_of (call.Settle channel id outcome) = InSession channel (Settle id outcome)
+call_of (call.SettleRange channel first last outcome) = InSession channel (SettleRange first last outcome)
 call_of (call.Detach channel handle) = InSession channel (Detach handle)
 call_of call.Close = Close
 call_of call.Heartbeat = Heartbeat
@@ -94,13 +95,14 @@ abbrev pub answer_of : {A : Type 0} → given.Answer A → Answer
 answer_of (answer.Fed fed) = Fed fed.used fed.outcome
 answer_of answer.Accepted = Accepted
 answer_of (answer.Dropped n) = Dropped n
+answer_of (answer.Named n) = Named n
 answer_of (answer.HandedUp taken) = HandedUp (handed_in taken)
 answer_of (answer.Refused fault) = Refused fault
 answer_of (answer.MovedOut bytes) = MovedOut bytes.items
 answer_of (answer.Holds n) = Holds n
 answer_of (answer.Ended end) = Ended end
 
--- the answer of a call that gives nothing, of one that gives how many ready deliveries were dropped, and of a take
+-- the answer of a call that gives nothing, of one that gives how many ready deliveries were dropped, of one that gives how many it named, and of a take
 abbrev pub accepted_by : {X : Type 0} → Result X CallFault → Answer
 accepted_by (Ok x) = Accepted
 accepted_by (Err fault) = Refused fault
@@ -108,6 +110,10 @@ accepted_by (Err fault) = Refused fault
 abbrev pub dropped_by : Result ℕ CallFault → Answer
 dropped_by (Ok n) = Dropped n
 dropped_by (Err fault) = Refused fault
+
+abbrev pub named_by : Result ℕ CallFault → Answer
+named_by (Ok n) = Named n
+named_by (Err fault) = Refused fault
 
 abbrev pub handed_by : {A : Type 0} → Result (Taken A) CallFault → Answer
 handed_by (Ok taken) = HandedUp (handed_in taken)

@@ -14,6 +14,7 @@ use Rattle.amqp_perform.specs.declared.performative.Begin.{Begin}
 use Rattle.amqp_perform.specs.declared.performative.Open.{Open}
 use Rattle.amqp_perform.specs.Cells.{Cell, Bytes, number_in, whole_in, flag_in, span_in}
 use Rattle.amqp_session.specs.Frames.{Frame, Attaches, Flows, Transfers, Disposes, Detaches, frame_of}
+use Rattle.amqp_endpoint.specs.Configs.{Configured, bounds_for}
 
 -- What stands in a field. --------------------------------------------------------------------------------------------
 
@@ -71,8 +72,9 @@ begin_in _ = Other
 
 -- What a session reads. ----------------------------------------------------------------------------------------------
 
-abbrev pub attach_in : List Cell → Read
-attach_in (name ∷ handle ∷ role ∷ snd_settle_mode ∷ rcv_settle_mode ∷ source ∷ target ∷ unsettled ∷ incomplete ∷ initial_delivery_count ∷ rest) =
+-- an attach, with what its link may keep
+abbrev pub attach_in : Configured → List Cell → Read
+attach_in config (name ∷ handle ∷ role ∷ snd_settle_mode ∷ rcv_settle_mode ∷ source ∷ target ∷ unsettled ∷ incomplete ∷ initial_delivery_count ∷ rest) =
     ForSession (Attaches (record {
       name = unwrap_or (octets_in name) [];
       handle = whole_in handle;
@@ -82,8 +84,9 @@ attach_in (name ∷ handle ∷ role ∷ snd_settle_mode ∷ rcv_settle_mode ∷ 
       source = span_in source;
       target = span_in target;
       initial_delivery_count = number_in initial_delivery_count;
+      bounds = bounds_for config (unwrap_or (octets_in name) []);
     }))
-attach_in _ = Other
+attach_in config _ = Other
 
 abbrev pub flow_in : List Cell → Read
 flow_in (next_incoming_id ∷ incoming_window ∷ next_outgoing_id ∷ outgoing_window ∷ handle ∷ delivery_count ∷ link_credit ∷ available ∷ drain ∷ echo ∷ rest) =
@@ -113,18 +116,18 @@ abbrev pub detach_in : List Cell → Read
 detach_in (handle ∷ closed ∷ rest) = ForSession (Detaches (whole_in handle) (flag_in closed))
 detach_in _ = Other
 
--- the performative of a type with these fields, and the payload behind it
-abbrev pub read_in : Descriptor → List Cell → List ℕ → Read
-read_in of_type.Open cells payload = open_in cells
-read_in of_type.Begin cells payload = begin_in cells
-read_in of_type.Attach cells payload = attach_in cells
-read_in of_type.Flow cells payload = flow_in cells
-read_in of_type.Transfer cells payload = transfer_in cells payload
-read_in of_type.Disposition cells payload = disposition_in cells
-read_in of_type.Detach cells payload = detach_in cells
-read_in of_type.End cells payload = Ends
-read_in of_type.Close cells payload = Closes
-read_in _ cells payload = Other
+-- the performative of a type with these fields, and the payload behind it, to a side that is set up so
+abbrev pub read_in : Configured → Descriptor → List Cell → List ℕ → Read
+read_in config of_type.Open cells payload = open_in cells
+read_in config of_type.Begin cells payload = begin_in cells
+read_in config of_type.Attach cells payload = attach_in config cells
+read_in config of_type.Flow cells payload = flow_in cells
+read_in config of_type.Transfer cells payload = transfer_in cells payload
+read_in config of_type.Disposition cells payload = disposition_in cells
+read_in config of_type.Detach cells payload = detach_in cells
+read_in config of_type.End cells payload = Ends
+read_in config of_type.Close cells payload = Closes
+read_in config _ cells payload = Other
 
 -- what an open and a begin in hand say
 abbrev pub opening : Open → Opening
@@ -138,9 +141,18 @@ abbrev pub for_session : Option Frame → Read
 for_session None = Other
 for_session (Some f) = ForSession f
 
-abbrev pub read_of : Performative → List ℕ → Read
-read_of (performative.Open p) payload = Opens (opening p)
-read_of (performative.Begin p) payload = Begins (beginning p)
-read_of (performative.End p) payload = Ends
-read_of (performative.Close p) payload = Closes
-read_of p payload = for_session (frame_of p payload)
+-- the name of the link that a performative begins, if it begins one
+abbrev pub named : Performative → List ℕ
+named (performative.Attach p) = p.name.now
+named _ = []
+
+-- what it is to its session
+abbrev pub frame_in : Configured → Performative → List ℕ → Option Frame
+frame_in config p payload = frame_of p payload (bounds_for config (named p))
+
+abbrev pub read_of : Configured → Performative → List ℕ → Read
+read_of config (performative.Open p) payload = Opens (opening p)
+read_of config (performative.Begin p) payload = Begins (beginning p)
+read_of config (performative.End p) payload = Ends
+read_of config (performative.Close p) payload = Closes
+read_of config p payload = for_session (frame_in config p payload)

@@ -1,5 +1,5 @@
 -- Bytes that count as held by an endpoint, counted over its history, and how many they are at most.
-use Rattle.std.specs.Prelude.{◌≡◌, ℕ, suc, ◌+◌, ◌*◌, ◌≤◌, List, length, sum_by}
+use Rattle.std.specs.Prelude.{◌≡◌, ℕ, suc, ◌+◌, ◌*◌, ◌≤◌, nat_le, if◌then◌else◌, List, [], ◌∷◌, length, map, sum_by}
 use Rattle.amqp_session.specs.declared.slot.Slot.{Slot}
 use Rattle.amqp_session.specs.declared.slot.Slot.TheVariants.{Free, Live, Waits}
 use Rattle.amqp_session.specs.declared.terms.SessionTerms.{SessionTerms}
@@ -34,13 +34,28 @@ channel_links Waits = 0
 abbrev pub link_count : ConnectionState → ℕ
 link_count s = sum_by channel_links s.sessions
 
--- what a link counts for at most: itself, a name of 255 bytes, source and target of 1024, and for each delivery that is allowed its message and 96
-abbrev pub link_most : Configured → ℕ
-link_most config = 1407 + config.bounds.allowed * (config.bounds.max_message_size + 96)
+-- what the links of a session keep at most: of each live one what its bounds allow, and 128 of one that waits
+abbrev pub channel_links_most : Slot SessionState → ℕ
+channel_links_most Free = 0
+channel_links_most (Live s) = sum_by session.slot_most s.links
+channel_links_most Waits = 0
 
--- What an endpoint with so many sessions and links holds at most: a frame, the output, and what each session and each link counts for.
-abbrev pub held_most : Configured → ℕ → ℕ → ℕ
-held_most config sessions links = config.max_frame + output_size + 64 * sessions + links * link_most config
+-- What an endpoint with these sessions and links holds at most: a frame, the output, 64 for each session, and for each link what its bounds allow.
+abbrev pub held_most : ConnectionState → ℕ
+held_most s = s.config.max_frame + output_size + 64 * session_count s + sum_by channel_links_most s.sessions
+
+-- the greatest of some numbers
+abbrev pub greatest : ℕ → List ℕ → ℕ
+greatest n [] = n
+greatest n (m ∷ rest) = if nat_le m (greatest n rest) then greatest n rest else m
+
+-- What a link keeps at most, whatever its name: without limits what the configuration allows.
+abbrev pub any_link_most : Configured → ℕ
+any_link_most config = greatest (session.link_most config.bounds) (map (λ r. session.link_most r.bounds) config.limits)
+
+-- what any endpoint with so many sessions and links holds at most
+abbrev pub counted_most : Configured → ℕ → ℕ → ℕ
+counted_most config sessions links = config.max_frame + output_size + 64 * sessions + links * any_link_most config
 
 -- the parts of all channels
 abbrev pub session_parts : Configured → List ConnectionEvent → List (Slot (Life SessionTerms SessionEvent))
@@ -60,8 +75,10 @@ pub record HoldsWithin (config : Configured) (h : List ConnectionEvent) (s : End
   pub buffer : length s.input.filled ≤ config.max_frame
   -- the output holds at most 8192 bytes
   pub output : length s.unsent ≤ output_size
-  -- all that is held is at most what so many sessions and links may hold
-  pub most : held s ≤ held_most config (session_count s.connection) (link_count s.connection)
+  -- all that is held is at most what these sessions and links may hold
+  pub most : held s ≤ held_most s.connection
+  -- which is at most what so many of any names may
+  pub by_count : held_most s.connection ≤ counted_most config (session_count s.connection) (link_count s.connection)
   -- there is at most a session for each channel that is offered
   pub sessions : session_count s.connection ≤ channels config
   -- there is at most a link for each handle that is offered on each of them

@@ -5,13 +5,14 @@ use Rattle.std.specs.List.{list_any}
 use Rattle.amqp_session.specs.declared.slot.Slot.{Slot}
 use Rattle.amqp_session.specs.declared.slot.Slot.TheVariants.{Free}
 use Rattle.amqp_session.specs.declared.terms.SessionTerms.{SessionTerms}
-use Rattle.amqp_session.specs.Places.{Life, life_after, states, AreSound}
-use Rattle.amqp_session.specs.Sessions.{SessionEvent}
-use Rattle.amqp_session.specs.Histories as session
+use Rattle.amqp_session.specs.Places.{Life, IfLive, life_after, states, AreSound}
+use Rattle.amqp_link.specs.Links.{LinkEvent}
+use Rattle.amqp_session.specs.Sessions.{Attached, SessionEvent}
+use Rattle.amqp_session.specs.Histories as lived
 use Rattle.amqp_endpoint.specs.declared.phase.Phase.{Phase}
 use Rattle.amqp_endpoint.specs.declared.phase.Phase.TheVariants as phase
 use Rattle.amqp_endpoint.specs.Configs.{Configured}
-use Rattle.amqp_endpoint.specs.Connections.{ConnectionState, ConnectionEvent, channels, channel_limit, is_open, connection_begins, connection_after, ConnectionMay, IsBegun, happens, is_end}
+use Rattle.amqp_endpoint.specs.Connections.{ConnectionState, ConnectionEvent, channels, channel_limit, is_open, connection_begins, connection_after, ConnectionMay, IsBegun, HasBounds, happens, is_end}
 use Rattle.amqp_endpoint.specs.Connections.{is_own_close, is_failure, is_peer_close, opened_by}
 
 -- what the peer's open fixed, if it came
@@ -34,13 +35,15 @@ state_of config h = record {
   phase = phase_of h;
   failed = list_any is_failure h;
   closed = list_any is_peer_close h;
-  sessions = states session.state_of (channels config) (λ channel. part channel h);
+  sessions = states lived.state_of (channels config) (λ channel. part channel h);
 }
 
 -- what holds of each part
 pub record IsSoundPart (config : Configured) (terms : SessionTerms) (h : List SessionEvent) : Type 0 where
   pub begun : IsBegun config terms
-  pub session : session.Sound terms h
+  pub session : lived.Sound terms h
+  -- every live link has the bounds of its name
+  pub limited : (handle : ℕ) → IfLive (λ (life : Life Attached LinkEvent). HasBounds config life.0) (lived.part handle h)
 
 -- what holds of every history of accepted events
 pub record Sound (config : Configured) (h : List ConnectionEvent) : Type 0 where

@@ -1,3 +1,4 @@
+pub mod Limits
 pub mod Configs
 pub mod Fields
 pub mod Connections

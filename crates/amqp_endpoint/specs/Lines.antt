@@ -5,6 +5,7 @@ use Rattle.amqp_frame.specs.Units.{StreamUnit, HeaderUnit, FrameUnit, FaultUnit,
 use Rattle.amqp_perform.specs.declared.condition.Condition.{Condition}
 use Rattle.amqp_perform.specs.declared.condition.Condition.TheVariants as condition
 use Rattle.amqp_perform.specs.declared.descriptor.Descriptor.{Descriptor}
+use Rattle.amqp_perform.specs.declared.descriptor.Descriptor.TheVariants as of_type
 use Rattle.amqp_perform.specs.declared.fault.BodyFault.{BodyFault}
 use Rattle.amqp_perform.specs.declared.fault.BodyFault.TheVariants as body
 use Rattle.amqp_perform.specs.Cells.{Cell}
@@ -110,20 +111,20 @@ unread_line body.InvalidField = BodyInvalid
 
 abbrev pub body_line : ConnectionState → ℕ → List ℕ → Option (Descriptor × List Cell × List ℕ) → Line
 body_line s channel bytes None = unread_line (fault_of bytes)
-body_line s channel bytes (Some x) = read_line s channel (read_in x.0 x.1 x.2)
+body_line s channel bytes (Some x) = read_line s channel (read_in s.config x.0 x.1 x.2)
 
 abbrev pub frame_line : ConnectionState → ℕ → List ℕ → Line
 frame_line s channel [] = BodyEmpty
 frame_line s channel (b ∷ bytes) = if nat_lt (channel_limit s.phase) channel then ChannelTooHigh else body_line s channel (b ∷ bytes) (body_at (b ∷ bytes))
 
 -- while the peer's close is awaited: one that can be read counts, on any channel [2.4.3]
-abbrev pub is_close : Read → Bool
-is_close Closes = true
+abbrev pub is_close : Descriptor → Bool
+is_close of_type.Close = true
 is_close _ = false
 
 abbrev pub is_read_close : Option (Descriptor × List Cell × List ℕ) → Bool
 is_read_close None = false
-is_read_close (Some x) = is_close (read_in x.0 x.1 x.2)
+is_read_close (Some x) = is_close x.0
 
 abbrev pub closing_line : List ℕ → Line
 closing_line bytes = if is_read_close (body_at bytes) then CloseAwaited else DroppedInClosing
@@ -174,7 +175,6 @@ begun_terms s b = record {
   next_outgoing_id = b.next_outgoing_id;
   handle_max = lesser s.config.handle_max b.handle_max;
   max_frame_size = peer_frame_size s.phase;
-  bounds = s.config.bounds;
 }
 
 abbrev pub event_on : ConnectionState → Line → ConnectionEvent

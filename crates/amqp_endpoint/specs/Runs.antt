@@ -7,7 +7,8 @@ use Rattle.amqp_link.specs.Links.{Delivery, first_ready}
 use Rattle.amqp_session.specs.declared.slot.Slot.{Slot}
 use Rattle.amqp_session.specs.declared.slot.Slot.TheVariants.{Free, Live, Waits as Awaits}
 use Rattle.amqp_session.specs.Calls as session
-use Rattle.amqp_session.specs.Calls.{Widen, Grant, Drain, Take, Settle, Detach}
+use Rattle.amqp_session.specs.Calls.{Widen, Grant, Drain, Take, Settle, SettleRange, Detach}
+use Rattle.amqp_session.specs.Laws.{named_total}
 use Rattle.amqp_session.specs.Sessions as of_session
 use Rattle.amqp_session.specs.Sessions.{LiveLink, SessionState, slot_ready}
 use Rattle.amqp_endpoint.specs.declared.event.End.{End}
@@ -50,6 +51,7 @@ pub data Answer : Type 0 where
   Fed : ℕ → Outcome → Answer  -- so many bytes were taken, and this came of it
   Accepted : Answer
   Dropped : ℕ → Answer  -- so many ready deliveries were dropped
+  Named : ℕ → Answer  -- so many open deliveries were named
   HandedUp : Handed → Answer
   Refused : CallFault → Answer
   MovedOut : List ℕ → Answer
@@ -72,6 +74,7 @@ session_answer s (Grant handle n) = Accepted
 session_answer s (Drain handle) = Accepted
 session_answer s (Take handle) = link_handed (of_session.slot_at s handle)
 session_answer s (Settle id outcome) = Accepted
+session_answer s (SettleRange first last outcome) = Named (named_total first last s)
 session_answer s (Detach handle) = Dropped (slot_ready (of_session.slot_at s handle))
 
 abbrev pub accepted_answer : Slot SessionState → session.Call → Answer

@@ -10,7 +10,7 @@ use Rattle.amqp_session.specs.Histories as session
 use Rattle.amqp_session.specs.Places.{Life}
 use Rattle.amqp_session.specs.Sessions as of_session
 use Rattle.amqp_session.specs.Sessions.{Attached, LiveLink, SessionState, SessionEvent}
-use Rattle.amqp_endpoint.specs.Configs.{Configured}
+use Rattle.amqp_endpoint.specs.Configs.{Configured, bounds_for}
 use Rattle.amqp_endpoint.specs.Connections.{ConnectionState, ConnectionEvent, InSession, slot_at}
 use Rattle.amqp_endpoint.specs.Histories.{part}
 use Rattle.amqp_endpoint.specs.Runs.{Handed, handed_of}
@@ -134,7 +134,7 @@ pub record HasItsPart (config : Configured) (part : Slot (Life Attached LinkEven
   -- its open deliveries are those that are neither given up nor both taken and settled
   pub opened : open_count l.link ≡ length (filter (link.is_open attached.terms past) (link.groups past))
   -- credit and open deliveries are together within what is allowed
-  pub within : l.link.credit + open_count l.link ≤ config.bounds.allowed
+  pub within : l.link.credit + open_count l.link ≤ (bounds_for config l.name).allowed
 
 -- A link lives there, and no delivery of it is ready to be taken.
 pub record HasNoneReady (s : ConnectionState) (channel handle : ℕ) : Type 0 where

@@ -8,7 +8,7 @@ use Rattle.amqp_endpoint.specs.Configs.{Configured, IsConfigured}
 use Rattle.amqp_endpoint.specs.Connections.{channels}
 use Rattle.amqp_endpoint.specs.Credits.{granted_by}
 use Rattle.amqp_endpoint.specs.Endpoints.{IsReplay}
-use Rattle.amqp_endpoint.specs.Held.{held_most}
+use Rattle.amqp_endpoint.specs.Held.{counted_most}
 use Rattle.amqp_endpoint.specs.Runs.{Call, InSession, Answer, Handed}
 use Rattle.amqp_endpoint.specs.Steps.{EndpointState}
 use Rattle.amqp_endpoint.specs.Traces.{AreInRange, Told, Done, heard, message_in}
@@ -32,7 +32,7 @@ messages_over channel handle told = length (filter (is_from channel handle) (fla
 
 -- the most that any endpoint of a configuration holds: a session on each channel, and a link at each handle of it
 abbrev pub held_by_any : Configured → ℕ
-held_by_any config = held_most config (channels config) (channels config * suc config.handle_max)
+held_by_any config = counted_most config (channels config) (channels config * suc config.handle_max)
 
 -- An endpoint to which a new one of this configuration came by some calls. These granted so much to the links that followed one another at a handle of the sessions on a channel, and took so many
 -- messages of them.

@@ -2,11 +2,11 @@
 ghost use Rattle.std.specs.Prelude.{◌≡◌, ◌≤◌, ◌+◌, ◌++◌, ◌||◌, [], length, IfOk};
 ghost use Rattle.amqp_perform.specs.declared.outcome.Outcome.{Outcome};
 ghost use Rattle.amqp_perform.specs.Said.{said_frame};
-ghost use Rattle.amqp_session.specs.Calls.{Widen, Grant, Drain, Take, Settle, Detach, call_fault};
+ghost use Rattle.amqp_session.specs.Calls.{Widen, Grant, Drain, Take, Settle, SettleRange, Detach, call_fault};
 ghost use Rattle.amqp_endpoint.specs.Asking.{CallAnswered, SlotHandsUp, asked_said, asked_of, ready_at};
 ghost use Rattle.amqp_endpoint.specs.Calls.{at_session, output_size, reply_room};
 ghost use Rattle.amqp_endpoint.specs.Connections.{is_closing, is_dead, slot_at};
-ghost use Rattle.amqp_endpoint.specs.Runs.{Dropped, accepted_answer};
+ghost use Rattle.amqp_endpoint.specs.Runs.{Dropped, Named, accepted_answer};
 
 use crate::connection::Connection;
 use crate::fault::CallFault;
@@ -90,6 +90,32 @@ pub fn settle<A: Allocator + Copy>(
     let told = connection.settle(channel, id, outcome)?;
     out.put_disposition(channel, &told);
     Ok(())
+}
+
+/// The same of the deliveries whose ids the range from `first` to `last` covers. Answers how many it named. Refused, with
+/// nothing changed, with the first of these: `Dead`, `NoSession`, `NoDelivery`, `NotTaken`, `AlreadyTold`, `MixedModes`,
+/// `Full`.
+pub fn settle_range<A: Allocator + Copy>(
+    connection: &mut Connection<A>,
+    out: &mut Output<A>,
+    channel: u16,
+    first: u32,
+    last: u32,
+    outcome: Outcome,
+) -> Result<u32, CallFault>
+    ensures answered { CallAnswered connection.old connection.new out.old out.new channel (SettleRange first last outcome) result }
+    ensures named { IfOk result (λ n. Named n ≡ accepted_answer (slot_at connection.old channel) (SettleRange first last outcome)) }
+{
+    answers_fit_their_room();
+    if takes_no_call(connection) {
+        return Err(CallFault::Dead);
+    }
+    if !out.has_room() {
+        return Err(range_fault(connection, channel, first, last).unwrap_or(CallFault::Full));
+    }
+    let (said, named) = connection.settle_range(channel, first, last, outcome)?;
+    out.put_disposition(channel, &said);
+    Ok(named)
 }
 
 /// Ends the link at a handle, says so, and answers how many ready deliveries are dropped [2.6.6]. Refused, with
@@ -216,6 +242,24 @@ fn settle_fault<A: Allocator + Copy>(
 {
     match connection.session(channel) {
         Some(session) => match session.settle_fault(id) {
+            Some(fault) => Some(fault_of(fault)),
+            None => None,
+        },
+        None => Some(CallFault::NoSession),
+    }
+}
+
+/// Why the session on a channel would refuse a settle of a range, with any outcome; `NoSession` where none is live.
+fn range_fault<A: Allocator + Copy>(
+    connection: &Connection<A>,
+    channel: u16,
+    first: u32,
+    last: u32,
+) -> Option<CallFault>
+    ensures { (outcome : Outcome) → result ≡ at_session (slot_at connection.now channel) (SettleRange first last outcome) }
+{
+    match connection.session(channel) {
+        Some(session) => match session.settle_range_fault(first, last) {
             Some(fault) => Some(fault_of(fault)),
             None => None,
         },

@@ -2,11 +2,11 @@
 ghost use Rattle.std.specs.Prelude.{◌≡◌, ℕ, List, ◌≤◌, ◌+◌, length, Some};
 ghost use Rattle.amqp_perform.specs.declared.performative.Performative.TheVariants as performative;
 ghost use Rattle.amqp_link.specs.Links.{sent_of};
-ghost use Rattle.amqp_session.specs.Frames.{Frame, Transfers, frame_of};
+ghost use Rattle.amqp_session.specs.Frames.{Frame, Transfers};
 ghost use Rattle.amqp_endpoint.specs.Acting.{IsForSession, IsDone, HasDone};
 ghost use Rattle.amqp_endpoint.specs.Calls.{output_size, reply_room};
 ghost use Rattle.amqp_endpoint.specs.Connections.{slot_at};
-ghost use Rattle.amqp_endpoint.specs.Fields.{Begins, Ends, ForSession, read_of, opening, beginning};
+ghost use Rattle.amqp_endpoint.specs.Fields.{Begins, Ends, ForSession, frame_in, read_of, opening, beginning};
 ghost use Rattle.amqp_endpoint.specs.Lines.{read_line, unopened_line, channel_line, PeerOpens};
 
 use crate::connection::Connection;
@@ -28,7 +28,7 @@ pub fn act<A: Allocator + Copy>(
 ) -> Result<Option<Event>, AllocError>
     requires room { length out.old + reply_room ≤ output_size }
     requires channel { channel ≤ connection.old.config.channel_max }
-    ensures { HasDone connection.old connection.new out.old out.new (read_line connection.old channel (read_of performative.now payload.now)) result }
+    ensures { HasDone connection.old connection.new out.old out.new (read_line connection.old channel (read_of connection.old.config performative.now payload.now)) result }
 {
     if matches!(connection.phase(), Phase::Unopened) {
         return Ok(Some(act_unopened(connection, out, performative)));
@@ -49,7 +49,7 @@ fn act_unopened<A: Allocator + Copy>(
     performative: &Performative<'_>,
 ) -> Event
     requires { length out.old + reply_room ≤ output_size }
-    ensures { (payload : List ℕ) → IsDone connection.old connection.new out.old out.new (unopened_line (read_of performative.now payload)) (Some result) }
+    ensures { (payload : List ℕ) → IsDone connection.old connection.new out.old out.new (unopened_line (read_of connection.old.config performative.now payload)) (Some result) }
 {
     match performative {
         Performative::Open(open) => act_on_open(connection, out, open),
@@ -128,7 +128,7 @@ pub fn act_on_transfer<A: Allocator + Copy>(
 ) -> Result<Option<Event>, AllocError>
     requires room { length out.old + reply_room ≤ output_size }
     requires channel { channel ≤ connection.old.config.channel_max }
-    ensures { HasDone connection.old connection.new out.old out.new (read_line connection.old channel (read_of (performative.Transfer transfer.now) payload.now)) result }
+    ensures { HasDone connection.old connection.new out.old out.new (read_line connection.old channel (read_of connection.old.config (performative.Transfer transfer.now) payload.now)) result }
 {
     if matches!(connection.phase(), Phase::Unopened) {
         return Ok(Some(closing::fail(connection, out, Condition::IllegalState)));
@@ -166,8 +166,8 @@ fn act_in_session<A: Allocator + Copy>(
 ) -> Result<Option<Event>, AllocError>
     requires room { length out.old + reply_room ≤ output_size }
     requires channel { channel ≤ connection.old.config.channel_max }
-    requires session { IsForSession (frame_of performative.now payload.now) }
-    ensures { (f : Frame) → frame_of performative.now payload.now ≡ Some f
+    requires session { IsForSession (frame_in connection.old.config performative.now payload.now) }
+    ensures { (f : Frame) → frame_in connection.old.config performative.now payload.now ≡ Some f
         → HasDone connection.old connection.new out.old out.new (channel_line channel (slot_at connection.old channel) (ForSession f)) result }
 {
     match connection.place(channel) {

@@ -37,6 +37,13 @@ pub enum Call<'a> {
         id: u32,
         outcome: Outcome,
     },
+    /// What became of the deliveries with the ids from `first` to `last`.
+    SettleRange {
+        channel: u16,
+        first: u32,
+        last: u32,
+        outcome: Outcome,
+    },
     /// The link is ended.
     Detach {
         channel: u16,
@@ -63,6 +70,8 @@ pub enum Answer<A: Allocator + Copy = Global> {
     Accepted,
     /// To a detach and a close that is not refused: so many ready deliveries were dropped.
     Dropped(u32),
+    /// To a settlement of a range that is not refused: so many deliveries were named.
+    Named(u32),
     /// To a take that is not refused.
     HandedUp(Taken<A>),
     /// Nothing has changed.

@@ -1,9 +1,11 @@
 //! What an endpoint is set up with.
-ghost use Rattle.std.specs.Prelude.{◌≡◌, ◌↔◌, ◌≤◌, ◌<◌, ◌^◌, length, IsSome, IfSome, IfOk};
+ghost use Rattle.std.specs.Prelude.{◌≡◌, ◌↔◌, ◌≤◌, ◌<◌, ◌^◌, length, [], IsSome, IfSome, IfOk, IfErr, OnOk};
 ghost use Rattle.std.specs.String.{string_bytes};
 ghost use Rattle.amqp_link.specs.Bounds.{IsBounded};
-ghost use Rattle.amqp_endpoint.specs.Configs.{Configured, IsConfigured, IsAsked};
+ghost use Rattle.amqp_endpoint.specs.Configs.{Configured, IsConfigured, IsAsked, bounds_for};
+ghost use Rattle.amqp_endpoint.specs.Limits.{IsTable, IsFault};
 
+use crate::limits::{self, LimitFault, LinkLimit};
 use amqp_link::LinkBounds;
 use std::alloc::{AllocError, Allocator, Global};
 use std::marker::Model;
@@ -16,18 +18,20 @@ pub struct Config<A: Allocator + Copy = Global> {
     channel_max: u8,
     handle_max: u8,
     bounds: LinkBounds,
+    limits: Vec<LinkLimit<A>, A>,
     window: u32,
 }
 
 impl<A: Allocator + Copy> Model for Config<A> {
     ghost use Rattle.std.specs.String.{string_bytes};
     ghost use Rattle.amqp_endpoint.specs.Configs.{Configured, IsConfigured};
+    ghost use Rattle.amqp_endpoint.specs.Limits.{IsTable};
 
     ghost Value = { Configured };
 
-    ghost view = { λ a. record { container_id = string_bytes a.container_id; max_frame = a.max_frame; channel_max = a.channel_max; handle_max = a.handle_max; bounds = a.bounds; window = a.window } };
+    ghost view = { λ a. record { container_id = string_bytes a.container_id; max_frame = a.max_frame; channel_max = a.channel_max; handle_max = a.handle_max; bounds = a.bounds; limits = a.limits.items; window = a.window } };
 
-    ghost invariant = { λ a. IsConfigured (string_bytes a.container_id) a.max_frame a.window };
+    ghost invariant = { λ a. IsConfigured (string_bytes a.container_id) a.max_frame a.window × IsTable a.limits.items };
 }
 
 impl<A: Allocator + Copy> Config<A> {
@@ -45,7 +49,7 @@ impl<A: Allocator + Copy> Config<A> {
         window: u32,
     ) -> Option<Self>
         ensures some { IsSome result ↔ IsAsked (string_bytes container_id) max_frame channel_max handle_max allowed max_message window }
-        ensures is { IfSome result (λ c. c ≡ record { container_id = string_bytes container_id; max_frame = max_frame; channel_max = channel_max; handle_max = handle_max; bounds = record { allowed = allowed; max_message_size = max_message }; window = window }) }
+        ensures is { IfSome result (λ c. c ≡ record { container_id = string_bytes container_id; max_frame = max_frame; channel_max = channel_max; handle_max = handle_max; bounds = record { allowed = allowed; max_message_size = max_message }; limits = []; window = window }) }
     {
         let bounds = LinkBounds::new(allowed, max_message)?;
         let is_named = 1 <= container_id.len() && container_id.len() <= 255;
@@ -53,12 +57,52 @@ impl<A: Allocator + Copy> Config<A> {
         if !is_named || !is_framed || window >= 1 << 31 || channel_max > 255 || handle_max > 255 {
             return None;
         }
+        let limits = Vec::new(*container_id.allocator());
         Some(Config {
             container_id,
             max_frame,
             channel_max: channel_max as u8,
             handle_max: handle_max as u8,
             bounds,
+            limits,
+            window,
+        })
+    }
+
+    /// These settings with this table of limits, at most 16 rows of different prefixes, in place of one that they had: a link
+    /// may keep what the row of the longest prefix says with which its name begins, byte by byte, and what `allowed` and
+    /// `max_message` say where there is none. Takes no memory. Refused, with the settings and the table handed back, with the
+    /// first of these: `TooMany`; then by rising row `BadRow` where the prefix has not 1 to 255 bytes or a number is outside
+    /// its range, `SamePrefix` where an earlier row has the prefix.
+    pub fn with_limits(
+        self,
+        limits: Vec<LinkLimit<A>, A>,
+    ) -> Result<Self, (LimitFault, Self, Vec<LinkLimit<A>, A>)>
+        ensures fine { OnOk result (IsTable limits.items) }
+        ensures is { IfOk result (λ c. c ≡ record self { limits = limits.items }) }
+        ensures fault { IfErr result (λ e. IsFault limits.items e.0) }
+        ensures back { IfErr result (λ e. e.1 ≡ self) }
+        ensures table { IfErr result (λ e. e.2.items ≡ limits.items) }
+    {
+        if let Some(fault) = limits::fault(&limits) {
+            return Err((fault, self, limits));
+        }
+        let Config {
+            container_id,
+            max_frame,
+            channel_max,
+            handle_max,
+            bounds,
+            limits: _,
+            window,
+        } = self;
+        Ok(Config {
+            container_id,
+            max_frame,
+            channel_max,
+            handle_max,
+            bounds,
+            limits,
             window,
         })
     }
@@ -103,11 +147,21 @@ impl<A: Allocator + Copy> Config<A> {
         self.handle_max
     }
 
-    /// What each link may keep.
+    /// What each link may keep whose name begins with no prefix of the limits.
     pub fn bounds(&self) -> LinkBounds
         ensures { result ≡ self.now.bounds }
     {
         self.bounds
+    }
+
+    /// What a link of this name may keep.
+    pub fn bounds_for(&self, name: &[u8]) -> LinkBounds
+        ensures { result ≡ bounds_for self.now name.now }
+    {
+        match limits::longest(&self.limits, name) {
+            Some(limit) => limit.bounds(),
+            None => self.bounds,
+        }
     }
 
     /// The places of a session's window at its begin [2.5.6].
@@ -118,24 +172,18 @@ impl<A: Allocator + Copy> Config<A> {
         self.window
     }
 
-    /// An equal one; an error where memory for the container-id is refused.
+    /// An equal one; an error where memory for the container-id or the limits is refused.
     pub fn copy(&self, alloc: A) -> Result<Self, AllocError>
         ensures { IfOk result (λ c. c ≡ self.now) }
     {
-        let container_id = String::from_str(alloc, self.container_id.as_str())?;
-        let (max_frame, channel_max, handle_max) = (
-            self.max_frame,
-            self.channel_max,
-            self.handle_max,
-        );
-        let (bounds, window) = (self.bounds, self.window);
         Ok(Config {
-            container_id,
-            max_frame,
-            channel_max,
-            handle_max,
-            bounds,
-            window,
+            container_id: String::from_str(alloc, self.container_id.as_str())?,
+            max_frame: self.max_frame,
+            channel_max: self.channel_max,
+            handle_max: self.handle_max,
+            bounds: self.bounds,
+            limits: limits::copies(alloc, &self.limits)?,
+            window: self.window,
         })
     }
 }

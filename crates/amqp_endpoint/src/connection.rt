@@ -2,20 +2,23 @@
 ghost use Rattle.std.specs.Prelude.{◌≡◌, ◌≤◌, ◌<◌, ◌+◌, ◌^◌, true, false, Some, None, slice_get, IfOk, OnOk, OnErr, IfSome, IfNone, option_map};
 ghost use Rattle.amqp_link.specs.Links.{sent_of};
 ghost use Rattle.amqp_session.specs.declared.slot.Slot.TheVariants.{Free, Live, Waits};
-ghost use Rattle.amqp_session.specs.Calls.{Grant, Settle};
-ghost use Rattle.amqp_session.specs.Frames.{Frame, Transfers, frame_of};
+ghost use Rattle.amqp_session.specs.Calls.{Grant, Settle, SettleRange};
+ghost use Rattle.amqp_session.specs.Frames.{Frame, Transfers};
 ghost use Rattle.std.specs.Option.{option_copied_mut};
 ghost use Rattle.std.specs.Borrow.{sem};
 ghost use Rattle.amqp_session.specs.Places.{live_in};
 ghost use Rattle.amqp_endpoint.specs.ConnectionLending.{LendsChannel};
 ghost use Rattle.amqp_session.specs.Sessions.{SessionState};
 ghost use Rattle.amqp_endpoint.specs.Acting.{IsLive, TakesIn, FrameDone, TransferDone};
-ghost use Rattle.amqp_endpoint.specs.Asking.{IsAsked, SessionAsked, all_said, credit_said, outcome_said, asked_of};
+ghost use Rattle.amqp_endpoint.specs.Fields.{frame_in};
+ghost use Rattle.amqp_endpoint.specs.Asking.{IsAsked, SessionAsked, all_said, credit_said, outcome_said, named_said, asked_of};
+ghost use Rattle.amqp_endpoint.specs.Runs.{Named, accepted_answer};
 ghost use Rattle.amqp_endpoint.specs.Connections.{connection_begins, connection_after, connection_ready, connection_bytes, channel_ready, channel_limit, slot_at, Opened, Broken, Failed, CloseAsked, PeerClosed, Lost, HeaderRefused, Finished, Begun, SessionFailed, SessionEnded};
 
 use crate::channels::{self, KeptSession, Place};
 use crate::config::Config;
 use crate::fault::CallFault;
+use crate::frames;
 use crate::phase::Phase;
 use crate::request::{Asked, Request, fault_of};
 use amqp_perform::{Disposition, Flow, Outcome, Performative, Transfer};
@@ -263,10 +266,11 @@ impl<A: Allocator + Copy> Connection<A> {
     ) -> Result<Done, SessionFault>
         requires channel { channel ≤ self.old.config.channel_max }
         requires live { TakesIn (slot_at self.old channel) performative.now }
-        ensures { (s : SessionState) (f : Frame) → slot_at self.old channel ≡ Live s → frame_of performative.now payload.now ≡ Some f → FrameDone self.old self.new channel s f result }
+        ensures { (s : SessionState) (f : Frame) → slot_at self.old channel ≡ Live s → frame_in self.old.config performative.now payload.now ≡ Some f → FrameDone self.old self.new channel s f result }
     {
+        let bounds = self.config.bounds_for(frames::named(performative));
         match self.session_mut(channel.into()) {
-            Some(session) => session.frame(performative, payload),
+            Some(session) => session.frame(performative, payload, bounds),
             None => unreachable!(),
         }
     }
@@ -356,6 +360,27 @@ impl<A: Allocator + Copy> Connection<A> {
             return Err(CallFault::NoSession);
         };
         match session.settle(id, outcome) {
+            Ok(told) => Ok(told),
+            Err(fault) => Err(fault_of(fault)),
+        }
+    }
+
+    #[tactic(auto, using(crate::proofs::Lent::went_on, crate::proofs::Lent::stayed))]
+    /// The same of the deliveries whose ids a range covers, with how many it names.
+    pub fn settle_range(
+        &mut self,
+        channel: u16,
+        first: u32,
+        last: u32,
+        outcome: Outcome,
+    ) -> Result<(Disposition<'static>, u32), CallFault>
+        ensures asked { IsAsked named_said self.old self.new channel (SettleRange first last outcome) result }
+        ensures named { IfOk result (λ told. Named told.1 ≡ accepted_answer (slot_at self.old channel) (SettleRange first last outcome)) }
+    {
+        let Some(session) = self.session_mut(channel) else {
+            return Err(CallFault::NoSession);
+        };
+        match session.settle_range(first, last, outcome) {
             Ok(told) => Ok(told),
             Err(fault) => Err(fault_of(fault)),
         }

@@ -2,11 +2,11 @@
 ghost use Rattle.std.specs.Prelude.{◌≡◌, ◌↔◌, [], IsTrue, ℕ, List, slice_index, ◌+◌, ◌≤◌, ◌++◌, ◌^◌, ◌<◌, min, length, take, drop, true, false, Some, None, option_map, IfOk, OnOk, IfErr};
 ghost use Rattle.amqp_frame.specs.Splits.{IsOver, TakesNothing};
 ghost use Rattle.amqp_frame.specs.declared.units.Stage.{Stage};
-ghost use Rattle.amqp_session.specs.Calls.{Widen, Grant, Drain, Take, Settle, Detach};
+ghost use Rattle.amqp_session.specs.Calls.{Widen, Grant, Drain, Take, Settle, SettleRange, Detach};
 ghost use Rattle.amqp_session.specs.Places.{live_in};
 ghost use Rattle.amqp_endpoint.specs.Calls.{output_size, open_call_fault};
 ghost use Rattle.amqp_endpoint.specs.Connections.{slot_at, is_dead};
-ghost use Rattle.amqp_endpoint.specs.Endpoints.{HasActed, IsLinkAt, accepted_by, dropped_by, handed_by};
+ghost use Rattle.amqp_endpoint.specs.Endpoints.{HasActed, IsLinkAt, accepted_by, dropped_by, named_by, handed_by};
 ghost use Rattle.amqp_endpoint.specs.Held.{held};
 ghost use Rattle.amqp_endpoint.specs.Runs.{IsStart, IsMoved, IsFinished, CallDone, CloseDone, BeatDone, end_of};
 ghost use Rattle.amqp_endpoint.specs.Steps.{AsksFor, MayRead, Comes, IsFed, told_outcome};
@@ -295,6 +295,30 @@ impl<A: Allocator + Copy> Endpoint<A> {
         ensures { CallDone self.old self.new channel (Settle id outcome) (accepted_by result) }
     {
         asking::settle(&mut self.connection, &mut self.out, channel, id, outcome)
+    }
+
+    /// Tells the sender what became of the open deliveries of a session whose ids the range from `first` to `last` covers
+    /// [2.7.6, 2.8.10], by the one disposition that it writes, and answers how many it named. Both ends are ids of open
+    /// deliveries; ids between them may be of none. In mode first that settles them; in mode second the sender settles them
+    /// [2.8.3]. Takes no memory. Refused, with nothing changed, with the first of `Dead`, `NoSession`, `NoDelivery`,
+    /// `NotTaken`, `AlreadyTold`, `MixedModes` and `Full`.
+    pub fn settle_range(
+        &mut self,
+        channel: u16,
+        first: u32,
+        last: u32,
+        outcome: Settlement,
+    ) -> Result<u32, CallFault>
+        ensures { CallDone self.old self.new channel (SettleRange first last outcome) (named_by result) }
+    {
+        asking::settle_range(
+            &mut self.connection,
+            &mut self.out,
+            channel,
+            first,
+            last,
+            outcome,
+        )
     }
 
     /// Ends the link at a handle, by the detach with closed true that it writes [2.6.6], and answers how many ready deliveries are

@@ -1,7 +1,7 @@
 //! Why a call is refused.
 
 /// Why the endpoint refuses a call of its application. Nothing has changed then. The faults are looked for in this
-/// order: `Dead`, `NotOpen`, `NoSession`, `NoLink`, `NoDelivery`, `NotTaken`, `AlreadyTold`, `NothingReady`,
+/// order: `Dead`, `NotOpen`, `NoSession`, `NoLink`, `NoDelivery`, `NotTaken`, `AlreadyTold`, `MixedModes`, `NothingReady`,
 /// `TooMuchCredit`, `WindowTooWide`, `Full`.
 #[derive(Clone, Copy, Debug, PartialEq, Eq)]
 pub enum CallFault {
@@ -17,12 +17,14 @@ pub enum CallFault {
     Full,
     /// No delivery of the link is ready.
     NothingReady,
-    /// No open delivery has the id.
+    /// No open delivery has the id, or the last id of a range is behind its first.
     NoDelivery,
-    /// The delivery was not handed up.
+    /// The delivery, or one of those that a range names, was not handed up.
     NotTaken,
-    /// The sender was told what became of the delivery, which it has to settle.
+    /// The sender was told what became of the delivery, or of one of those, which it has to settle.
     AlreadyTold,
+    /// Modes first and second are among the deliveries that a range names [2.8.3].
+    MixedModes,
     /// The connection is over, or this side has closed it.
     Dead,
     /// The connection is not open.

@@ -2,6 +2,7 @@
 ghost use Rattle.std.specs.Prelude.{◌≡◌, ◌≤◌, length};
 ghost use Rattle.amqp_perform.specs.Conditions.{condition_span};
 ghost use Rattle.amqp_perform.specs.Said.{said};
+ghost use Rattle.amqp_endpoint.specs.Fields.{named};
 ghost use Rattle.amqp_endpoint.specs.Lengths.{said_most};
 ghost use Rattle.amqp_endpoint.specs.Replies.{open_said, begin_said, end_said, close_said};
 
@@ -70,4 +71,14 @@ pub fn error(condition: Condition) -> &'static [u8]
     ensures short { length result.now ≤ 100 }
 {
     condition.span()
+}
+
+/// The name of the link that a performative begins, if it begins one.
+pub fn named<'a>(performative: &Performative<'a>) -> &'a [u8]
+    ensures { result.now ≡ named performative.now }
+{
+    match performative {
+        Performative::Attach(attach) => attach.name.as_bytes(),
+        _ => &[],
+    }
 }

@@ -12,14 +12,15 @@ ghost use Rattle.amqp_session.specs.Laws.{IsCallInRange};
 ghost use Rattle.amqp_session.specs.Sessions.{Attached, LiveLink, SessionState};
 ghost use Rattle.amqp_endpoint.specs.declared.fault.CallFault.TheVariants as refused;
 ghost use Rattle.amqp_endpoint.specs.Calls.{reply_room, call_fault, call_event, call_spoken};
-ghost use Rattle.amqp_endpoint.specs.Configs.{Configured, IsConfigured};
+ghost use Rattle.amqp_endpoint.specs.Configs.{Configured, IsConfigured, bounds_for};
 ghost use Rattle.amqp_endpoint.specs.Connections as connection;
 ghost use Rattle.amqp_endpoint.specs.Connections.{ConnectionState, ConnectionEvent, connection_after, connection_bytes, ConnectionMay, is_dead, slot_at};
 ghost use Rattle.amqp_endpoint.specs.Credits.{credit_on, granted_to};
 ghost use Rattle.amqp_endpoint.specs.Fields.{read_in, read_of};
-ghost use Rattle.amqp_endpoint.specs.Held.{held, session_count, link_count, link_most, session_parts, session_part_bytes};
+ghost use Rattle.amqp_endpoint.specs.Held.{held, session_count, channel_links_most, session_parts, session_part_bytes};
 ghost use Rattle.amqp_endpoint.specs.Lengths.{said_most};
 ghost use Rattle.amqp_perform.specs.Said.{Said, said_frame};
+ghost use Rattle.amqp_endpoint.specs.Limits.{Limit, longest, IsFound};
 ghost use Rattle.amqp_endpoint.specs.Histories.{phase_of, state_of, Sound, after_all, Accepted};
 ghost use Rattle.amqp_endpoint.specs.Lines.{line_of, event_on, fault_on, told_on};
 ghost use Rattle.amqp_endpoint.specs.Replies.{joined, reply_on};
@@ -43,7 +44,7 @@ use amqp_session::laws::{frames_are_accepted, session_begins, session_goes_on};
 
 /// What is read of a performative in hand is what its fields say [2.7].
 pub fn fields_say_the_performative()
-    ensures { (p : Performative) (payload : List ℕ) → read_in (type_of p) (performative_cells p) payload ≡ read_of p payload }
+    ensures { (config : Configured) (p : Performative) (payload : List ℕ) → read_in config (type_of p) (performative_cells p) payload ≡ read_of config p payload }
 {}
 
 /// A connection before its header is what the empty history gives.
@@ -96,10 +97,17 @@ pub fn held_is_counted()
 
 /// What a connection keeps is at most 64 for each session, and for each link what its bounds allow.
 pub fn held_is_bounded()
-    ensures { (config : Configured) (h : List ConnectionEvent) → Sound config h → connection_bytes (state_of config h) ≤ 64 * session_count (state_of config h) + link_count (state_of config h) * link_most config }
+    ensures { (config : Configured) (h : List ConnectionEvent) → Sound config h → connection_bytes (state_of config h) ≤ 64 * session_count (state_of config h) + sum_by channel_links_most (state_of config h).sessions }
 {
     session::held_is_bounded();
 }
+
+/// The limit that is found for a name is that of the longest prefix of the table with which the name begins, byte by byte; none is
+/// found exactly where it begins with none.
+#[tactic(auto, using(crate::proofs::LimitTables::longest_found))]
+pub fn the_longest_prefix_is_found()
+    ensures { (name : List ℕ) (rows : List Limit) → IsFound name rows (longest name rows) }
+{}
 
 /// How long a frame without payload is at most, by its fields.
 pub fn frames_are_as_long()
@@ -205,7 +213,7 @@ pub fn uses_are_bounded()
 pub fn what_follows_is_accepted()
     ensures take { (config : Configured) (of_channel of_handle granted messages : ℕ) (old new : EndpointState) (piece : List ℕ) (used channel handle : ℕ) → IsUsed config of_channel of_handle granted messages old → IsFed old new piece used (outcome.Event (told.Ready channel handle)) → IsAccepted new channel (Take handle) }
     ensures settle { (config : Configured) (of_channel of_handle granted messages : ℕ) (old new : EndpointState) (channel handle : ℕ) (d : runs.Handed) (fate : Fate) → IsUsed config of_channel of_handle granted messages old → Does old new (runs.InSession channel (Take handle)) (runs.HandedUp d) → d.settled ≡ false → IsAccepted new channel (Settle d.delivery_id fate) }
-    ensures grant { (config : Configured) (of_channel of_handle granted messages : ℕ) (s : EndpointState) (channel handle n : ℕ) (l : LiveLink) → IsUsed config of_channel of_handle granted messages s → link_at s.connection channel handle ≡ Live l → l.link.credit + open_count l.link + n ≤ config.bounds.allowed → IsAccepted s channel (Grant handle n) }
+    ensures grant { (config : Configured) (of_channel of_handle granted messages : ℕ) (s : EndpointState) (channel handle n : ℕ) (l : LiveLink) → IsUsed config of_channel of_handle granted messages s → link_at s.connection channel handle ≡ Live l → l.link.credit + open_count l.link + n ≤ (bounds_for config l.name).allowed → IsAccepted s channel (Grant handle n) }
     ensures widen { (config : Configured) (of_channel of_handle granted messages : ℕ) (s : EndpointState) (channel n : ℕ) (t : SessionState) → IsUsed config of_channel of_handle granted messages s → slot_at s.connection channel ≡ Live t → t.window + n < 2 ^ 31 → IsAccepted s channel (Widen n) }
 {
     connection_begins();

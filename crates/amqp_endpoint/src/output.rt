@@ -7,10 +7,11 @@ ghost use Rattle.amqp_endpoint.specs.Lengths.{said_most};
 ghost use Rattle.amqp_endpoint.specs.Calls.{output_size, reply_room, has_room, heartbeat};
 
 use crate::laws::frames_are_as_long;
+use amqp_link::LinkBounds;
 use amqp_perform::{
     Attach, Detach, Disposition, Flow, Performative, write_disposition, write_flow, write_frame,
 };
-use amqp_session::Session;
+use amqp_session::write_attach_reply;
 use circular_buffer::HeapCircularBuffer;
 use std::alloc::{AllocError, Allocator, Global};
 use std::marker::Model;
@@ -131,14 +132,13 @@ impl<A: Allocator + Copy> Output<A> {
         self.put_frame(channel, &Performative::Detach(*detach));
     }
 
-    /// Puts the answer to an attach that a session has accepted behind them [2.6.3].
-    pub fn put_attach_reply(&mut self, channel: u16, session: &Session<A>, attach: &Attach<'_>)
-        requires short { length (said_frame channel (attach_said session.now.terms.bounds.max_message_size (attaching attach.now)) []) ≤ reply_room }
-        requires room { length self.old + length (said_frame channel (attach_said session.now.terms.bounds.max_message_size (attaching attach.now)) []) ≤ output_size }
-        ensures { self.new ≡ self.old ++ said_frame channel (attach_said session.now.terms.bounds.max_message_size (attaching attach.now)) [] }
+    /// Puts the answer to an attach that was accepted behind them, whose link has these bounds [2.6.3].
+    pub fn put_attach_reply(&mut self, channel: u16, attach: &Attach<'_>, bounds: LinkBounds)
+        requires short { length (said_frame channel (attach_said bounds.max_message_size (attaching attach.now bounds)) []) ≤ reply_room }
+        requires room { length self.old + length (said_frame channel (attach_said bounds.max_message_size (attaching attach.now bounds)) []) ≤ output_size }
+        ensures { self.new ≡ self.old ++ said_frame channel (attach_said bounds.max_message_size (attaching attach.now bounds)) [] }
     {
-        let written = session.write_attach_reply(channel, attach, &mut self.scratch);
-        if let Some(len) = written {
+        if let Some(len) = write_attach_reply(channel, attach, bounds, &mut self.scratch) {
             self.pipe.fill_from_slice(&self.scratch[..len]);
         }
     }

@@ -1,7 +1,7 @@
 //! A whole run of an endpoint.
-ghost use Rattle.std.specs.Prelude.{◌≡◌, map, true, IfOk, IfErr};
-ghost use Rattle.amqp_session.specs.Calls.{Widen, Grant, Drain, Take, Settle, Detach};
-ghost use Rattle.amqp_endpoint.specs.Endpoints.{call_of, answer_of, accepted_by, dropped_by, handed_by, IsReplay};
+ghost use Rattle.std.specs.Prelude.{◌≡◌, ◌<◌, ◌^◌, map, true, IfOk, IfErr};
+ghost use Rattle.amqp_session.specs.Calls.{Widen, Grant, Drain, Take, Settle, SettleRange, Detach};
+ghost use Rattle.amqp_endpoint.specs.Endpoints.{call_of, answer_of, accepted_by, dropped_by, named_by, handed_by, IsReplay};
 ghost use Rattle.amqp_endpoint.specs.Runs.{Does, may_want};
 ghost use Rattle.amqp_endpoint.specs.Traces.{IsInRange, IsWholeRun};
 
@@ -34,15 +34,25 @@ pub fn replay<A: Allocator + Copy>(
     Ok((endpoint, answers))
 }
 
-/// A law: the bytes of a call are bytes, and its delivery-id has 32 bits.
+/// A law: the bytes of a call are bytes, and its delivery-ids have 32 bits.
 fn is_in_range(call: &Call<'_>)
     ensures { IsInRange (call_of call.now) }
 {
     match *call {
         Call::Feed(piece) => are_bytes(piece),
         Call::Settle { id, .. } => is_id(id),
+        Call::SettleRange { first, last, .. } => are_ids(first, last),
         _ => {}
     }
+}
+
+/// A law: both ends of a range have 32 bits.
+fn are_ids(first: u32, last: u32)
+    ensures first { first < 2 ^ 32 }
+    ensures last { last < 2 ^ 32 }
+{
+    is_id(first);
+    is_id(last);
 }
 
 impl<A: Allocator + Copy> Endpoint<A> {
@@ -63,6 +73,12 @@ impl<A: Allocator + Copy> Endpoint<A> {
                 id,
                 outcome,
             } => accepted(self.settle(channel, id, outcome)),
+            Call::SettleRange {
+                channel,
+                first,
+                last,
+                outcome,
+            } => named(self.settle_range(channel, first, last, outcome)),
             Call::Detach { channel, handle } => dropped(self.detach(channel, handle)),
             Call::Close => dropped(self.close()),
             Call::Heartbeat => accepted(self.heartbeat()),
@@ -89,6 +105,16 @@ fn dropped<A: Allocator + Copy>(given: Result<u32, CallFault>) -> Answer<A>
 {
     match given {
         Ok(count) => Answer::Dropped(count),
+        Err(fault) => Answer::Refused(fault),
+    }
+}
+
+/// The answer of one that gives how many deliveries it named.
+fn named<A: Allocator + Copy>(given: Result<u32, CallFault>) -> Answer<A>
+    ensures { answer_of result ≡ named_by given }
+{
+    match given {
+        Ok(count) => Answer::Named(count),
         Err(fault) => Answer::Refused(fault),
     }
 }

@@ -35,6 +35,7 @@ pub fn fault_of(fault: SessionCallFault) -> CallFault
         SessionCallFault::NoDelivery => CallFault::NoDelivery,
         SessionCallFault::NotTaken => CallFault::NotTaken,
         SessionCallFault::AlreadyTold => CallFault::AlreadyTold,
+        SessionCallFault::MixedModes => CallFault::MixedModes,
         SessionCallFault::NothingReady => CallFault::NothingReady,
         SessionCallFault::TooMuchCredit => CallFault::TooMuchCredit,
         SessionCallFault::WindowTooWide => CallFault::WindowTooWide,

@@ -5,12 +5,12 @@ ghost use Rattle.amqp_link.specs.Links.{sent_of};
 ghost use Rattle.amqp_session.specs.declared.slot.Slot.TheVariants.{Live};
 ghost use Rattle.amqp_session.specs.Answers.{said_by};
 ghost use Rattle.amqp_session.specs.Faults.{failure_answer};
-ghost use Rattle.amqp_session.specs.Frames.{Frame, Transfers, frame_of, attaching};
+ghost use Rattle.amqp_session.specs.Frames.{Frame, Transfers, attaching};
 ghost use Rattle.amqp_session.specs.Sessions.{SessionState};
 ghost use Rattle.amqp_endpoint.specs.Acting.{IsLive, IsForSession, HasDone, is_beyond, replied, attach_answered};
 ghost use Rattle.amqp_endpoint.specs.Calls.{output_size, reply_room};
 ghost use Rattle.amqp_endpoint.specs.Connections.{connection_after, channel_ready, channel_limit, slot_at, Begun, SessionEnded, SessionFailed};
-ghost use Rattle.amqp_endpoint.specs.Fields.{beginning};
+ghost use Rattle.amqp_endpoint.specs.Fields.{beginning, frame_in};
 ghost use Rattle.amqp_endpoint.specs.Lines.{begun_terms, session_line};
 ghost use Rattle.amqp_endpoint.specs.Replies.{joined, on_channel, begin_said, end_said};
 
@@ -20,6 +20,7 @@ use crate::laws::frames_are_as_long;
 use crate::output::Output;
 use crate::phase::Phase;
 use crate::{closing, frames, telling};
+use amqp_link::LinkBounds;
 use amqp_perform::{Attach, Begin, Condition, Performative, Transfer};
 use amqp_session::{Answer, Report, SessionTerms, Slot, failure, refusal_reply};
 use std::alloc::{AllocError, Allocator};
@@ -43,7 +44,6 @@ pub fn terms<A: Allocator + Copy>(connection: &Connection<A>, begin: &Begin<'_>)
         next_outgoing_id: begin.next_outgoing_id,
         handle_max,
         max_frame_size,
-        bounds: config.bounds(),
     }
 }
 
@@ -123,8 +123,8 @@ pub fn frame<A: Allocator + Copy>(
     requires room { length out.old + reply_room ≤ output_size }
     requires channel { channel ≤ connection.old.config.channel_max }
     requires live { IsLive (slot_at connection.old channel) }
-    requires session { IsForSession (frame_of performative.now payload.now) }
-    ensures { (s : SessionState) (f : Frame) → slot_at connection.old channel ≡ Live s → frame_of performative.now payload.now ≡ Some f
+    requires session { IsForSession (frame_in connection.old.config performative.now payload.now) }
+    ensures { (s : SessionState) (f : Frame) → slot_at connection.old channel ≡ Live s → frame_in connection.old.config performative.now payload.now ≡ Some f
         → HasDone connection.old connection.new out.old out.new (session_line channel s f) result }
 {
     frames_are_as_long();
@@ -214,11 +214,14 @@ fn answer<A: Allocator + Copy>(
 )
     requires room { length out.old + reply_room ≤ output_size }
     requires channel { channel ≤ connection.now.config.channel_max }
-    requires short { length (joined (on_channel channel (replied (slot_at connection.now channel) performative.now answer.now))) ≤ reply_room }
-    ensures { out.new ≡ out.old ++ joined (on_channel channel (replied (slot_at connection.now channel) performative.now answer.now)) }
+    requires short { length (joined (on_channel channel (replied connection.now.config performative.now answer.now))) ≤ reply_room }
+    ensures { out.new ≡ out.old ++ joined (on_channel channel (replied connection.now.config performative.now answer.now)) }
 {
     match performative {
-        Performative::Attach(attach) => answer_attach(connection, out, channel, attach, answer),
+        Performative::Attach(attach) => {
+            let bounds = connection.config().bounds_for(attach.name.as_bytes());
+            answer_attach(out, channel, attach, bounds, answer)
+        }
         _ => answer_alone(out, channel, answer),
     }
 }
@@ -238,25 +241,20 @@ fn answer_alone<A: Allocator + Copy>(out: &mut Output<A>, channel: u8, answer: &
     }
 }
 
-/// Writes the answer to an attach that the session on a channel has taken [2.6.3].
+/// Writes the answer to an attach that its session has taken, whose link has these bounds [2.6.3].
 fn answer_attach<A: Allocator + Copy>(
-    connection: &Connection<A>,
     out: &mut Output<A>,
     channel: u8,
     attach: &Attach<'_>,
+    bounds: LinkBounds,
     answer: &Answer,
 )
     requires room { length out.old + reply_room ≤ output_size }
-    requires channel { channel ≤ connection.now.config.channel_max }
-    requires short { length (joined (on_channel channel (attach_answered (slot_at connection.now channel) (attaching attach.now) answer.now))) ≤ reply_room }
-    ensures { out.new ≡ out.old ++ joined (on_channel channel (attach_answered (slot_at connection.now channel) (attaching attach.now) answer.now)) }
+    requires short { length (joined (on_channel channel (attach_answered (attaching attach.now bounds) answer.now))) ≤ reply_room }
+    ensures { out.new ≡ out.old ++ joined (on_channel channel (attach_answered (attaching attach.now bounds) answer.now)) }
 {
     match answer {
-        Answer::Attach => {
-            if let Slot::Live(kept) = connection.place(channel) {
-                out.put_attach_reply(channel as u16, kept.session(), attach);
-            }
-        }
+        Answer::Attach => out.put_attach_reply(channel as u16, attach, bounds),
         Answer::Refusal(detach) => {
             out.put_frame(channel as u16, &Performative::Attach(refusal_reply(attach)));
             out.put_detach(channel as u16, detach);

@@ -12,6 +12,7 @@ pub fn write_answer(alloc: Global, out: &mut String, answer: &Answer) -> Result<
         Answer::Fed(fed) => write_fed(out, *fed)?,
         Answer::Accepted => out.push_str("ok")?,
         Answer::Dropped(dropped) => write!(out, "ok dropped={dropped}")?,
+        Answer::Named(named) => write!(out, "ok settled={named}")?,
         Answer::HandedUp(taken) => write_taken(alloc, out, taken)?,
         Answer::Refused(fault) => write!(out, "refused {fault:?}")?,
         Answer::MovedOut(bytes) => write!(out, "output {}", hex::encode(alloc, bytes)?)?,

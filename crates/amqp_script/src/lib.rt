@@ -6,7 +6,9 @@
 #![tactic(auto)]
 
 mod answers;
+mod limits;
 mod lines;
 mod replay;
 
+pub use limits::read_limits;
 pub use replay::{ScriptFault, replay_script};

@@ -1,6 +1,6 @@
 //! The lines of a script: what they set up and ask for. Words are parted by one space.
 
-use amqp_endpoint::{Call, Config};
+use amqp_endpoint::{Call, Config, LinkLimit};
 use amqp_perform::Outcome;
 use std::alloc::{AllocError, Global};
 
@@ -109,7 +109,7 @@ fn settings_of(line: &str) -> Option<Settings<'_>> {
 
 impl Settings<'_> {
     fn checked(&self, alloc: Global) -> Result<Option<Config>, AllocError> {
-        if !self.id.bytes().all(|byte| byte.is_ascii_graphic()) {
+        if !is_printed(self.id) {
             return Ok(None);
         }
         Ok(Config::checked(
@@ -122,6 +122,45 @@ impl Settings<'_> {
             self.window,
         ))
     }
+}
+
+/// Whether a text is printable ASCII without spaces.
+fn is_printed(text: &str) -> bool {
+    text.bytes().all(|byte| byte.is_ascii_graphic())
+}
+
+/// The limit that a row `PREFIX ALLOWED MAX_MESSAGE` sets. None where it is no such row.
+pub fn row_of(alloc: Global, row: &str) -> Result<Option<LinkLimit>, AllocError> {
+    match row_words(row) {
+        Some(row) => Ok(Some(LinkLimit {
+            prefix: Vec::from_slice(alloc, row.prefix.as_bytes())?,
+            allowed: row.allowed,
+            max_message: row.max_message,
+        })),
+        None => Ok(None),
+    }
+}
+
+/// The words of a row.
+#[derive(Drop)]
+struct Row<'a> {
+    prefix: &'a str,
+    allowed: u32,
+    max_message: u32,
+}
+
+fn row_words(row: &str) -> Option<Row<'_>> {
+    let mut words = Words::of(row);
+    let prefix = words.word()?;
+    if !is_printed(prefix) {
+        return None;
+    }
+    let row = Row {
+        prefix,
+        allowed: words.number()?,
+        max_message: words.number()?,
+    };
+    words.end(row)
 }
 
 /// The hex text of a `feed` that has one: pairs of digits.
@@ -175,6 +214,12 @@ fn session_call<'a>(name: &str, words: &mut Words<'_>) -> Option<Call<'a>> {
         "settle" => Call::Settle {
             channel,
             id: words.number()?,
+            outcome: words.outcome()?,
+        },
+        "settle-range" => Call::SettleRange {
+            channel,
+            first: words.number()?,
+            last: words.number()?,
             outcome: words.outcome()?,
         },
         "detach" => Call::Detach {

@@ -6,6 +6,7 @@ ghost use Rattle.amqp_frame.specs.Devices.{device_inner, has_failed};
 ghost use Rattle.amqp_script.specs.declared.replay.ScriptFault.TheVariants.{NoMemory};
 
 use crate::answers::write_answer;
+use crate::limits::{limits_of, line_of};
 use crate::lines::{call_of, config_of, fed};
 use amqp_endpoint::{Config, Endpoint};
 use amqp_frame::Device;
@@ -61,12 +62,12 @@ pub fn replay_script<R: Read + Drop, W: Write + Drop>(
 {
     let script = read_script(alloc, reader)?;
     let lines = lines_of(alloc, &script)?;
-    let config = check(alloc, &lines)?;
-    run(alloc, config, &lines, writer)
+    let setup = check(alloc, &lines)?;
+    run(alloc, setup, &lines, writer)
 }
 
 /// All bytes of a script.
-fn read_script<R: Read + Drop>(
+pub fn read_script<R: Read + Drop>(
     alloc: Global,
     reader: &mut Device<R>,
 ) -> Result<Vec<u8>, ScriptFault>
@@ -87,7 +88,7 @@ fn read_script<R: Read + Drop>(
 }
 
 /// The lines of a script, of which the last may lack its newline.
-fn lines_of(alloc: Global, script: &[u8]) -> Result<Vec<&[u8]>, AllocError> {
+pub fn lines_of(alloc: Global, script: &[u8]) -> Result<Vec<&[u8]>, AllocError> {
     let text = script.strip_suffix(b"\n".as_slice()).unwrap_or(script);
     let mut lines = Vec::new(alloc);
     for line in text.split(|byte| *byte == b'\n') {
@@ -96,32 +97,61 @@ fn lines_of(alloc: Global, script: &[u8]) -> Result<Vec<&[u8]>, AllocError> {
     Ok(lines)
 }
 
-/// What the first line sets up, where all lines are those of a script.
-fn check(alloc: Global, lines: &[&[u8]]) -> Result<Config, ScriptFault>
+/// The settings of a script, and how many of its lines give them.
+#[derive(Drop)]
+struct Setup {
+    config: Config,
+    lines: usize,
+}
+
+/// What the first lines set up, where all lines are those of a script.
+fn check(alloc: Global, lines: &[&[u8]]) -> Result<Setup, ScriptFault>
     ensures read { result ≢ Err ScriptFault.Read }
     ensures write { result ≢ Err ScriptFault.Write }
     ensures line { (n : ℕ) → result ≡ Err (ScriptFault.Line n) → 1 ≤ n }
 {
-    let mut config = None;
-    for (index, line) in lines.iter().enumerate() {
+    let setup = set_up(alloc, lines)?;
+    for (index, line) in lines.iter().enumerate().skip(setup.lines) {
         let number = index.saturating_add(1);
-        let text = str::from_utf8(line).or(Err(ScriptFault::Line(number)))?;
-        if index == 0 {
-            config = config_of(alloc, text)?;
-        } else if call_of(text, &[]).is_none() {
-            return Err(ScriptFault::Line(number));
-        }
-        if config.is_none() {
+        if call_of(text_of(line, number)?, &[]).is_none() {
             return Err(ScriptFault::Line(number));
         }
     }
-    config.ok_or(ScriptFault::Line(1))
+    Ok(setup)
 }
 
-/// Runs the lines, of which the first asks for nothing, and writes the line of each answer.
+/// What the first line sets up, and those of limits behind it.
+fn set_up(alloc: Global, lines: &[&[u8]]) -> Result<Setup, ScriptFault>
+    ensures read { result ≢ Err ScriptFault.Read }
+    ensures write { result ≢ Err ScriptFault.Write }
+    ensures line { (n : ℕ) → result ≡ Err (ScriptFault.Line n) → 1 ≤ n }
+{
+    let Some((first, rest)) = lines.split_first() else {
+        return Err(ScriptFault::Line(1));
+    };
+    let config = config_of(alloc, text_of(first, 1)?)?.ok_or(ScriptFault::Line(1))?;
+    let limits = limits_of(alloc, rest, "limit ")?;
+    let lines = limits.len().saturating_add(1);
+    match config.with_limits(limits) {
+        Ok(config) => Ok(Setup { config, lines }),
+        Err((fault, _, _)) => Err(ScriptFault::Line(line_of(fault, 2))),
+    }
+}
+
+/// The text of the line of this number.
+fn text_of(line: &[u8], number: usize) -> Result<&str, ScriptFault>
+    requires { 1 ≤ number }
+    ensures read { result ≢ Err ScriptFault.Read }
+    ensures write { result ≢ Err ScriptFault.Write }
+    ensures line { (n : ℕ) → result ≡ Err (ScriptFault.Line n) → 1 ≤ n }
+{
+    str::from_utf8(line).or(Err(ScriptFault::Line(number)))
+}
+
+/// Runs the lines, of which the first ones ask for nothing, and writes the line of each answer.
 fn run<W: Write + Drop>(
     alloc: Global,
-    config: Config,
+    setup: Setup,
     lines: &[&[u8]],
     writer: &mut Device<W>,
 ) -> Result<(), ScriptFault>
@@ -130,8 +160,12 @@ fn run<W: Write + Drop>(
     ensures write { (result ≡ Err ScriptFault.Write) ↔ IsTrue (has_failed writer.new) }
     ensures line { (n : ℕ) → result ≢ Err (ScriptFault.Line n) }
 {
+    let Setup {
+        config,
+        lines: first,
+    } = setup;
     let mut endpoint = Endpoint::new(alloc, config)?;
-    for line in lines {
+    for line in lines.iter().skip(first) {
         let answer = answer_to(alloc, &mut endpoint, line)?;
         write_out(answer.as_bytes(), writer)?;
     }

@@ -36,7 +36,7 @@ use Rattle.amqp_endpoint.specs.Connections as event
 use Rattle.amqp_endpoint.specs.Connections.{ConnectionState, ConnectionEvent, connection_after, channels, slot_at, is_closing, is_dead}
 use Rattle.amqp_endpoint.specs.Lines as line
 use Rattle.amqp_endpoint.specs.Lines.{Line, line_of, event_on, told_on, report_told, frame_line, is_read_close}
-use Rattle.amqp_endpoint.specs.Runs.{Answer, Refused, Fed, Accepted, Dropped, HandedUp, MovedOut, Holds, Ended, Call, CallDone, Does, IsStart}
+use Rattle.amqp_endpoint.specs.Runs.{Answer, Refused, Fed, Accepted, Dropped, Named, HandedUp, MovedOut, Holds, Ended, Call, CallDone, Does, IsStart}
 use Rattle.amqp_endpoint.specs.Steps as steps
 use Rattle.amqp_endpoint.specs.Steps.{EndpointState, IsFed, Acts, acted_after, room_for, told_outcome}
 use Rattle.amqp_endpoint.specs.Takings.{link_in, link_at}
@@ -290,6 +290,7 @@ call_comes s t channel c (Refused fault) d = inl (fault, d.0, d.1.connection)
 call_comes s t channel c (Fed used told) d = inr d.1.connection
 call_comes s t channel c Accepted d = inr d.1.connection
 call_comes s t channel c (Dropped n) d = inr d.1.connection
+call_comes s t channel c (Named n) d = inr d.1.connection
 call_comes s t channel c (HandedUp h) d = inr d.1.connection
 call_comes s t channel c (MovedOut bytes) d = inr d.1.connection
 call_comes s t channel c (Holds n) d = inr d.1.connection

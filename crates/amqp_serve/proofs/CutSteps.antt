@@ -15,7 +15,7 @@ use Rattle.amqp_endpoint.specs.Configs.{Configured}
 use Rattle.amqp_endpoint.specs.Connections.{ConnectionState, connection_after, slot_at}
 use Rattle.amqp_serve.specs.Cuts.{Made, called_by, called, answered_by, answer_at, supply_channel, call_for, topped_by, all_topped, topped_up, done_taken, done_from}
 use Rattle.amqp_endpoint.specs.Replies.{joined}
-use Rattle.amqp_endpoint.specs.Runs.{Call, InSession, Answer, Fed, Accepted, Dropped, HandedUp, Refused, MovedOut, Holds, Ended, Does}
+use Rattle.amqp_endpoint.specs.Runs.{Call, InSession, Answer, Fed, Accepted, Dropped, Named, HandedUp, Refused, MovedOut, Holds, Ended, Does}
 use Rattle.amqp_endpoint.specs.Runs.{CallDone, IsMoved, IsWritten, accepted_answer}
 use Rattle.amqp_endpoint.specs.Traces.{moved_by}
 use Rattle.amqp_serve.specs.Serving.{Supply, WindowOf, CreditOf, lack, top_up_by, all_supplies, Stand, ToppingUp, Receiving, Settling, stand_told, stand_taken, recorded_by}
@@ -48,6 +48,7 @@ none_recorded channel (session.Grant handle n) fault = refl
 none_recorded channel (session.Drain handle) fault = refl
 none_recorded channel (session.Take handle) fault = refl
 none_recorded channel (session.Settle id outcome) fault = refl
+none_recorded channel (session.SettleRange first last outcome) fault = refl
 none_recorded channel (session.Detach handle) fault = refl
 
 module _ (s t : EndpointState) (channel : ℕ) (c : session.Call) (w r : List ℕ) where
@@ -82,6 +83,7 @@ module _ (s t : EndpointState) (channel : ℕ) (c : session.Call) (w r : List �
   call_made (Fed used told) same d = accepted_made (Fed used told) (sym same ∙ d.0) d.1 d.2
   call_made Accepted same d = accepted_made Accepted (sym same ∙ d.0) d.1 d.2
   call_made (Dropped n) same d = accepted_made (Dropped n) (sym same ∙ d.0) d.1 d.2
+  call_made (Named n) same d = accepted_made (Named n) (sym same ∙ d.0) d.1 d.2
   call_made (HandedUp h) same d = accepted_made (HandedUp h) (sym same ∙ d.0) d.1 d.2
   call_made (MovedOut bytes) same d = accepted_made (MovedOut bytes) (sym same ∙ d.0) d.1 d.2
   call_made (Holds n) same d = accepted_made (Holds n) (sym same ∙ d.0) d.1 d.2

@@ -58,7 +58,7 @@ slot_went s channel place e = got_at session_begins session_after channel place 
 -- by what stands at its channel
 abbrev pub lack_in : Policy → Configured → Slot SessionState → Supply → ℕ
 lack_in p config x (WindowOf channel) = window_lack config.window x
-lack_in p config x (CreditOf channel handle) = credit_lack p.credit config.bounds.allowed (link_in handle x)
+lack_in p config x (CreditOf channel handle) = credit_lack p.credit (link_in handle x)
 
 abbrev fault_in : Phase → Slot SessionState → session.Call → Option CallFault
 fault_in phase x c = or_else (where_so (is_dead phase || is_closing phase) refused.Dead) (or_else (at_session x c) (if writes c then full_fault [] else None))
@@ -120,14 +120,14 @@ lack_after p config Free supply n e = absurd (absent (lives_there p config Free 
     absent f = absurd (grind (arith, f))
 lack_after p config (Live s) (WindowOf channel) n e = window_enough s.window config.window n e
 lack_after p config (Live s) (CreditOf channel handle) n e =
-    ap (λ (y : Slot LiveLink). credit_lack p.credit config.bounds.allowed y)
+    ap (λ (y : Slot LiveLink). credit_lack p.credit y)
     (got_at live_begins live_after handle handle (Granted (suc n)) s.links
     ∙ ap (λ (b : Bool). if b then slot_map (λ l. live_after l (Granted (suc n))) (one.slot_at s handle) else one.slot_at s handle) (eq-eqb handle handle refl))
     ∙ by (one.slot_at s handle) e
   where
-    by : (y : Slot LiveLink) → credit_lack p.credit config.bounds.allowed y ≡ suc n → credit_lack p.credit config.bounds.allowed (slot_map (λ l. live_after l (Granted (suc n))) y) ≡ 0
+    by : (y : Slot LiveLink) → credit_lack p.credit y ≡ suc n → credit_lack p.credit (slot_map (λ l. live_after l (Granted (suc n))) y) ≡ 0
     by Free f = absurd (omega (arith, f))
-    by (Live l) f = credit_enough p.credit config.bounds.allowed l.link.credit (open_count l.link) n f
+    by (Live l) f = credit_enough p.credit l.link.terms.bounds.allowed l.link.credit (open_count l.link) n f
     by Waits f = absurd (omega (arith, f))
 lack_after p config Waits supply n e = absurd (absent (lives_there p config Waits supply n e).1)
   where
@@ -146,10 +146,10 @@ not_given p config phase x supply n (inr f) e none =
 -- the same of a link
 abbrev StillLink : Policy → Configured → Phase → Slot LiveLink → Type 0
 StillLink p config phase y =
-    (credit_lack p.credit config.bounds.allowed y ≡ 0)
+    (credit_lack p.credit y ≡ 0)
     ⊎ ((fault : CallFault)
     × (or_else (where_so (is_dead phase || is_closing phase) refused.Dead)
-    (or_else (of_option (session.at_link y (λ l. where_so (nat_lt l.terms.bounds.allowed (l.credit + open_count l + credit_lack p.credit config.bounds.allowed y)) of_session.TooMuchCredit)))
+    (or_else (of_option (session.at_link y (λ l. where_so (nat_lt l.terms.bounds.allowed (l.credit + open_count l + credit_lack p.credit y)) of_session.TooMuchCredit)))
     (full_fault []))
     ≡ Some fault))
 

@@ -30,7 +30,7 @@ use Rattle.amqp_endpoint.proofs.Endpoints.{free_at}
 -- a new connection lacks nothing
 new_still : (p : Policy) (config : Configured) (supply : Supply) → Still p (connection_begins config) supply
 new_still p config (WindowOf channel) = inl (ap (λ (x : Slot SessionState). window_lack config.window x) (free_at 0 (channels config) channel))
-new_still p config (CreditOf channel handle) = inl (ap (λ (x : Slot SessionState). credit_lack p.credit config.bounds.allowed (link_in handle x)) (free_at 0 (channels config) channel))
+new_still p config (CreditOf channel handle) = inl (ap (λ (x : Slot SessionState). credit_lack p.credit (link_in handle x)) (free_at 0 (channels config) channel))
 
 all_new : (p : Policy) (config : Configured) (supplies : List Supply) → AreStill p (connection_begins config) supplies
 all_new p config [] = tt

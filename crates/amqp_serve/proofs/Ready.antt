@@ -148,6 +148,7 @@ called_makes s (session.Grant handle n) h = both_same (nat_eq handle h) 0
 called_makes s (session.Drain handle) h = both_same (nat_eq handle h) 0
 called_makes s (session.Take handle) h = taken_makes handle (one.slot_at s handle) h
 called_makes s (session.Settle id outcome) h = refl
+called_makes s (session.SettleRange first last outcome) h = refl
 called_makes s (session.Detach handle) h = refl
 
 -- no call makes anything ready

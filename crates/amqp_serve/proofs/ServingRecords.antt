@@ -3,10 +3,10 @@ use Rattle.std.proofs.Common.{◌≡◌, ℕ, List, [], ◌∷◌, ◌++◌, ref
 use Rattle.std.proofs.lemmas.Grind.{flat_map-append}
 use Rattle.std.specs.List.{flat_map}
 use Rattle.amqp_session.specs.Calls as session
-use Rattle.amqp_session.specs.Calls.{Widen, Grant, Drain, Take, Settle, Detach}
+use Rattle.amqp_session.specs.Calls.{Widen, Grant, Drain, Take, Settle, SettleRange, Detach}
 use Rattle.amqp_endpoint.specs.declared.event.Outcome.{Outcome}
 use Rattle.amqp_endpoint.specs.declared.event.Outcome.TheVariants as outcome
-use Rattle.amqp_endpoint.specs.Runs.{Call, Feed, InSession, Close, Heartbeat, Output, Held, Finish, Handed, Answer, Fed, Accepted, Dropped, HandedUp, Refused, MovedOut, Holds, Ended}
+use Rattle.amqp_endpoint.specs.Runs.{Call, Feed, InSession, Close, Heartbeat, Output, Held, Finish, Handed, Answer, Fed, Accepted, Dropped, Named, HandedUp, Refused, MovedOut, Holds, Ended}
 use Rattle.amqp_serve.specs.Serving.{Step, recorded_by, recorded, record_of, calls_of, answers_of}
 use Rattle.amqp_endpoint.specs.Traces.{Told, event_in, told_by, heard, handed_to, message_in}
 
@@ -29,6 +29,7 @@ silent : (channel : ℕ) (c : session.Call) (a : Answer) → ((d : Handed) → h
 silent channel c (Fed used o) none = refl
 silent channel c Accepted none = refl
 silent channel c (Dropped n) none = refl
+silent channel c (Named n) none = refl
 silent channel c (HandedUp d) none = sym (ap (λ (ms : List (ℕ × ℕ × Handed)). records (ms ++ [])) (none d))
 silent channel c (Refused f) none = refl
 silent channel c (MovedOut b) none = refl
@@ -39,6 +40,7 @@ one : (call : Call) (a : Answer) → recorded_by call a ≡ noted (told_by call 
 one (Feed piece) (Fed used o) = fed_nothing o
 one (Feed piece) Accepted = refl
 one (Feed piece) (Dropped n) = refl
+one (Feed piece) (Named n) = refl
 one (Feed piece) (HandedUp d) = refl
 one (Feed piece) (Refused f) = refl
 one (Feed piece) (MovedOut b) = refl
@@ -48,10 +50,12 @@ one (InSession channel (Widen n)) a = silent channel (Widen n) a (λ d. refl)
 one (InSession channel (Grant handle n)) a = silent channel (Grant handle n) a (λ d. refl)
 one (InSession channel (Drain handle)) a = silent channel (Drain handle) a (λ d. refl)
 one (InSession channel (Settle id o)) a = silent channel (Settle id o) a (λ d. refl)
+one (InSession channel (SettleRange first last o)) a = silent channel (SettleRange first last o) a (λ d. refl)
 one (InSession channel (Detach handle)) a = silent channel (Detach handle) a (λ d. refl)
 one (InSession channel (Take handle)) (Fed used o) = refl
 one (InSession channel (Take handle)) Accepted = refl
 one (InSession channel (Take handle)) (Dropped n) = refl
+one (InSession channel (Take handle)) (Named n) = refl
 one (InSession channel (Take handle)) (HandedUp d) = sym (append-nil (record_of channel handle d))
 one (InSession channel (Take handle)) (Refused f) = refl
 one (InSession channel (Take handle)) (MovedOut b) = refl
@@ -60,6 +64,7 @@ one (InSession channel (Take handle)) (Ended e) = refl
 one Close (Fed used o) = refl
 one Close Accepted = refl
 one Close (Dropped n) = refl
+one Close (Named n) = refl
 one Close (HandedUp d) = refl
 one Close (Refused f) = refl
 one Close (MovedOut b) = refl
@@ -68,6 +73,7 @@ one Close (Ended e) = refl
 one Heartbeat (Fed used o) = refl
 one Heartbeat Accepted = refl
 one Heartbeat (Dropped n) = refl
+one Heartbeat (Named n) = refl
 one Heartbeat (HandedUp d) = refl
 one Heartbeat (Refused f) = refl
 one Heartbeat (MovedOut b) = refl

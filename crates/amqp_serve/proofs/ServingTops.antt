@@ -15,7 +15,7 @@ use Rattle.amqp_serve.specs.declared.serving.Policy.{Policy}
 use Rattle.amqp_endpoint.specs.Configs.{Configured}
 use Rattle.amqp_endpoint.specs.Connections.{ConnectionState, slot_at}
 use Rattle.amqp_endpoint.specs.Endpoints.{accepted_by}
-use Rattle.amqp_endpoint.specs.Runs.{Answer, Fed, Accepted, Dropped, HandedUp, Refused, MovedOut, Holds, Ended, CallDone}
+use Rattle.amqp_endpoint.specs.Runs.{Answer, Fed, Accepted, Dropped, Named, HandedUp, Refused, MovedOut, Holds, Ended, CallDone}
 use Rattle.amqp_endpoint.specs.Takings.{link_in}
 use Rattle.amqp_endpoint.specs.Traces.{moved_by}
 use Rattle.amqp_serve.specs.Serving.{Supply, WindowOf, CreditOf, window_lack, credit_lack, lack, session_supplies, all_supplies_from, Stand, ToppingUp, all_supplies, Serves, Rests, TopsUp, Passes, Works}
@@ -29,6 +29,7 @@ call_keeps s t channel c (Refused fault) d = d.1.input
 call_keeps s t channel c (Fed used told) d = d.1.input
 call_keeps s t channel c Accepted d = d.1.input
 call_keeps s t channel c (Dropped n) d = d.1.input
+call_keeps s t channel c (Named n) d = d.1.input
 call_keeps s t channel c (HandedUp h) d = d.1.input
 call_keeps s t channel c (MovedOut bytes) d = d.1.input
 call_keeps s t channel c (Holds n) d = d.1.input
@@ -51,7 +52,7 @@ window_topped p rest s t channel n r w k none some is done =
 
 -- a link is granted what it lacks
 pub credit_topped : (p : Policy) (rest : List Supply) (s t : EndpointState) (channel handle n : ℕ) (r : Result (Unit {0}) CallFault) (w k : Option (List ℕ))
-    → s.unsent ≡ [] → 0 < n → n ≡ credit_lack p.credit s.connection.config.bounds.allowed (link_in handle (slot_at s.connection channel)) → CallDone s t channel (Grant handle n) (accepted_by r)
+    → s.unsent ≡ [] → 0 < n → n ≡ credit_lack p.credit (link_in handle (slot_at s.connection channel)) → CallDone s t channel (Grant handle n) (accepted_by r)
     → Works p (ToppingUp (CreditOf channel handle ∷ rest)) (ToppingUp rest) s t w w k k
 credit_topped p rest s t channel handle n r w k none some is done =
     let lacks : 0 < lack p s.connection (CreditOf channel handle) = subst (λ (m : ℕ). 0 < m) is some in
@@ -82,16 +83,16 @@ no_window window Free h = refl
 no_window window (Live s) h = absurd h
 no_window window Awaits h = refl
 
-no_credit : (credit allowed handle : ℕ) (x : Slot SessionState) → IsNotLive x → credit_lack credit allowed (link_in handle x) ≡ 0
-no_credit credit allowed handle Free h = refl
-no_credit credit allowed handle (Live s) h = absurd h
-no_credit credit allowed handle Awaits h = refl
+no_credit : (credit handle : ℕ) (x : Slot SessionState) → IsNotLive x → credit_lack credit (link_in handle x) ≡ 0
+no_credit credit handle Free h = refl
+no_credit credit handle (Live s) h = absurd h
+no_credit credit handle Awaits h = refl
 
 -- where no session is live nothing is lacking
 pub not_live_supplied : (p : Policy) (handles channel : ℕ) (s : ConnectionState) → IsNotLive (slot_at s channel) → IsSuppliedAt p handles channel s
 not_live_supplied p handles channel s h = record {
   window = no_window s.config.window (slot_at s channel) h;
-  credit = λ handle l. no_credit p.credit s.config.bounds.allowed handle (slot_at s channel) h;
+  credit = λ handle l. no_credit p.credit handle (slot_at s channel) h;
 }
 
 credits_passed : (p : Policy) (rest : List Supply) (s : EndpointState) (channel i n : ℕ) → ((h : ℕ) → h < i + n → lack p s.connection (CreditOf channel h) ≡ 0)

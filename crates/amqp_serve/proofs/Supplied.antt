@@ -27,7 +27,7 @@ use Rattle.amqp_endpoint.specs.Connections.{ConnectionState, ConnectionEvent, co
 use Rattle.amqp_endpoint.specs.Endpoints.{accepted_by}
 use Rattle.amqp_endpoint.specs.Lines as line
 use Rattle.amqp_endpoint.specs.Lines.{Line, line_of, event_on, told_on, report_told}
-use Rattle.amqp_endpoint.specs.Runs.{Answer, Accepted, CallDone, IsWritten, Refused, Fed, Dropped, HandedUp, MovedOut, Holds, Ended}
+use Rattle.amqp_endpoint.specs.Runs.{Answer, Accepted, CallDone, IsWritten, Refused, Fed, Dropped, Named, HandedUp, MovedOut, Holds, Ended}
 use Rattle.amqp_endpoint.specs.Steps.{EndpointState, IsFed, Acts, acted_after, acted_outcome, room_for, told_outcome}
 use Rattle.amqp_endpoint.specs.Takings.{link_in}
 use Rattle.amqp_serve.specs.declared.serving.Policy.{Policy}
@@ -43,9 +43,7 @@ use Rattle.amqp_serve.proofs.ServingTops.{all_from, places_none, channels_passed
 -- a lack is of its session alone
 lack_same : (p : Policy) (s t : ConnectionState) (x : Supply) → t.config ≡ s.config → slot_at t (supply_channel x) ≡ slot_at s (supply_channel x) → lack p t x ≡ lack p s x
 lack_same p s t (WindowOf c) config same = ap (λ (k : Configured). window_lack k.window (slot_at t c)) config ∙ ap (window_lack s.config.window) same
-lack_same p s t (CreditOf c h) config same =
-    ap (λ (k : Configured). credit_lack p.credit k.bounds.allowed (link_in h (slot_at t c))) config
-    ∙ ap (λ (y : Slot SessionState). credit_lack p.credit s.config.bounds.allowed (link_in h y)) same
+lack_same p s t (CreditOf c h) config same = ap (λ (y : Slot SessionState). credit_lack p.credit (link_in h y)) same
 
 -- what happens elsewhere leaves what stands at a channel
 slot_elsewhere : (s : ConnectionState) (e : ConnectionEvent) (k : ℕ) → IsElsewhere k (happens e) → slot_at (connection_after s e) k ≡ slot_at s k
@@ -88,6 +86,7 @@ call_only p s t channel c (Refused fault) d = only_same p channel s.connection t
 call_only p s t channel c (Fed used told) d = written_only p s t channel c _ d.1
 call_only p s t channel c Accepted d = written_only p s t channel c _ d.1
 call_only p s t channel c (Dropped n) d = written_only p s t channel c _ d.1
+call_only p s t channel c (Named n) d = written_only p s t channel c _ d.1
 call_only p s t channel c (HandedUp h) d = written_only p s t channel c _ d.1
 call_only p s t channel c (MovedOut bytes) d = written_only p s t channel c _ d.1
 call_only p s t channel c (Holds n) d = written_only p s t channel c _ d.1
@@ -99,11 +98,11 @@ call_only p s t channel c (Ended end) d = written_only p s t channel c _ d.1
 given_other : (p : Policy) (config : Configured) (u : SessionState) (supply other : Supply) (n : ℕ) → supply_channel supply ≡ supply_channel other → (other ≡ supply → ⊥) →
     lack_in p config (Live (session_after u (gift supply n))) other ≡ lack_in p config (Live u) other
 given_other p config u (WindowOf c) (WindowOf k) n same away = absurd (away (ap (λ (i : ℕ). WindowOf i) (sym same)))
-given_other p config u (WindowOf c) (CreditOf k h) n same away = ap (λ (y : Slot LiveLink). credit_lack p.credit config.bounds.allowed y) (lives.slot_elsewhere u h (one.Widened n) tt)
+given_other p config u (WindowOf c) (CreditOf k h) n same away = ap (λ (y : Slot LiveLink). credit_lack p.credit y) (lives.slot_elsewhere u h (one.Widened n) tt)
 given_other p config u (CreditOf c h) (WindowOf k) n same away =
     let window : u.window + 0 - 0 ≡ u.window = omega arith in ap (λ (w : ℕ). window_lack config.window (Live (record u { window = w }))) window
 given_other p config u (CreditOf c h) (CreditOf k j) n same away =
-    ap (λ (y : Slot LiveLink). credit_lack p.credit config.bounds.allowed y)
+    ap (λ (y : Slot LiveLink). credit_lack p.credit y)
     (lives.slot_elsewhere u j (one.Called h (Granted n)) (λ e. away (ap (λ (i : ℕ). CreditOf i j) (sym same) ∙ ap (λ (i : ℕ). CreditOf c i) (sym e))))
 
 went_other : (p : Policy) (config : Configured) (b : Bool) (x : Slot SessionState) (supply other : Supply) (n : ℕ) → (b ≡ true → supply_channel supply ≡ supply_channel other) →

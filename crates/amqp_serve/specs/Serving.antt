@@ -40,14 +40,14 @@ window_lack window (Live s) = if nat_le (2 * s.window) window then window - s.wi
 window_lack window Awaits = 0
 
 -- A link lacks what its credit is short of the policy's, within what it is allowed beside its credit and its open deliveries.
-abbrev pub credit_lack : ℕ → ℕ → Slot LiveLink → ℕ
-credit_lack credit allowed Free = 0
-credit_lack credit allowed (Live l) = min (credit - l.link.credit) (allowed - l.link.credit - open_count l.link)
-credit_lack credit allowed Awaits = 0
+abbrev pub credit_lack : ℕ → Slot LiveLink → ℕ
+credit_lack credit Free = 0
+credit_lack credit (Live l) = min (credit - l.link.credit) (l.link.terms.bounds.allowed - l.link.credit - open_count l.link)
+credit_lack credit Awaits = 0
 
 abbrev pub lack : Policy → ConnectionState → Supply → ℕ
 lack p s (WindowOf channel) = window_lack s.config.window (slot_at s channel)
-lack p s (CreditOf channel handle) = credit_lack p.credit s.config.bounds.allowed (link_in handle (slot_at s channel))
+lack p s (CreditOf channel handle) = credit_lack p.credit (link_in handle (slot_at s channel))
 
 -- the call that gives a supply so much
 abbrev pub top_up_by : Supply → ℕ → Call

@@ -173,13 +173,14 @@ fn missing_credit<A: Allocator + Copy>(
     handle: u32,
     credit: u32,
 ) -> u32
-    ensures { result ≡ credit_lack credit endpoint.now.connection.config.bounds.allowed (link_in handle (slot_at endpoint.now.connection channel)) }
+    ensures { result ≡ credit_lack credit (link_in handle (slot_at endpoint.now.connection channel)) }
 {
     let Some(link) = endpoint.link(channel, handle) else {
         return 0;
     };
-    let allowed = endpoint.config().bounds().allowed();
-    let room = allowed
+    let room = link
+        .bounds
+        .allowed()
         .saturating_sub(link.credit)
         .saturating_sub(link.opened);
     credit.saturating_sub(link.credit).min(room)

@@ -24,9 +24,10 @@ use Rattle.amqp_session.specs.Sessions.{LiveLink, SessionState, SessionEvent, Se
 use Rattle.amqp_session.specs.Histories.{state_of, Sound, part, live_state}
 use Rattle.amqp_session.specs.Faults.{or_else, where_so, is_free, attach_fault, handle_fault, named_fault, session_fault, refusal, transfer_fault, attached, attach_event, transfer_event}
 use Rattle.amqp_session.specs.Faults.{flow_event, named_event, is_settling, event_of}
-use Rattle.amqp_session.specs.Calls.{Call, Widen, Grant, Drain, Take, Settle, Detach, standing_in, standing_fault, at_link, call_fault, take_event, first_taken, call_event}
+use Rattle.amqp_session.specs.Calls.{Call, Widen, Grant, Drain, Take, Settle, SettleRange, Detach, standing_in, standing_fault, at_link, call_fault, take_event, first_taken, call_event}
 use Rattle.amqp_session.specs.Laws.{IsCallInRange}
 use Rattle.amqp_session.proofs.Standings.{settles_everywhere}
+use Rattle.amqp_session.proofs.RangeMays.{range_ok}
 use Rattle.amqp_session.specs.Sessions as event
 use Rattle.amqp_link.proofs.Steps.{skip_some}
 use Rattle.amqp_session.proofs.Firsts.{neither, not_so}
@@ -67,7 +68,7 @@ name_handle s a e =
 
 long_ends : (terms : SessionTerms) (a : Attaching) → refusal terms a ≡ None → nat_lt 1024 (length a.source + length a.target) ≡ false
 long_ends terms a e =
-    let large = nat_lt terms.max_frame_size (length (said_frame 0 (attach_said terms.bounds.max_message_size a) [])) in
+    let large = nat_lt terms.max_frame_size (length (said_frame 0 (attach_said a.bounds.max_message_size a) [])) in
     let long = nat_lt 1024 (length a.source + length a.target) in
     (second (is_receiver a.role || is_coordinator a.target) long large condition.NotImplemented condition.ResourceLimitExceeded condition.FrameSizeTooSmall e).1
 
@@ -88,7 +89,7 @@ attach_ok s a t range none = by_refusal (refusal s.terms a) refl
     by_refusal : (o : Option Condition) → refusal s.terms a ≡ o → SessionMay s (if is_none o then event.LinkAttached a.handle (attached s.terms a) else event.LinkRefused a.handle)
     by_refusal None e =
         let short = ltb-false 255 (length a.name) (name_handle s a none).0 in
-        let ends = ltb-false 1024 (length a.source + length a.target) (long_ends s.terms a e) in (tt, tt, (free_here, record { name = short; ends = ends; count = range.1; bounds = refl }))
+        let ends = ltb-false 1024 (length a.source + length a.target) (long_ends s.terms a e) in (tt, tt, (free_here, record { name = short; ends = ends; count = range.1 }))
     by_refusal (Some c) e = (tt, tt, (Free, free_here, tt))
 
 -- a link's first test is that nothing is resumed
@@ -184,7 +185,7 @@ take_ok s handle (Live l) here none = first (first_ready l.link) refl
 take_ok s handle Waits here none = absurd (grind (arith, none))
 
 -- of the delivery with this id the sender can be told what became of it
-settle_ok : (s : SessionState) (id : ℕ) → IsApart s → id < 2 ^ 32 → standing_fault (standing_in id s.links) ≡ None → SessionMay s (event.Settled id id)
+pub settle_ok : (s : SessionState) (id : ℕ) → IsApart s → id < 2 ^ 32 → standing_fault (standing_in id s.links) ≡ None → SessionMay s (event.Settled id id)
 settle_ok s id apart small none = (tt, tt, by (standing_in id s.links) refl none)
   where
     by : (x : Standing) → standing_in id s.links ≡ x → standing_fault x ≡ None → (k : ℕ) (l : LiveLink) → slice_get s.links k ≡ Some (Live l) → live_may l (ReceiverSettled id id)
@@ -201,7 +202,8 @@ call_ok s (Grant handle n) apart range none = grant_ok s handle n none
 call_ok s (Drain handle) apart range none =
     let live = at_live (slot_at s handle) (λ l. None) none in (tt, tt, (live.0, live_at s handle live.0 live.1, tt))
 call_ok s (Take handle) apart range none = take_ok s handle (slot_at s handle) refl none
-call_ok s (Settle id outcome) apart range none = settle_ok s id apart range none
+call_ok s (Settle id outcome) apart range none = range_ok s id id none
+call_ok s (SettleRange first last outcome) apart range none = range_ok s first last none
 call_ok s (Detach handle) apart range none =
     let live = at_live (slot_at s handle) (λ l. None) none in (tt, tt, (Live live.0, live_at s handle live.0 live.1, tt))
 

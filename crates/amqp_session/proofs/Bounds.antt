@@ -1,7 +1,6 @@
 -- What a session keeps, counted over its history, and how much that is at most.
-use Rattle.std.proofs.Common.{arith, ◌≡◌, ℕ, ◌+◌, ◌*◌, ◌<◌, ◌≤◌, not, List, length, filter, refl, ap}
+use Rattle.std.proofs.Common.{arith, ◌≡◌, ℕ, ◌+◌, ◌*◌, ◌<◌, ◌≤◌, List, length, filter, refl}
 use Rattle.std.specs.Prelude.{sum_by}
-use Rattle.amqp_link.specs.Bounds.{Bounds}
 use Rattle.amqp_link.specs.declared.terms.Terms.{Terms}
 use Rattle.amqp_link.specs.Links.{LinkEvent, link_bytes, open_set, newly_settled, named_count}
 use Rattle.amqp_link.specs.Laws.{is_named_by}
@@ -12,8 +11,8 @@ use Rattle.amqp_session.specs.declared.terms.SessionTerms.{SessionTerms}
 use Rattle.amqp_session.specs.Places.{Life, IfLive, life_state}
 use Rattle.amqp_session.specs.Sessions.{Attached, LiveLink, SessionEvent, handles, slot_bytes, session_bytes}
 use Rattle.amqp_session.specs.Histories.{part, live_state, state_of, IsSoundPart, Sound}
-use Rattle.amqp_session.specs.Faults.{is_free, slot_settled, settled_count}
-use Rattle.amqp_session.specs.Laws.{parts, used_count, part_bytes, part_settled, slot_named, named_total, part_named}
+use Rattle.amqp_session.specs.Faults.{slot_settled, settled_count}
+use Rattle.amqp_session.specs.Laws.{parts, slot_most, part_bytes, part_settled, slot_named, named_total, part_named}
 use Rattle.amqp_session.proofs.Places.{sums_same, sums_within}
 
 -- what the links owe
@@ -34,32 +33,21 @@ abbrev pub LinkNames : Type 0
 LinkNames = (terms : Terms) (h : List LinkEvent) (first last : ℕ) →
     named_count first last (open_set (link.state_of terms h)) ≡ length (filter (is_named_by terms h first last) (link.groups h))
 
--- Sums over a table. --------------------------------------------------------------------------------------------------------
-
--- 1 for a handle in use
-abbrev used : Slot LiveLink → ℕ
-used x = link.one_if (not (is_free x))
-
 -- The session. --------------------------------------------------------------------------------------------------------------
 
--- the most that one link counts
-abbrev pub most_of : Bounds → ℕ
-most_of b = 1407 + b.allowed * (b.max_message_size + 96)
-
 part_within : LinkBound → (terms : SessionTerms) (p : Slot (Life Attached LinkEvent)) → IfLive (λ l. IsSoundPart terms l.0 l.1) p →
-    slot_bytes (life_state live_state p) ≤ used (life_state live_state p) * most_of terms.bounds
+    slot_bytes (life_state live_state p) ≤ slot_most (life_state live_state p) * 1
 part_within bound terms Free sound = omega arith
 part_within bound terms (Live l) sound =
-    let kept = bound l.0.terms l.1 sound.link in
-    let same : most_of l.0.terms.bounds ≡ most_of terms.bounds = ap most_of sound.attached.bounds in omega (arith, kept, same, sound.attached.name, sound.attached.ends)
+    let kept = bound l.0.terms l.1 sound.link in omega (arith, kept, sound.attached.name, sound.attached.ends)
 part_within bound terms Waits sound = omega arith
 
--- bytes held stay within the bound by the handles in use
+-- bytes held stay within the bounds of the links
 pub held_within : LinkBound → (terms : SessionTerms) (h : List SessionEvent) → Sound terms h →
-    session_bytes (state_of terms h) ≤ 64 + used_count (state_of terms h) * (1407 + terms.bounds.allowed * (terms.bounds.max_message_size + 96))
+    session_bytes (state_of terms h) ≤ 64 + sum_by slot_most (state_of terms h).links
 held_within bound terms h sound =
     let each = λ (j : ℕ) (l : j < handles terms). part_within bound terms (part j h) (sound.links j l) in
-    let all = sums_within slot_bytes used (most_of terms.bounds) (λ handle. life_state live_state (part handle h)) 0 (handles terms) (λ j l. each j (omega (arith, l))) in omega (arith, all)
+    let all = sums_within slot_bytes slot_most 1 (λ handle. life_state live_state (part handle h)) 0 (handles terms) (λ j l. each j (omega (arith, l))) in omega (arith, all)
 
 -- what the links show together is what their parts do, where it is so for each
 of_parts : (p : Slot LiveLink → ℕ) (q : Slot (Life Attached LinkEvent) → ℕ) (terms : SessionTerms) (h : List SessionEvent) →

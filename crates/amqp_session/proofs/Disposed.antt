@@ -35,7 +35,7 @@ of_each p q (d ∷ ds) so = (so d.delivery_id (omega (arith, here, count_both (h
     here : ◌≡◌ {A = ℕ} (cond (has_id d.delivery_id d) 1 0) 1
     here = ap (λ (b : Bool). cond b 1 0) (eq-eqb d.delivery_id d.delivery_id refl)
 
-later_other : (h i : ℕ) → nat_eq h i ≡ false → nat_eq (suc h) (suc i) ≡ false
+pub later_other : (h i : ℕ) → nat_eq h i ≡ false → nat_eq (suc h) (suc i) ≡ false
 later_other h i e = let differ = eqb-false h i e in ne_eqb (suc h) (suc i) (λ f. absurd (omega (arith, differ, f)))
 
 module _ (a b : ℕ) where
@@ -53,7 +53,7 @@ module _ (a b : ℕ) where
     slot_counted_in_two (Live l) so = counted_in_two a b l.link c d e f (of_each (covers a b) (either (covers c d) (covers e f)) (deliveries l.link) so)
     slot_counted_in_two Waits so = refl
 
-    abbrev IsBoth : List (Slot LiveLink) → Type 0
+    abbrev pub IsBoth : List (Slot LiveLink) → Type 0
     IsBoth slots = (n i : ℕ) → 1 ≤ slot_count n (at_place slots i) → covers a b n ≡ either (covers c d) (covers e f) n
 
     pub in_two : (slots : List (Slot LiveLink)) → IsBoth slots → map (slot_called (SenderSettled a b)) slots ≡ map (slot_called (SenderSettled e f)) (map (slot_called (SenderSettled c d)) slots)
@@ -85,7 +85,7 @@ module _ (a b : ℕ) where
   slot_counted_nothing (Live l) so = counted_nothing a b l.link (of_each (covers a b) (λ n. false) (deliveries l.link) so)
   slot_counted_nothing Waits so = refl
 
-  abbrev IsNone : List (Slot LiveLink) → Type 0
+  abbrev pub IsNone : List (Slot LiveLink) → Type 0
   IsNone slots = (n i : ℕ) → 1 ≤ slot_count n (at_place slots i) → covers a b n ≡ false
 
   pub nothing_done : (slots : List (Slot LiveLink)) → IsNone slots → map (slot_called (SenderSettled a b)) slots ≡ slots
@@ -100,7 +100,7 @@ module _ (a b : ℕ) where
       omega (arith, sum_by-cons (slot_settled a b) x slots, slot_counted_nothing x (λ n m. so n 0 m), nothing_summed slots (λ n i m. so n (suc i) m))
 
   -- one that names none but at one place
-  abbrev IsNoneBut : ℕ → List (Slot LiveLink) → Type 0
+  abbrev pub IsNoneBut : ℕ → List (Slot LiveLink) → Type 0
   IsNoneBut h slots = (n i : ℕ) → nat_eq h i ≡ false → 1 ≤ slot_count n (at_place slots i) → covers a b n ≡ false
 
   pub done_at : (h : ℕ) (slots : List (Slot LiveLink)) → IsNoneBut h slots → slice_set slots h (slot_called (SenderSettled a b) (at_place slots h)) ≡ map (slot_called (SenderSettled a b)) slots
@@ -130,7 +130,7 @@ below m n e = grind (arith, e)
 not_below : (m n : ℕ) → n < m → nat_le m n ≡ false
 not_below m n l = false_from_ne_true (nat_le m n) (λ e. absurd (omega (arith, l, leb-true m n e)))
 
-plain : (a b n : ℕ) → a ≤ b → b < a + 2 ^ 31 → b < 2 ^ 32 → n < 2 ^ 32 → covers a b n ≡ (nat_le a n && nat_le n b)
+pub plain : (a b n : ℕ) → a ≤ b → b < a + 2 ^ 31 → b < 2 ^ 32 → n < 2 ^ 32 → covers a b n ≡ (nat_le a n && nat_le n b)
 plain a b n l f s m = by (nat_le a n) (nat_le n b) refl refl
   where
     near : nat_lt (distance_of a b) (2 ^ 31) ≡ true
@@ -148,7 +148,7 @@ plain a b n l f s m = by (nat_le a n) (nat_le n b) refl refl
     by false y e g = false_from_ne_true (covers a b n) (λ c. let less = within c in let one = below a n e in absurd (omega (arith, l, f, s, m, one, less)))
 
 -- behind the last there are none
-behind : (last n : ℕ) → last < 2 ^ 32 → covers (last + 1) last n ≡ false
+pub behind : (last n : ℕ) → last < 2 ^ 32 → covers (last + 1) last n ≡ false
 behind last n s = false_from_ne_true (covers (last + 1) last n) (λ c.
     let near = ltb-true (distance_of (last + 1) last) (2 ^ 31) (and_parts (nat_lt (distance_of (last + 1) last) (2 ^ 31)) (nat_le (distance_of (last + 1) n) (distance_of (last + 1) last)) c).0 in
     absurd (omega (arith, s, near)))
@@ -165,7 +165,7 @@ rest_is id last n l f s m = by (nat_eq id last) refl
     by false e = let differ = eqb-false id last e in plain (id + 1) last n (omega (arith, l, differ)) (omega (arith, f)) s m
 
 -- the range as its next id and the rest
-one_and_rest : (from id last n : ℕ) → from ≤ id → id ≤ last → last < from + 2 ^ 31 → last < 2 ^ 32 → n < 2 ^ 32 → (from ≤ n → n < id → ⊥) →
+pub one_and_rest : (from id last n : ℕ) → from ≤ id → id ≤ last → last < from + 2 ^ 31 → last < 2 ^ 32 → n < 2 ^ 32 → (from ≤ n → n < id → ⊥) →
     covers from last n ≡ either (covers id id) (covers (id + 1) last) n
 one_and_rest from id last n a b f s m none =
     plain from last n (omega (arith, a, b)) f s m ∙ by (nat_lt n id) (nat_eq n id) refl refl
@@ -205,7 +205,7 @@ within_place n i slots = by (slice_get slots i) refl
     by None e = omega arith
     by (Some x) e = slot_within n slots i x e
 
-small_id : (s : SessionState) (n i : ℕ) → IsApart s → 1 ≤ slot_count n (at_place s.links i) → n < 2 ^ 32
+pub small_id : (s : SessionState) (n i : ℕ) → IsApart s → 1 ≤ slot_count n (at_place s.links i) → n < 2 ^ 32
 small_id s n i apart more = by (nat_lt n (2 ^ 32)) refl
   where
     by : (b : Bool) → nat_lt n (2 ^ 32) ≡ b → n < 2 ^ 32
@@ -313,7 +313,7 @@ module _ (entries : List (ℕ × Kept)) (s : SessionState) (from last : ℕ) (or
 
   -- nothing is left
   module _ (none : (q : ℕ) → from ≤ q → q ≤ last → found entries q ≡ None) where
-    none_left : IsNone from last s.links
+    pub none_left : IsNone from last s.links
     none_left = λ n i more.
         plain from last n order few small (small_id s n i known.apart more)
         ∙ false_from_ne_true (nat_le from n && nat_le n last) (λ c. let p = and_parts (nat_le from n) (nat_le n last) c in
@@ -327,7 +327,7 @@ module _ (entries : List (ℕ × Kept)) (s : SessionState) (from last : ℕ) (or
 
   -- or one is
   module _ (id : ℕ) (low : from ≤ id) (high : id ≤ last) (none : (q : ℕ) → from ≤ q → q < id → found entries q ≡ None) where
-    both : IsBoth from last id id (id + 1) last s.links
+    pub both : IsBoth from last id id (id + 1) last s.links
     both = λ n i more. one_and_rest from id last n low high few small (small_id s n i known.apart more) (λ a b. closed n i a (omega (arith, b, high)) (none n a b) more)
 
     pub step_done : disposed from last s ≡ disposed (id + 1) last (disposed id id s)
@@ -366,7 +366,7 @@ pub known_from : (entries : List (ℕ × Kept)) (s : SessionState) (first last :
 known_from entries s first last small known = record { apart = known.apart; indexed = λ id i a b. known.indexed id i (omega (arith, b, small)) }
 
 module _ (first last : ℕ) (wraps : last < first) (small : first < 2 ^ 32) (near : distance_of first last < 2 ^ 31) where
-  wrapped : (n : ℕ) → n < 2 ^ 32 → covers first last n ≡ either (covers first 4294967295) (covers 0 last) n
+  pub wrapped : (n : ℕ) → n < 2 ^ 32 → covers first last n ≡ either (covers first 4294967295) (covers 0 last) n
   wrapped n m =
       by (nat_le first n) (nat_le n last) refl refl
       ∙ sym (ap (λ (x : Bool). x || covers 0 last n) (plain first 4294967295 n (omega (arith, small)) (omega (arith, wraps, small, near)) (omega arith) m ∙ top (nat_le first n))
@@ -398,7 +398,7 @@ module _ (first last : ℕ) (wraps : last < first) (small : first < 2 ^ 32) (nea
           absurd (omega (arith, one, two, m, wraps, small, less))) ∙ sym (ap (λ (x : Bool). x || nat_le n last) e ∙ g)
 
   module _ (s : SessionState) (apart : IsApart s) where
-    wraps_both : IsBoth first last first 4294967295 0 last s.links
+    pub wraps_both : IsBoth first last first 4294967295 0 last s.links
     wraps_both = λ n i more. wrapped n (small_id s n i apart more)
 
     pub wrap_done : disposed 0 last (disposed first 4294967295 s) ≡ disposed first last s

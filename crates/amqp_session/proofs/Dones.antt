@@ -20,7 +20,7 @@ use Rattle.amqp_session.proofs.Accepts.{frame_ok, call_ok}
 use Rattle.amqp_session.proofs.Ids.{IdsGrow, stays_apart, begins_apart}
 
 -- a session after an accepted event
-apart_after : IdsGrow → (s new : SessionState) (e : SessionEvent) → IsApart s → SessionMay s e → new ≡ session_after s e → IsApart new
+pub apart_after : IdsGrow → (s new : SessionState) (e : SessionEvent) → IsApart s → SessionMay s e → new ≡ session_after s e → IsApart new
 apart_after grow s new e apart may same = subst (λ (t : SessionState). IsApart t) (sym same) (stays_apart grow s e apart may)
 
 -- after a call that is not refused no two open deliveries have one id, and its event was accepted

@@ -25,3 +25,9 @@ pub mod Swept
 pub mod Came
 pub mod Closed
 pub mod Disposed
+pub mod RangeCounts
+pub mod RangeSettles
+pub mod RangeSteps
+pub mod RangeFaults
+pub mod RangeMays
+pub mod RangeIndexes

@@ -2,7 +2,6 @@
 use Rattle.std.proofs.Common.{arith, ◌≡◌, ℕ, ◌+◌, ◌<◌, ◌≤◌, inl, inr, subst, Bool, true, false, List, [], ◌∷◌, refl, ap, ◌∙◌, Option, Some, None}
 use Rattle.std.specs.Prelude.{nat_eq, nat_lt, slice_get, option_map, unwrap_or, if◌then◌else◌}
 use Rattle.std.proofs.lemmas.Bool.{cases_Bool, ltb-true, ltb-false}
-use Rattle.amqp_link.specs.Bounds.{Bounds}
 use Rattle.amqp_link.specs.declared.terms.Terms.{Terms}
 use Rattle.amqp_link.specs.Links.{LinkEvent, Granted, open_count}
 use Rattle.amqp_link.specs.Histories as link
@@ -49,16 +48,16 @@ slot_anew s handle a may =
 
 -- Credit and open deliveries of each live link are within what is allowed.
 pub link_within : (terms : SessionTerms) (h : List SessionEvent) (handle : ℕ) (l : LiveLink) → Sound terms h → slot_at (state_of terms h) handle ≡ Live l →
-    l.link.credit + open_count l.link ≤ terms.bounds.allowed
+    l.link.credit + open_count l.link ≤ l.link.terms.bounds.allowed
 link_within terms h handle l sound here =
     let at = got (handles terms) (λ k. life_state live_state (part k h)) handle (Live l) (live_at (state_of terms h) handle l here) in
-    subst (λ (x : Slot LiveLink). IfLive (λ l. l.link.credit + open_count l.link ≤ terms.bounds.allowed) x) at.1 (by (part handle h) (sound.links handle at.0))
+    subst (λ (x : Slot LiveLink). IfLive (λ l. l.link.credit + open_count l.link ≤ l.link.terms.bounds.allowed) x) at.1 (by (part handle h) (sound.links handle at.0))
   where
     by : (p : Slot (Life Attached LinkEvent)) → IfLive (λ l. IsSoundPart terms l.0 l.1) p →
-        IfLive (λ (l : LiveLink). l.link.credit + open_count l.link ≤ terms.bounds.allowed) (life_state live_state p)
+        IfLive (λ (l : LiveLink). l.link.credit + open_count l.link ≤ l.link.terms.bounds.allowed) (life_state live_state p)
     by Free sound = tt
     by (Live life) sound =
-        let same = ap (λ (b : Bounds). b.allowed) sound.attached.bounds in omega (arith, sound.link.within, same)
+        sound.link.within
     by Waits sound = tt
 
 -- What happens at a handle to its part.

@@ -21,7 +21,7 @@ use Rattle.amqp_session.proofs.Standings.{count_cons, parts_count, AreSmall, fir
 
 -- One link. ------------------------------------------------------------------------------------------------------------------
 
-covers_same : (id x : ℕ) → id < 2 ^ 32 → x < 2 ^ 32 → covers id id x ≡ nat_eq x id
+pub covers_same : (id x : ℕ) → id < 2 ^ 32 → x < 2 ^ 32 → covers id id x ≡ nat_eq x id
 covers_same id x l m = elim (cases_Bool (nat_eq x id)) [
   | inl e ↦ (
       let same = eqb-true x id e in

@@ -51,7 +51,7 @@ none_has id (d ∷ ds) e = elim (cases_Bool (has_id id d)) [
   | inr other ↦ or_from (has_id id d) (list_any (has_id id) ds) other (none_has id ds (omega (arith, e, count_cons id d ds)))
 ]
 
-some_has : (id : ℕ) (ds : List Delivery) → list_any (has_id id) ds ≡ true → 1 ≤ count_by (has_id id) ds
+pub some_has : (id : ℕ) (ds : List Delivery) → list_any (has_id id) ds ≡ true → 1 ≤ count_by (has_id id) ds
 some_has id [] e = absurd (grind (arith, e))
 some_has id (d ∷ ds) e = elim (cases_Bool (has_id id d)) [
   | inl here ↦ let one : link.one_if (has_id id d) ≡ 1 = ap link.one_if here in omega (arith, count_cons id d ds, one)

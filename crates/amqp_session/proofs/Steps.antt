@@ -35,7 +35,7 @@ SessionGoesOn = (terms : SessionTerms) (h : List SessionEvent) (e : SessionEvent
 named : Attached → LinkState → LiveLink
 named a l = record { name = a.name; source = a.source; target = a.target; link = l }
 
-part_begins : LinkBegins → (terms : SessionTerms) (a : Attached) → IsAttached terms a → (live_begins a ≡ live_state a []) × IsSoundPart terms a []
+part_begins : LinkBegins → (terms : SessionTerms) (a : Attached) → IsAttached a → (live_begins a ≡ live_state a []) × IsSoundPart terms a []
 unfolding named
 part_begins law terms a attached =
     let one = law a.terms attached.count in (ap (λ (l : LinkState). named a l) one.0, record { attached = attached; link = one.1 })
@@ -87,7 +87,7 @@ begins_sound terms narrow first = (
 pub goes_on_sound : LinkBegins → LinkGoesOn → IdsGrow → SessionGoesOn
 unfolding made
 goes_on_sound begins step grow terms h e sound may =
-    let life = places_step live_begins live_after live_state (IsAttached terms) live_may (IsSoundPart terms) (handles terms) (λ handle. part handle h) in
+    let life = places_step live_begins live_after live_state IsAttached live_may (IsSoundPart terms) (handles terms) (λ handle. part handle h) in
     let links = life (happens e) (part_begins begins terms) (part_goes_on step terms) sound.links may.2 in
     let wide = widened terms.incoming_window (widenings h) (transfers h) (widened_by e) (one_if (is_transfer e)) sound.spent in
     let count = counted (stated_by e) (last_stated terms h) (since_stated h) (one_if (is_transfer e)) in

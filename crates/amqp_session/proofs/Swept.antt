@@ -13,7 +13,7 @@ use Rattle.std.specs.List.{list_any, count_by}
 use Rattle.amqp_link.specs.Links.{covers, is_covered, sender_settled_by, link_after}
 use Rattle.amqp_link.proofs.Hints.{count_append, count_cons as count_both}
 use Rattle.amqp_link.specs.Links.{Delivery, has_id, open_set, untaken, standing_of, standing_at}
-use Rattle.amqp_session.specs.Calls.{slot_standing}
+use Rattle.amqp_session.specs.Calls.{slot_standing, is_absent}
 use Rattle.amqp_session.proofs.Standings.{absent_none, covered_id, parts_count}
 use Rattle.amqp_session.specs.declared.index.Kept.{Kept}
 use Rattle.amqp_session.specs.declared.slot.Slot.{Slot}
@@ -22,7 +22,7 @@ use Rattle.amqp_session.specs.Sessions.{LiveLink, SessionState, slot_at, slot_co
 use Rattle.amqp_link.specs.Links.{LinkEvent, LinkState}
 use Rattle.amqp_link.specs.Laws.{id_count}
 use Rattle.amqp_session.specs.Slots.{at_place, slot_called}
-use Rattle.amqp_session.specs.Indexes.{found, closed_of, is_absent, is_untaken, swept, swept_if, disposed, is_kept_at, IsIndexed}
+use Rattle.amqp_session.specs.Indexes.{found, closed_of, is_untaken, swept, swept_if, disposed, is_kept_at, IsIndexed}
 use Rattle.amqp_session.proofs.Ids.{IdsGrow, none_has}
 
 no_true : false ≡ true → ⊥
@@ -51,7 +51,7 @@ none_standing id l e = by (list_any (has_id id) (untaken (open_set l))) (find (h
         let front = none_has id l.awaiting (any_found (has_id id) l.awaiting ∙ ap is_some g) in
         let back = none_has id (untaken (open_set l)) f in omega (arith, parts_count id l, front, back)
 
-none_there : (id : ℕ) (x : Slot LiveLink) → is_absent (slot_standing id x) ≡ true → slot_count id x ≡ 0
+pub none_there : (id : ℕ) (x : Slot LiveLink) → is_absent (slot_standing id x) ≡ true → slot_count id x ≡ 0
 none_there id Free e = refl
 none_there id (Live l) e = none_standing id l.link e
 none_there id Waits e = refl

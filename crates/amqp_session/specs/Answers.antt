@@ -25,7 +25,7 @@ said_by (answer.Refusal p) = said (performative.Detach p) ∷ []
 
 -- and for the answer to a frame
 abbrev pub answer_said : SessionTerms → Frame → Answer → List Said
-answer_said terms (Attaches a) answer.Attach = attach_said terms.bounds.max_message_size a ∷ []
+answer_said terms (Attaches a) answer.Attach = attach_said a.bounds.max_message_size a ∷ []
 answer_said terms (Attaches a) (answer.Refusal p) = refusal_said a ∷ said (performative.Detach p) ∷ []
 answer_said terms f x = said_by x
 

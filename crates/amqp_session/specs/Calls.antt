@@ -1,10 +1,12 @@
--- What a session does with a call of its application: why it is refused, or the event that it is, and what it says (AMQP 1.0, part 2, sections 2.5.6, 2.6.6, 2.6.7 and 2.6.12).
-use Rattle.std.specs.Prelude.{ℕ, ◌+◌, ◌^◌, Bool, true, false, nat_le, nat_lt, List, [], ◌∷◌, Option, Some, None, is_none}
+-- What a session does with a call of its application: why it is refused, or the event that it is, and what it says (AMQP 1.0, part 2, sections 2.5.6, 2.6.6, 2.6.7, 2.6.12 and 2.7.6).
+use Rattle.std.specs.Prelude.{ℕ, ◌+◌, ◌^◌, Bool, true, false, ◌&&◌, ◌||◌, if◌then◌else◌, nat_le, nat_lt, List, [], ◌∷◌, Option, Some, None, is_none}
+use Rattle.std.specs.List.{list_any}
+use Rattle.amqp_serial.specs.Numbers.{distance_of}
 use Rattle.amqp_perform.specs.declared.outcome.Outcome.{Outcome}
 use Rattle.amqp_perform.specs.declared.modes.ReceiverSettleMode.TheVariants.{First}
 use Rattle.amqp_link.specs.declared.settlement.Standing.{Standing}
 use Rattle.amqp_link.specs.declared.settlement.Standing.TheVariants.{Absent, Untaken, Told, Awaiting}
-use Rattle.amqp_link.specs.Links.{Delivery, LinkState, Granted, DrainAsked, HandedUp, first_ready, open_set, open_count, standing_of}
+use Rattle.amqp_link.specs.Links.{Delivery, LinkState, Granted, DrainAsked, HandedUp, first_ready, open_set, open_count, standing_of, is_covered, receiver_settles, tells, names_untaken}
 use Rattle.amqp_session.specs.declared.fault.CallFault.{CallFault}
 use Rattle.amqp_session.specs.declared.fault.CallFault.TheVariants as refused
 use Rattle.amqp_session.specs.declared.slot.Slot.{Slot}
@@ -21,6 +23,7 @@ pub data Call : Type 0 where
   Drain : ℕ → Call  -- its sender is asked to use its credit up
   Take : ℕ → Call  -- its first ready delivery is handed up
   Settle : ℕ → Outcome → Call  -- what became of the delivery with this id
+  SettleRange : ℕ → ℕ → Outcome → Call  -- what became of the open deliveries with the ids from the first to the last
   Detach : ℕ → Call  -- the link is ended
 
 -- Settling. -----------------------------------------------------------------------------------------------------------
@@ -40,6 +43,41 @@ abbrev pub standing_in : ℕ → List (Slot LiveLink) → Standing
 standing_in id [] = Absent
 standing_in id (s ∷ slots) = or_later (slot_standing id s) (standing_in id slots)
 
+-- no open delivery stands so
+abbrev pub is_absent : Standing → Bool
+is_absent Absent = true
+is_absent Untaken = false
+is_absent Told = false
+is_absent (Awaiting mode) = false
+
+-- Ranges of ids. ------------------------------------------------------------------------------------------------------------
+
+-- the last id is behind the first [2.8.10]
+abbrev pub is_behind : ℕ → ℕ → Bool
+is_behind first last = nat_le (2 ^ 31) (distance_of first last)
+
+-- a test of the link at a place, where one is live there
+abbrev pub live_has : (LinkState → Bool) → Slot LiveLink → Bool
+live_has test Free = false
+live_has test (Live l) = test l.link
+live_has test Waits = false
+
+-- an open delivery there with one of the ids from the first to the last was not handed up
+abbrev pub slot_names_untaken : ℕ → ℕ → Slot LiveLink → Bool
+slot_names_untaken first last s = live_has (λ l. names_untaken first last (open_set l)) s
+
+-- of one that was handed up the sender was told, which is done in mode second alone [2.8.3]
+abbrev pub slot_names_told : ℕ → ℕ → Slot LiveLink → Bool
+slot_names_told first last s = live_has (λ l. list_any (λ d. is_covered first last d && d.told) l.awaiting) s
+
+-- one that was handed up is in mode first
+abbrev pub slot_names_first : ℕ → ℕ → Slot LiveLink → Bool
+slot_names_first first last s = live_has (λ l. list_any (receiver_settles first last) l.awaiting) s
+
+-- one that was handed up is in mode second
+abbrev pub slot_names_second : ℕ → ℕ → Slot LiveLink → Bool
+slot_names_second first last s = live_has (λ l. list_any (tells first last) l.awaiting) s
+
 -- Refusals. -----------------------------------------------------------------------------------------------------------------
 
 -- a fault of the link at a handle, where one is live there
@@ -54,12 +92,22 @@ standing_fault Untaken = Some refused.NotTaken
 standing_fault Told = Some refused.AlreadyTold
 standing_fault (Awaiting mode) = None
 
+-- The first fault of a settle of the ids from the first to the last. Both are ids of open deliveries; between them an id may be closed, or not be in use. All
+-- that it names were handed up, and are in one mode, since one disposition says of all that they are settled, or of none. [2.6.12, 2.7.6, 2.8.3]
+abbrev pub range_fault : ℕ → ℕ → SessionState → Option CallFault
+range_fault first last s =
+    if is_absent (standing_in first s.links) || is_absent (standing_in last s.links) || is_behind first last then Some refused.NoDelivery
+    else (if list_any (slot_names_untaken first last) s.links then Some refused.NotTaken
+    else (if list_any (slot_names_told first last) s.links then Some refused.AlreadyTold
+    else (if list_any (slot_names_first first last) s.links && list_any (slot_names_second first last) s.links then Some refused.MixedModes else None)))
+
 abbrev pub call_fault : SessionState → Call → Option CallFault
 call_fault s (Widen n) = where_so (nat_le (2 ^ 31) (s.window + n)) refused.WindowTooWide
 call_fault s (Grant handle n) = at_link (slot_at s handle) (λ l. where_so (nat_lt l.terms.bounds.allowed (l.credit + open_count l + n)) refused.TooMuchCredit)
 call_fault s (Drain handle) = at_link (slot_at s handle) (λ l. None)
 call_fault s (Take handle) = at_link (slot_at s handle) (λ l. where_so (is_none (first_ready l)) refused.NothingReady)
-call_fault s (Settle id outcome) = standing_fault (standing_in id s.links)
+call_fault s (Settle id outcome) = range_fault id id s
+call_fault s (SettleRange first last outcome) = range_fault first last s
 call_fault s (Detach handle) = at_link (slot_at s handle) (λ l. None)
 
 -- What an accepted call is, and says. ------------------------------------------------------------------------------------------
@@ -80,6 +128,7 @@ call_event s (Grant handle n) = event.Called handle (Granted n)
 call_event s (Drain handle) = event.Called handle DrainAsked
 call_event s (Take handle) = take_event handle (slot_at s handle)
 call_event s (Settle id outcome) = event.Settled id id
+call_event s (SettleRange first last outcome) = event.Settled first last
 call_event s (Detach handle) = event.Detached handle
 
 -- the delivery is settled by the call, which is so in mode first [2.7.5, 2.8.3]
@@ -87,11 +136,16 @@ abbrev pub settles_at_once : Standing → Bool
 settles_at_once (Awaiting First) = true
 settles_at_once standing = false
 
+-- what is said of these ids: all that they name are in the mode of the first [2.7.6]
+abbrev pub range_said : ℕ → ℕ → Outcome → SessionState → Said
+range_said first last outcome s = disposition_said first last (settles_at_once (standing_in first s.links)) outcome
+
 -- Credit, drain and the window are said with the state after the call. [2.6.7, 2.7.4]
 abbrev pub call_answer : SessionState → Call → List Said
 call_answer s (Widen n) = session_flow (session_after s (call_event s (Widen n))) ∷ []
 call_answer s (Grant handle n) = link_flow (session_after s (call_event s (Grant handle n))) handle
 call_answer s (Drain handle) = link_flow (session_after s (call_event s (Drain handle))) handle
 call_answer s (Take handle) = []
-call_answer s (Settle id outcome) = disposition_said id (settles_at_once (standing_in id s.links)) outcome ∷ []
+call_answer s (Settle id outcome) = range_said id id outcome s ∷ []
+call_answer s (SettleRange first last outcome) = range_said first last outcome s ∷ []
 call_answer s (Detach handle) = detach_said handle true [] ∷ []

@@ -76,7 +76,7 @@ abbrev pub refusal : SessionTerms → Attaching → Option Condition
 refusal terms a =
     or_else (where_so (is_receiver a.role || is_coordinator a.target) condition.NotImplemented)
     (or_else (where_so (nat_lt 1024 (length a.source + length a.target)) condition.ResourceLimitExceeded)
-    (where_so (nat_lt terms.max_frame_size (length (said_frame 0 (attach_said terms.bounds.max_message_size a) []))) condition.FrameSizeTooSmall))
+    (where_so (nat_lt terms.max_frame_size (length (said_frame 0 (attach_said a.bounds.max_message_size a) []))) condition.FrameSizeTooSmall))
 
 -- A transfer that resumes comes first (amqp:not-implemented), then one that begins a delivery under an open id, a duplicate (amqp:invalid-field), then what
 -- else the link says. [2.6.12, 2.7.5]
@@ -99,7 +99,7 @@ attached terms a = record {
   name = a.name;
   source = a.source;
   target = a.target;
-  terms = record { initial_delivery_count = unwrap_or a.initial_delivery_count 0; rcv_settle_mode = a.rcv_settle_mode; bounds = terms.bounds };
+  terms = record { initial_delivery_count = unwrap_or a.initial_delivery_count 0; rcv_settle_mode = a.rcv_settle_mode; bounds = a.bounds };
 }
 
 abbrev pub attach_event : SessionTerms → Attaching → SessionEvent
@@ -203,7 +203,7 @@ abbrev pub link_flow : SessionState → ℕ → List Said
 link_flow s handle = slot_flow s handle (slot_at s handle)
 
 abbrev pub attach_answer : SessionTerms → Attaching → Option Condition → List Said
-attach_answer terms a None = attach_said terms.bounds.max_message_size a ∷ []
+attach_answer terms a None = attach_said a.bounds.max_message_size a ∷ []
 attach_answer terms a (Some condition) = refusal_said a ∷ failure_said a.handle condition ∷ []
 
 -- a link that ends with an error is detached with it

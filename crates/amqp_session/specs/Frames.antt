@@ -1,5 +1,5 @@
 -- What a session reads of a frame, and what it says in answer, in plain numbers and lists (AMQP 1.0, part 2, section 2.7).
-use Rattle.std.specs.Prelude.{ℕ, ◌^◌, ◌<◌, ◌≤◌, Bool, true, false, ◌==◌, if◌then◌else◌, List, [], ◌∷◌, Option, Some, None, unwrap_or, codes, bytes_eq, Ok, Err}
+use Rattle.std.specs.Prelude.{ℕ, ◌^◌, ◌<◌, ◌≤◌, Bool, true, false, ◌==◌, nat_eq, if◌then◌else◌, List, [], ◌∷◌, Option, Some, None, unwrap_or, codes, bytes_eq, Ok, Err}
 use Rattle.amqp_types.specs.declared.kind.Kind.TheVariants as kind
 use Rattle.amqp_types.specs.Canonical.{canonical}
 use Rattle.amqp_types.specs.Reading.{Part, value_of}
@@ -21,6 +21,7 @@ use Rattle.amqp_perform.specs.Conditions.{condition_span}
 use Rattle.amqp_perform.specs.Outcomes.{outcome_span}
 use Rattle.amqp_perform.specs.Said.{Said}
 use Rattle.amqp_perform.specs.Performatives.{flag, role, sender_mode, receiver_mode, span}
+use Rattle.amqp_link.specs.Bounds.{Bounds}
 use Rattle.amqp_link.specs.Links.{Sent, sent_of}
 
 -- What is read. ---------------------------------------------------------------------------------------------------------
@@ -35,6 +36,7 @@ pub record Attaching : Type 0 where
   pub source : List ℕ  -- as it is spelled; nothing where it is absent
   pub target : List ℕ
   pub initial_delivery_count : Option ℕ
+  pub bounds : Bounds  -- what its link may keep
 
 -- a flow of the peer [2.7.4]
 pub record Flowing : Type 0 where
@@ -58,8 +60,8 @@ pub data Frame : Type 0 where
   Disposes : Disposing → Frame
   Detaches : ℕ → Bool → Frame  -- the link with this handle, closed or not
 
-abbrev pub attaching : Attach → Attaching
-attaching p = record {
+abbrev pub attaching : Attach → Bounds → Attaching
+attaching p bounds = record {
   name = p.name.now;
   handle = p.handle;
   role = p.role;
@@ -68,6 +70,7 @@ attaching p = record {
   source = p.source.now;
   target = p.target.now;
   initial_delivery_count = p.initial_delivery_count;
+  bounds = bounds;
 }
 
 abbrev pub flowing : Flow → Flowing
@@ -77,16 +80,16 @@ abbrev pub disposing : Disposition → Disposing
 disposing p = record { role = p.role; first = p.first; last = p.last; settled = p.settled }
 
 -- what a performative with its payload is to its session; the others are not for it
-abbrev pub frame_of : Performative → List ℕ → Option Frame
-frame_of (performative.Open p) payload = None
-frame_of (performative.Begin p) payload = None
-frame_of (performative.Attach p) payload = Some (Attaches (attaching p))
-frame_of (performative.Flow p) payload = Some (Flows (flowing p))
-frame_of (performative.Transfer p) payload = Some (Transfers p.handle (sent_of p payload))
-frame_of (performative.Disposition p) payload = Some (Disposes (disposing p))
-frame_of (performative.Detach p) payload = Some (Detaches p.handle p.closed)
-frame_of (performative.End p) payload = None
-frame_of (performative.Close p) payload = None
+abbrev pub frame_of : Performative → List ℕ → Bounds → Option Frame
+frame_of (performative.Open p) payload bounds = None
+frame_of (performative.Begin p) payload bounds = None
+frame_of (performative.Attach p) payload bounds = Some (Attaches (attaching p bounds))
+frame_of (performative.Flow p) payload bounds = Some (Flows (flowing p))
+frame_of (performative.Transfer p) payload bounds = Some (Transfers p.handle (sent_of p payload))
+frame_of (performative.Disposition p) payload bounds = Some (Disposes (disposing p))
+frame_of (performative.Detach p) payload bounds = Some (Detaches p.handle p.closed)
+frame_of (performative.End p) payload bounds = None
+frame_of (performative.Close p) payload bounds = None
 
 -- A target that describes a coordinator of transactions: by the ulong 0x30 or the symbol, in any spelling, whatever stands behind. [part 4, 4.5.1]
 abbrev pub is_coordinator_type : Tree → Bool
@@ -161,6 +164,13 @@ link_flow_said next_id window handle count credit drain = record {
   cells = Whole next_id ∷ Whole window ∷ Whole 0 ∷ Whole 0 ∷ Whole handle ∷ Whole count ∷ Whole credit ∷ Absent ∷ flag drain ∷ flag false ∷ Absent ∷ [];
 }
 
--- what became of a delivery, settled or not [2.7.6]
-abbrev pub disposition_said : ℕ → Bool → Outcome → Said
-disposition_said id settled outcome = record { type = of_type.Disposition; cells = role of_role.Receiver ∷ Whole id ∷ Absent ∷ flag settled ∷ span (outcome_span outcome) ∷ Absent ∷ [] }
+-- an absent last is the first [2.7.6]
+abbrev pub last_stated : ℕ → ℕ → Cell
+last_stated first last = if nat_eq first last then Absent else Whole last
+
+-- what became of the deliveries with the ids from the first to the last, settled or not [2.7.6]
+abbrev pub disposition_said : ℕ → ℕ → Bool → Outcome → Said
+disposition_said first last settled outcome = record {
+  type = of_type.Disposition;
+  cells = role of_role.Receiver ∷ Whole first ∷ last_stated first last ∷ flag settled ∷ span (outcome_span outcome) ∷ Absent ∷ [];
+}

@@ -67,7 +67,7 @@ state_of terms h = record {
 
 -- what holds of each part
 pub record IsSoundPart (terms : SessionTerms) (a : Attached) (h : List LinkEvent) : Type 0 where
-  pub attached : IsAttached terms a
+  pub attached : IsAttached a
   pub link : link.Sound a.terms h
 
 -- what holds of every history of accepted events

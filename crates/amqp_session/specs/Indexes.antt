@@ -5,7 +5,7 @@ use Rattle.std.specs.Map.{lookup}
 use Rattle.std.specs.Ordering.{nat_cmp}
 use Rattle.std.specs.BTreeMap.{is_at}
 use Rattle.amqp_session.specs.declared.index.Kept.{Kept}
-use Rattle.amqp_link.specs.Links.{Sent, LinkState, SenderSettled, deliveries, open_set, IsOnce}
+use Rattle.amqp_link.specs.Links.{Sent, LinkState, ReceiverSettled, SenderSettled, deliveries, open_set, IsOnce}
 use Rattle.amqp_session.specs.declared.slot.Slot.{Slot}
 use Rattle.amqp_session.specs.declared.slot.Slot.TheVariants.{Free, Live, Waits}
 use Rattle.amqp_link.specs.Histories.{one_if}
@@ -15,7 +15,7 @@ use Rattle.amqp_session.specs.Places.{live_in}
 use Rattle.amqp_session.specs.Sessions.{LiveLink, SessionState, slot_at, slot_count, IsApart}
 use Rattle.amqp_link.specs.declared.settlement.Standing.{Standing}
 use Rattle.amqp_link.specs.declared.settlement.Standing.TheVariants.{Absent, Untaken, Told, Awaiting}
-use Rattle.amqp_session.specs.Calls.{slot_standing}
+use Rattle.amqp_session.specs.Calls.{slot_standing, is_absent}
 use Rattle.amqp_session.specs.Slots.{at_place, came_fault, slot_called}
 use Rattle.amqp_session.specs.Faults.{transfer_fault}
 
@@ -101,13 +101,6 @@ told_of (report.Failed handle condition dropped) ended unfinished id kept = gone
 told_of (report.Aborted handle) ended unfinished id kept = given_up unfinished id kept
 told_of report ended unfinished id kept = kept
 
--- no open delivery stands so
-abbrev pub is_absent : Standing → Bool
-is_absent Absent = true
-is_absent Untaken = false
-is_absent Told = false
-is_absent (Awaiting mode) = false
-
 -- a delivery that stands so was not handed up
 abbrev pub is_untaken : Standing → Bool
 is_untaken Absent = false
@@ -170,6 +163,10 @@ does_begin s handle t = not (nat_eq s.window 0) && slot_does_begin s t (slot_at 
 -- the session where the sender settled these ids
 abbrev pub disposed : ℕ → ℕ → SessionState → SessionState
 disposed first last s = record s { links = map (slot_called (SenderSettled first last)) s.links }
+
+-- and where its receiver settled these, or told of them
+abbrev pub answered : ℕ → ℕ → SessionState → SessionState
+answered first last s = record s { links = map (slot_called (ReceiverSettled first last)) s.links }
 
 -- no other place has the id
 abbrev pub IsAlone : ℕ → ℕ → List (Slot LiveLink) → Type 0

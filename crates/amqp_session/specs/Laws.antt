@@ -1,6 +1,7 @@
 -- What the laws of a session speak of, beside its states and its history.
-use Rattle.std.specs.Prelude.{◌≡◌, ℕ, ◌+◌, ◌^◌, ◌<◌, not, nat_eq, if◌then◌else◌, List, [], ◌∷◌, ◌++◌, length, filter, sum_by, Some, None}
+use Rattle.std.specs.Prelude.{◌*◌, ◌≡◌, ℕ, ◌+◌, ◌^◌, ◌<◌, not, nat_eq, if◌then◌else◌, List, [], ◌∷◌, ◌++◌, length, filter, sum_by, Some, None}
 use Rattle.std.specs.List.{count_by}
+use Rattle.amqp_link.specs.Bounds.{Bounds}
 use Rattle.amqp_link.specs.Links.{LinkEvent, open_set, named_count}
 use Rattle.amqp_link.specs.Laws.{is_named_by}
 use Rattle.amqp_link.specs.Histories as link
@@ -11,12 +12,13 @@ use Rattle.amqp_session.specs.Places.{Happens, Nothing, Begins, GoesOn, AllGoOn,
 use Rattle.amqp_session.specs.Sessions.{Attached, LiveLink, SessionState, slot_at, SessionEvent, happens, stated_by, handles}
 use Rattle.amqp_session.specs.Histories.{part}
 use Rattle.amqp_session.specs.Faults.{is_free}
-use Rattle.amqp_session.specs.Calls.{Call, Settle}
+use Rattle.amqp_session.specs.Calls.{Call, Settle, SettleRange}
 use Rattle.amqp_session.specs.Frames.{Frame, Transfers}
 
--- the delivery-id of a call has 32 bits [2.8.9]
+-- the delivery-ids of a call have 32 bits [2.8.9]
 abbrev pub IsCallInRange : Call → Type 0
 IsCallInRange (Settle id outcome) = id < 2 ^ 32
+IsCallInRange (SettleRange first last outcome) = (first < 2 ^ 32) × (last < 2 ^ 32)
 IsCallInRange c = Unit {0}
 
 -- Parts. ------------------------------------------------------------------------------------------------------------------
@@ -61,6 +63,16 @@ granted_in k AllGone = 0
 
 abbrev pub granted_at : ℕ → SessionEvent → ℕ
 granted_at handle e = granted_in handle (happens e)
+
+-- what a link with these bounds keeps at most: 128 for itself, a name of 255 bytes, ends of 1024, and for each delivery that is allowed its message and 96
+abbrev pub link_most : Bounds → ℕ
+link_most b = 1407 + b.allowed * (b.max_message_size + 96)
+
+-- What a handle keeps at most: of a live link what its bounds allow. One that waits for the peer's detach keeps itself alone. [2.6.6]
+abbrev pub slot_most : Slot LiveLink → ℕ
+slot_most Free = 0
+slot_most (Live l) = link_most l.link.terms.bounds
+slot_most Waits = 128
 
 -- how many handles are in use: those of live links, and of links that wait for the peer's detach [2.6.2]
 abbrev pub used_count : SessionState → ℕ

@@ -14,3 +14,4 @@ pub mod Lending
 pub mod StateLending
 pub mod Coordinators
 pub mod Indexes
+pub mod Surveys

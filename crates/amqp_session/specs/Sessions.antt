@@ -169,12 +169,11 @@ session_after s e = record {
 
 -- Whether an event is accepted. -----------------------------------------------------------------------------------------
 
--- what a link may begin with: its name and both its ends are short, and its bounds are those of the session
-pub record IsAttached (terms : SessionTerms) (a : Attached) : Type 0 where
+-- what a link may begin with: its name and both its ends are short
+pub record IsAttached (a : Attached) : Type 0 where
   pub name : length a.name ≤ 255
   pub ends : length a.source + length a.target ≤ 1024
   pub count : a.terms.initial_delivery_count < 2 ^ 32
-  pub bounds : a.terms.bounds ≡ terms.bounds
 
 -- the window is widened to less than 2 ^ 31 places, and a transfer needs a place of it [2.5.6]
 abbrev pub HasRoom : SessionState → SessionEvent → Type 0
@@ -203,4 +202,4 @@ IsProper s (Called handle e) = IsCall e
 IsProper s e = Unit {0}
 
 abbrev pub SessionMay : SessionState → SessionEvent → Type 0
-SessionMay s e = HasRoom s e × IsProper s e × places_may (IsAttached s.terms) live_may s.links (happens e)
+SessionMay s e = HasRoom s e × IsProper s e × places_may (IsAttached) live_may s.links (happens e)

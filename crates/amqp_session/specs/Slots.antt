@@ -144,6 +144,7 @@ pub record IsView (l : LiveLink) (v : LinkView) : Type 0 where
   pub credit : v.credit ≡ l.link.credit
   pub opened : v.opened ≡ open_count l.link
   pub ready : v.ready ≡ length l.link.ready
+  pub bounds : v.bounds ≡ l.link.terms.bounds
 
 abbrev pub IsViewAt : Slot LiveLink → Option LinkView → Type 0
 IsViewAt (Live l) (Some v) = IsView l v

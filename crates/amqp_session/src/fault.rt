@@ -34,12 +34,15 @@ impl From<AllocError> for SessionFault {
 pub enum CallFault {
     /// No link is live at the handle.
     NoLink,
-    /// No open delivery has the id.
+    /// No open delivery has the id, or the first or the last of a range; or the last is behind the first.
     NoDelivery,
-    /// The delivery was not handed up.
+    /// The delivery, or one of them, was not handed up.
     NotTaken,
-    /// The sender was told what became of the delivery, which it has to settle.
+    /// The sender was told what became of the delivery, or of one of them, which it has to settle.
     AlreadyTold,
+    /// One of the deliveries is in mode first, and another in mode second: a disposition says of all that they are
+    /// settled, or of none [2.7.6, 2.8.3].
+    MixedModes,
     /// No delivery of the link is ready.
     NothingReady,
     /// Credit and open deliveries would be more than the link allows.

@@ -174,6 +174,7 @@ impl<A: Allocator + Copy> KeptLink<A> {
             credit: record.link.credit(),
             opened: record.link.opened(),
             ready: record.link.ready(),
+            bounds: record.link.bounds(),
         }
     }
 

@@ -1,15 +1,16 @@
 //! What holds of the history of a session, whoever keeps it. The calls do nothing: their contracts are the laws.
-ghost use Rattle.std.specs.Prelude.{◌≡◌, ℕ, ◌+◌, ◌*◌, ◌%◌, ◌^◌, ◌<◌, ◌≤◌, true, false, List, ◌∷◌, [], sum_by, Some, None};
+ghost use Rattle.std.specs.Prelude.{◌≡◌, ℕ, ◌+◌, ◌*◌, ◌%◌, ◌^◌, ◌<◌, ◌≤◌, true, false, not, List, ◌∷◌, [], sum_by, Some, None};
+ghost use Rattle.std.specs.List.{list_any};
 ghost use Rattle.amqp_perform.specs.declared.modes.ReceiverSettleMode.{ReceiverSettleMode};
 ghost use Rattle.amqp_perform.specs.declared.modes.ReceiverSettleMode.TheVariants.{First, Second};
 ghost use Rattle.amqp_link.specs.declared.settlement.Standing.TheVariants.{Told, Awaiting};
 ghost use Rattle.amqp_link.specs.Links.{Sent, LinkEvent, Granted, open_count};
 ghost use Rattle.amqp_session.specs.declared.slot.Slot.TheVariants.{Free, Live, Waits};
 ghost use Rattle.amqp_session.specs.declared.terms.SessionTerms.{SessionTerms};
-ghost use Rattle.amqp_session.specs.Calls.{Call, standing_in, call_fault, call_event};
+ghost use Rattle.amqp_session.specs.Calls.{Call, standing_in, standing_fault, settles_at_once, slot_names_first, slot_names_second, range_fault, call_fault, call_event};
 ghost use Rattle.amqp_session.specs.Faults.{session_fault, event_of, settled_count};
 ghost use Rattle.amqp_session.specs.Frames.{Flowing, Frame, Flows, Transfers, IsInRange};
-ghost use Rattle.amqp_session.specs.Laws.{IsCallInRange, IsOfTransfer, parts, used_count, part_bytes, part_settled, named_total, part_named, NoneStates, IsStatedBefore, IsElsewhere, credit_at, granted_at};
+ghost use Rattle.amqp_session.specs.Laws.{IsCallInRange, IsOfTransfer, parts, used_count, slot_most, part_bytes, part_settled, named_total, part_named, NoneStates, IsStatedBefore, IsElsewhere, credit_at, granted_at};
 ghost use Rattle.amqp_session.specs.Places.{GoesOn, AllGoOn, Leaves, Gone};
 ghost use Rattle.amqp_session.specs.Sessions as session;
 ghost use Rattle.amqp_session.specs.Sessions.{Attached, LiveLink, live_begins, SessionState, slot_at, is_open_id, session_bytes, SessionEvent, LinkAttached, Settled, Ignored, Called, happens, is_transfer, stated_by, session_after, SessionMay, IsApart};
@@ -71,10 +72,10 @@ pub fn held_is_counted()
     open_deliveries_are_selected();
 }
 
-/// What counts as kept of a session is bounded by its terms: 64 for itself, and for each handle in use 128,
-/// a name of 255 bytes, ends of 1024, and what a link may keep.
+/// What counts as kept of a session is bounded by its links: 64 for itself, for each live link what its bounds allow, and 128
+/// for each that waits for the peer's detach.
 pub fn held_is_bounded()
-    ensures { (terms : SessionTerms) (h : List SessionEvent) → Sound terms h → session_bytes (state_of terms h) ≤ 64 + used_count (state_of terms h) * (1407 + terms.bounds.allowed * (terms.bounds.max_message_size + 96)) }
+    ensures { (terms : SessionTerms) (h : List SessionEvent) → Sound terms h → session_bytes (state_of terms h) ≤ 64 + sum_by slot_most (state_of terms h).links }
 {
     links::held_is_bounded();
 }
@@ -98,6 +99,18 @@ pub fn settles_name_what_was_handed_up()
 /// A settle of one id names one delivery of the whole session, where one with it awaits what became of it.
 pub fn a_settle_names_one_delivery()
     ensures { (s : SessionState) (id : ℕ) (mode : ReceiverSettleMode) → IsApart s → id < 2 ^ 32 → standing_in id s.links ≡ Awaiting mode → named_total id id s ≡ 1 }
+{}
+
+/// A settle of one id is refused as its delivery stands, since no other has the id.
+pub fn a_settle_is_a_range_of_one()
+    ensures { (s : SessionState) (id : ℕ) → IsApart s → id < 2 ^ 32 → range_fault id id s ≡ standing_fault (standing_in id s.links) }
+{}
+
+/// The open deliveries that a settle of a range names are all in the mode of the first, where it is not refused:
+/// its disposition says of each what is so of it [2.7.6, 2.8.3].
+pub fn a_range_is_in_one_mode()
+    ensures first { (s : SessionState) (first last : ℕ) → IsApart s → first < 2 ^ 32 → range_fault first last s ≡ None → list_any (slot_names_first first last) s.links ≡ settles_at_once (standing_in first s.links) }
+    ensures second { (s : SessionState) (first last : ℕ) → IsApart s → first < 2 ^ 32 → range_fault first last s ≡ None → list_any (slot_names_second first last) s.links ≡ not (settles_at_once (standing_in first s.links)) }
 {}
 
 /// What a settle of one id leaves. In mode first no open delivery of the session has the id any more. In mode
@@ -166,5 +179,5 @@ pub fn credit_rises_by_grants()
 
 /// On each live link credit and open deliveries are together at most what the session allows.
 pub fn links_are_within()
-    ensures { (terms : SessionTerms) (h : List SessionEvent) (handle : ℕ) (l : LiveLink) → Sound terms h → slot_at (state_of terms h) handle ≡ Live l → l.link.credit + open_count l.link ≤ terms.bounds.allowed }
+    ensures { (terms : SessionTerms) (h : List SessionEvent) (handle : ℕ) (l : LiveLink) → Sound terms h → slot_at (state_of terms h) handle ≡ Live l → l.link.credit + open_count l.link ≤ l.link.terms.bounds.allowed }
 {}

@@ -2,8 +2,9 @@
 //!
 //! [`Session::begin`], then for each frame of the peer the call for its performative, or [`Session::frame`]; and
 //! the calls of the application: [`Session::widen`], [`Session::grant`], [`Session::drain`], [`Session::take`],
-//! [`Session::settle`] and [`Session::detach`]. `specs/Sessions.antt` has the state and what each event does to
-//! it, `specs/Faults.antt` and `specs/Calls.antt` which event a frame and a call are, or why they are refused.
+//! [`Session::settle`], [`Session::settle_range`] and [`Session::detach`]. `specs/Sessions.antt` has the state and
+//! what each event does to it, `specs/Faults.antt` and `specs/Calls.antt` which event a frame and a call are, or why
+//! they are refused.
 //! The tests stand in `layer_rows`.
 #![tactic(auto)]
 
@@ -12,6 +13,7 @@ mod fault;
 mod index;
 mod kept_link;
 pub mod laws;
+mod ranges;
 mod refusal;
 mod replies;
 mod report;
@@ -19,6 +21,7 @@ mod session;
 mod slot;
 mod slots;
 mod state;
+mod survey;
 mod table;
 mod terms;
 mod tree;
@@ -26,7 +29,7 @@ mod view;
 
 pub use done::{Answer, Done};
 pub use fault::{CallFault, SessionFault};
-pub use replies::{failure, refusal_reply};
+pub use replies::{failure, refusal_reply, write_attach_reply};
 pub use report::Report;
 pub use session::Session;
 pub use slot::Slot;

@@ -9,6 +9,7 @@ ghost use Rattle.amqp_session.specs.Frames.{attaching, is_coordinator, is_coordi
 
 use crate::replies::{self, Modes};
 use crate::terms::SessionTerms;
+use amqp_link::LinkBounds;
 use amqp_perform::{Attach, Condition, Performative, Role, write_frame};
 use amqp_types::laws::reading_is_exact;
 use amqp_types::{Kind, Peek, peek, skip};
@@ -21,9 +22,9 @@ const MAX_REPLY: usize = 1400;
 
 /// Why the link is refused: this side would be its sender, or the coordinator of transactions; source and target
 /// are too long; or the answer does not fit a frame of the peer [2.6.3, 2.7.1, 2.7.3].
-pub fn refusal(terms: &SessionTerms, attach: &Attach<'_>) -> Option<Condition>
+pub fn refusal(terms: &SessionTerms, attach: &Attach<'_>, bounds: LinkBounds) -> Option<Condition>
     requires { length attach.now.name.now ≤ 255 }
-    ensures { result ≡ refusal terms.now (attaching attach.now) }
+    ensures { result ≡ refusal terms.now (attaching attach.now bounds) }
 {
     if matches!(attach.role, Role::Receiver) || is_coordinator(attach.target) {
         return Some(Condition::NotImplemented);
@@ -31,24 +32,24 @@ pub fn refusal(terms: &SessionTerms, attach: &Attach<'_>) -> Option<Condition>
     if attach.source.len() > MAX_ENDS || attach.target.len() > MAX_ENDS - attach.source.len() {
         return Some(Condition::ResourceLimitExceeded);
     }
-    if !fits(terms, attach) {
+    if !fits(terms, attach, bounds) {
         return Some(Condition::FrameSizeTooSmall);
     }
     None
 }
 
 /// Whether the answer to an attach fits a frame of the peer.
-fn fits(terms: &SessionTerms, attach: &Attach<'_>) -> bool
+fn fits(terms: &SessionTerms, attach: &Attach<'_>, bounds: LinkBounds) -> bool
     requires name { length attach.now.name.now ≤ 255 }
     requires ends { length attach.now.source.now + length attach.now.target.now ≤ 1024 }
-    ensures { result ≡ not (nat_lt terms.now.max_frame_size (length (said_frame 0 (attach_said terms.now.bounds.max_message_size (attaching attach.now)) []))) }
+    ensures { result ≡ not (nat_lt terms.now.max_frame_size (length (said_frame 0 (attach_said bounds.max_message_size (attaching attach.now bounds)) []))) }
 {
     let room = terms.max_frame_size as usize;
     if room >= MAX_REPLY {
         return true;
     }
     let mut scratch = [0; 9];
-    let spelled = replies::ulong(terms.bounds.max_message_size(), &mut scratch);
+    let spelled = replies::ulong(bounds.max_message_size(), &mut scratch);
     let reply = replies::accepted(
         attach.name,
         attach.source,

@@ -1,6 +1,7 @@
 //! What a session says in answer.
 ghost use Rattle.std.specs.Prelude.{◌≡◌, ℕ, [], true, false};
 ghost use Rattle.amqp_perform.specs.Frames.{IsWritten};
+ghost use Rattle.amqp_link.specs.Bounds.{Bounds};
 ghost use Rattle.amqp_session.specs.Replies.{IsAttaching};
 ghost use Rattle.amqp_perform.specs.declared.performative.Performative.TheVariants as performative;
 ghost use Rattle.amqp_perform.specs.Said.{said, said_frame};
@@ -9,6 +10,7 @@ ghost use Rattle.amqp_types.specs.Canonical.{canonical};
 ghost use Rattle.amqp_types.specs.Trees.{Number};
 
 use crate::slots::LinkStated;
+use amqp_link::LinkBounds;
 use amqp_perform::{
     Attach, Condition, Detach, Disposition, Flow, Outcome, Performative, ReceiverSettleMode, Role,
     SenderSettleMode, write_frame,
@@ -80,14 +82,15 @@ pub fn failure(handle: u32, condition: Condition) -> Detach<'static>
     }
 }
 
-/// What became of a delivery [2.7.6].
-pub fn disposition(id: u32, settled: bool, outcome: Outcome) -> Disposition<'static>
-    ensures { said (performative.Disposition result) ≡ disposition_said id settled outcome }
+/// What became of the deliveries with the ids from `first` to `last` [2.7.6].
+pub fn disposition(first: u32, last: u32, settled: bool, outcome: Outcome) -> Disposition<'static>
+    ensures { said (performative.Disposition result) ≡ disposition_said first last settled outcome }
 {
+    let last = if first == last { None } else { Some(last) };
     Disposition {
         role: Role::Receiver,
-        first: id,
-        last: None,
+        first,
+        last,
         settled,
         state: outcome.span(),
         batchable: &[],
@@ -104,17 +107,18 @@ fn other_role(role: Role) -> Role
     }
 }
 
-/// Writes the answer to an attach, with the longest message that is accepted [2.6.3, 2.7.3].
+/// Writes the frame that answers an attach that was accepted at the front of `out`, with the longest message that its link
+/// accepts [2.6.3, 2.7.3]. Answers its length; `None`, with `out` unchanged, where it does not fit.
 pub fn write_attach_reply(
-    longest: u32,
     channel: u16,
     attach: &Attach<'_>,
+    bounds: LinkBounds,
     out: &mut [u8],
 ) -> Option<usize>
-    ensures { IsWritten (said_frame channel (attach_said longest (attaching attach.now)) []) result out.old out.new }
+    ensures { IsWritten (said_frame channel (attach_said bounds.max_message_size (attaching attach.now bounds)) []) result out.old out.new }
 {
     let mut scratch = [0; 9];
-    let spelled = ulong(longest, &mut scratch);
+    let spelled = ulong(bounds.max_message_size(), &mut scratch);
     let reply = accepted(
         attach.name,
         attach.source,
@@ -189,7 +193,7 @@ pub fn ulong(number: u32, scratch: &mut [u8; 9]) -> &[u8]
 /// The attach of a link that is refused: it has neither source nor target, and a sender's states an
 /// initial-delivery-count [2.6.3, 2.7.3].
 pub fn refusal_reply<'a>(attach: &Attach<'a>) -> Attach<'a>
-    ensures { said (performative.Attach result) ≡ refusal_said (attaching attach.now) }
+    ensures { (b : Bounds) → said (performative.Attach result) ≡ refusal_said (attaching attach.now b) }
 {
     let initial_delivery_count = match attach.role {
         Role::Sender => None,

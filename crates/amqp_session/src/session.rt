@@ -1,31 +1,30 @@
 //! One session that receives.
 ghost use Rattle.std.specs.Prelude.{◌≡◌, ℕ, ◌≤◌, ◌<◌, ◌+◌, ◌^◌, sum_by, [], ◌∷◌, unwrap_or, Option, Some, None, OnOk, IfOk, OnErr, IfErr, true, false, is_some, if◌then◌else◌};
-ghost use Rattle.amqp_link.specs.Links.{sent_of, IsAwaiting};
+ghost use Rattle.amqp_link.specs.Links.{sent_of};
 ghost use Rattle.amqp_perform.specs.declared.performative.Performative.{Performative};
 ghost use Rattle.amqp_perform.specs.declared.performative.Performative.TheVariants as performative;
 ghost use Rattle.amqp_perform.specs.Frames.{IsWritten};
 ghost use Rattle.amqp_perform.specs.declared.outcome.Outcome.{Outcome};
-ghost use Rattle.amqp_session.specs.Calls.{Widen, Grant, Drain, Take, Settle, Detach as DetachCall, call_fault, call_event, call_answer, slot_standing, standing_in};
+ghost use Rattle.amqp_session.specs.Calls.{Widen, Grant, Drain, Take, Settle, SettleRange, Detach as DetachCall, call_fault, call_event, call_answer};
 ghost use Rattle.amqp_session.specs.Faults.{session_fault, event_of, report_of, answer_of, failure_answer, flow_answer, echo_answer, slot_settled, IsRefusal};
 ghost use Rattle.amqp_perform.specs.Said.{said, said_frame};
 ghost use Rattle.amqp_session.specs.Frames.{Attaches, Flows, Transfers, Disposes, Detaches, attaching, flowing, disposing, frame_of, attach_said};
 ghost use Rattle.amqp_session.specs.Sessions.{session_begins, session_after, session_bytes, session_ready, slot_at, slot_ready, SessionMay, IsApart};
-ghost use Rattle.amqp_session.specs.Slots.{HandsUp, IsFound, IsViewAt};
-ghost use Rattle.amqp_session.specs.Links.{HasSettled};
+ghost use Rattle.amqp_session.specs.Slots.{HandsUp, IsViewAt};
+ghost use Rattle.amqp_session.specs.Laws.{named_total};
 ghost use Rattle.amqp_session.specs.Indexes.{found, is_untaken, disposed, IsAlone, IsKnown};
 ghost use Rattle.amqp_session.specs.Answers.{said_by, answer_said, IsOfAttach, IsPlain, IsWithin, HasDone, IsFrameRefusal, IsAttachAnswer};
 
 use crate::done::{Answer, Done};
 use crate::fault::{CallFault, SessionFault};
 use crate::index::{Index, Kept};
-use crate::replies;
 use crate::report::Report;
 use crate::slots::stated;
 use crate::state::{State, is_settling, settled_report, settles_at_once, standing_fault};
-use crate::table::Found;
 use crate::terms::SessionTerms;
 use crate::view::LinkView;
-use amqp_link::{Standing, Taken, laws};
+use crate::{ranges, replies};
+use amqp_link::{LinkBounds, Standing, Taken, laws};
 use amqp_perform::{Attach, Detach, Disposition, Flow, Outcome, Performative, Transfer};
 use amqp_serial::Serial;
 use std::alloc::{Allocator, Global};
@@ -124,26 +123,26 @@ impl<A: Allocator + Copy> Session<A> {
     /// with the first of these: `ResourceLimit` where the name has more than 255 bytes, `HandleInUse`,
     /// `InvalidField` where a sender states no initial-delivery-count, and `NoMemory`.
     ///
-    /// `Attached` tells of a link, which [`Session::write_attach_reply`] answers. `Failed` tells of one that is
+    /// `Attached` tells of a link, which [`crate::write_attach_reply`] answers. `Failed` tells of one that is
     /// refused: [`crate::refusal_reply`] answers it, and behind that a detach; its handle stays in use until the
     /// peer detaches it. A link is refused where this side would be its sender, or the coordinator of
     /// transactions; where source and target have together more than 1024 bytes; and where the answer would not
     /// fit a frame of the peer.
-    pub fn attach(&mut self, attach: &Attach<'_>) -> Result<Done, SessionFault>
+    pub fn attach(&mut self, attach: &Attach<'_>, bounds: LinkBounds) -> Result<Done, SessionFault>
         requires { attach.now.handle ≤ self.old.terms.handle_max }
-        ensures may { OnOk result (SessionMay self.old (event_of self.old (Attaches (attaching attach.now)))) }
-        ensures new { OnOk result (self.new ≡ session_after self.old (event_of self.old (Attaches (attaching attach.now)))) }
-        ensures accepted { OnOk result (session_fault self.old (Attaches (attaching attach.now)) ≡ None) }
-        ensures report { IfOk result (λ done. done.report ≡ report_of self.old (Attaches (attaching attach.now))) }
-        ensures answer { IfOk result (λ done. answer_of self.old (Attaches (attaching attach.now)) ≡ answer_said self.old.terms (Attaches (attaching attach.now)) done.answer) }
+        ensures may { OnOk result (SessionMay self.old (event_of self.old (Attaches (attaching attach.now bounds)))) }
+        ensures new { OnOk result (self.new ≡ session_after self.old (event_of self.old (Attaches (attaching attach.now bounds)))) }
+        ensures accepted { OnOk result (session_fault self.old (Attaches (attaching attach.now bounds)) ≡ None) }
+        ensures report { IfOk result (λ done. done.report ≡ report_of self.old (Attaches (attaching attach.now bounds))) }
+        ensures answer { IfOk result (λ done. answer_of self.old (Attaches (attaching attach.now bounds)) ≡ answer_said self.old.terms (Attaches (attaching attach.now bounds)) done.answer) }
         ensures kind { IfOk result (λ done. IsOfAttach done.answer) }
-        ensures refused { IfErr result (λ e. IsRefusal self.old (Attaches (attaching attach.now)) e) }
+        ensures refused { IfErr result (λ e. IsRefusal self.old (Attaches (attaching attach.now bounds)) e) }
         ensures err { OnErr result (self.new ≡ self.old) }
     {
         laws::open_ids_grow_by_heads();
         self.state.is_long();
         is_counted(attach);
-        let report = self.state.attach(attach)?;
+        let report = self.state.attach(attach, bounds)?;
         Ok(attach_done(report))
     }
 
@@ -269,34 +268,21 @@ impl<A: Allocator + Copy> Session<A> {
         &mut self,
         performative: &Performative<'_>,
         payload: &[u8],
+        bounds: LinkBounds,
     ) -> Result<Done, SessionFault>
         requires { IsWithin self.old.terms.handle_max performative.now }
-        ensures done { IfOk result (λ done. HasDone self.old self.new (frame_of performative.now payload.now) done) }
-        ensures refused { IfErr result (λ e. IsFrameRefusal self.old (frame_of performative.now payload.now) e) }
+        ensures done { IfOk result (λ done. HasDone self.old self.new (frame_of performative.now payload.now bounds) done) }
+        ensures refused { IfErr result (λ e. IsFrameRefusal self.old (frame_of performative.now payload.now bounds) e) }
         ensures err { OnErr result (self.new ≡ self.old) }
     {
         match performative {
-            Performative::Attach(p) => self.attach(p),
+            Performative::Attach(p) => self.attach(p, bounds),
             Performative::Flow(p) => self.flow(p),
             Performative::Transfer(p) => Ok(told(self.transfer(p, payload)?)),
             Performative::Disposition(p) => Ok(told(self.disposition(p))),
             Performative::Detach(p) => self.detached(p),
             _ => Ok(told(Report::Nothing)),
         }
-    }
-
-    /// Writes the frame that answers an attach that was accepted at the front of `out`, with the longest message that
-    /// is accepted [2.6.3, 2.7.3]. Answers its length; `None`, with `out` unchanged, where it does not fit.
-    pub fn write_attach_reply(
-        &self,
-        channel: u16,
-        attach: &Attach<'_>,
-        out: &mut [u8],
-    ) -> Option<usize>
-        ensures { IsWritten (said_frame channel (attach_said self.now.terms.bounds.max_message_size (attaching attach.now)) []) result out.old out.new }
-    {
-        let longest = self.state.terms().bounds.max_message_size();
-        replies::write_attach_reply(longest, channel, attach, out)
     }
 
     /// Why [`Session::widen`] would be refused now; `None` where it would be accepted.
@@ -325,9 +311,19 @@ impl<A: Allocator + Copy> Session<A> {
     pub fn settle_fault(&self, id: u32) -> Option<CallFault>
         ensures { (outcome : Outcome) → result ≡ call_fault self.now (Settle id outcome) }
     {
-        match find(&self.index, &self.state, id) {
+        match ranges::find(&self.index, &self.state, id) {
             Some(found) => standing_fault(found.standing),
             None => Some(CallFault::NoDelivery),
+        }
+    }
+
+    /// Why [`Session::settle_range`] would be refused now, with any outcome; `None` where it would be accepted.
+    pub fn settle_range_fault(&self, first: u32, last: u32) -> Option<CallFault>
+        ensures { (outcome : Outcome) → result ≡ call_fault self.now (SettleRange first last outcome) }
+    {
+        match ranges::judge(&self.index, &self.state, first, last) {
+            Ok(_) => None,
+            Err(fault) => Some(fault),
         }
     }
 
@@ -423,19 +419,48 @@ impl<A: Allocator + Copy> Session<A> {
         ensures refused { IfErr result (λ e. call_fault self.old (Settle id outcome) ≡ Some e) }
         ensures err { OnErr result (self.new ≡ self.old) }
     {
-        laws::open_ids_grow_by_heads();
-        self.state.is_long();
         self.state.is_numbered();
         let Some(kept) = self.index.get(id) else {
             return Err(CallFault::NoDelivery);
         };
-        let standing = settle_at(&mut self.state, kept, id);
+        let standing = ranges::settle_one(&mut self.state, &mut self.index, kept, id);
         if let Some(fault) = standing_fault(standing) {
             return Err(fault);
         }
         let settled = settles_at_once(standing);
-        self.index.close(id, settled);
-        Ok(replies::disposition(id, settled, outcome))
+        Ok(replies::disposition(id, id, settled, outcome))
+    }
+
+    /// Settles the open deliveries of all links whose ids stand in the range from `first` to `last`, as
+    /// [`Session::settle`] does each, and answers the disposition that says so, and how many it names [2.7.6].
+    /// Refused, with nothing changed, with the first of these: `NoDelivery` where `first` or `last` is not the id
+    /// of an open delivery, or `last` is behind `first`; `NotTaken` or `AlreadyTold` where that is so of one;
+    /// `MixedModes` where one is in mode first and another in mode second. Ids between that no open delivery has
+    /// are no fault. Takes no memory.
+    pub fn settle_range(
+        &mut self,
+        first: u32,
+        last: u32,
+        outcome: Outcome,
+    ) -> Result<(Disposition<'static>, u32), CallFault>
+        ensures may { OnOk result (SessionMay self.old (call_event self.old (SettleRange first last outcome))) }
+        ensures new { OnOk result (self.new ≡ session_after self.old (call_event self.old (SettleRange first last outcome))) }
+        ensures accepted { OnOk result (call_fault self.old (SettleRange first last outcome) ≡ None) }
+        ensures answer { IfOk result (λ told. call_answer self.old (SettleRange first last outcome) ≡ said (performative.Disposition told.0) ∷ []) }
+        ensures count { IfOk result (λ told. told.1 ≡ named_total first last self.old) }
+        ensures refused { IfErr result (λ e. call_fault self.old (SettleRange first last outcome) ≡ Some e) }
+        ensures err { OnErr result (self.new ≡ self.old) }
+    {
+        self.state.is_numbered();
+        if first == last {
+            return Ok((self.settle(first, outcome)?, 1));
+        }
+        let named = ranges::judge(&self.index, &self.state, first, last)?;
+        ranges::settle_ids(&mut self.state, &mut self.index, first, last);
+        Ok((
+            replies::disposition(first, last, named.settled, outcome),
+            named.count,
+        ))
     }
 
     /// Ends the link at a handle [2.6.6]: answers the detach, with closed true, that says so, and how many ready
@@ -456,36 +481,6 @@ impl<A: Allocator + Copy> Session<A> {
         let dropped = self.state.detach(&mut ended, handle)?;
         self.index.forget_link(ended);
         Ok((replies::detach(handle, true), dropped))
-    }
-}
-
-/// Where the open delivery with this id is kept, and what it is to its receiver; `None` where no link has one.
-fn find<A: Allocator + Copy>(index: &Index<A>, state: &State<A>, id: u32) -> Option<Found>
-    requires { IsKnown index.now state.now }
-    ensures { IsFound id state.now.links result }
-{
-    match index.get(id) {
-        None => None,
-        Some(kept) => Some(Found {
-            handle: kept.handle,
-            key: kept.key,
-            standing: state.standing(kept.handle, kept.key, id),
-        }),
-    }
-}
-
-/// The receiver settles the open delivery with this id, which is kept so if it is open, where it awaits that. Answers how
-/// it stood.
-fn settle_at<A: Allocator + Copy>(state: &mut State<A>, kept: Kept, id: u32) -> Standing
-    requires apart { IsApart state.old }
-    requires whole { standing_in id state.old.links ≡ slot_standing id (slot_at state.old kept.handle) }
-    ensures standing { result ≡ slot_standing id (slot_at state.old kept.handle) }
-    ensures settled { IsAwaiting result → HasSettled state.old state.new kept.handle id }
-    ensures same { ¬ (IsAwaiting result) → state.new ≡ state.old }
-{
-    match state.link_mut(kept.handle) {
-        Some(link) => link.settle_at(kept.key, id),
-        None => Standing::Absent,
     }
 }
 

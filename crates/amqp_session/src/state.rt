@@ -27,7 +27,7 @@ use crate::slots::{self, LinkStated, PeerDetached};
 use crate::terms::SessionTerms;
 use crate::view::LinkView;
 use crate::{replies, table};
-use amqp_link::{Link, Standing, Terms};
+use amqp_link::{Link, LinkBounds, Standing, Terms};
 use amqp_perform::{Attach, Disposition, Flow, ReceiverSettleMode, Role, Transfer};
 use std::alloc::{AllocError, Allocator, Global};
 use std::marker::Model;
@@ -233,8 +233,8 @@ impl<A: Allocator + Copy> State<A> {
     }
 
     /// The fault of an attach that ends the session.
-    fn attach_fault(&self, attach: &Attach<'_>) -> Option<SessionFault>
-        ensures { result ≡ attach_fault self.now (attaching attach.now) }
+    fn attach_fault(&self, attach: &Attach<'_>, bounds: LinkBounds) -> Option<SessionFault>
+        ensures { result ≡ attach_fault self.now (attaching attach.now bounds) }
     {
         if attach.name.len() > MAX_NAME {
             Some(SessionFault::ResourceLimit)
@@ -248,23 +248,27 @@ impl<A: Allocator + Copy> State<A> {
     }
 
     /// Takes an attach.
-    pub fn attach(&mut self, attach: &Attach<'_>) -> Result<Report, SessionFault>
+    pub fn attach(
+        &mut self,
+        attach: &Attach<'_>,
+        bounds: LinkBounds,
+    ) -> Result<Report, SessionFault>
         requires { attach.now.handle ≤ self.old.terms.handle_max }
-        ensures new { OnOk result (self.new ≡ session_after self.old (event_of self.old (Attaches (attaching attach.now)))) }
-        ensures accepted { OnOk result (session_fault self.old (Attaches (attaching attach.now)) ≡ None) }
-        ensures report { IfOk result (λ report. report ≡ report_of self.old (Attaches (attaching attach.now))) }
-        ensures refused { IfErr result (λ e. IsRefusal self.old (Attaches (attaching attach.now)) e) }
+        ensures new { OnOk result (self.new ≡ session_after self.old (event_of self.old (Attaches (attaching attach.now bounds)))) }
+        ensures accepted { OnOk result (session_fault self.old (Attaches (attaching attach.now bounds)) ≡ None) }
+        ensures report { IfOk result (λ report. report ≡ report_of self.old (Attaches (attaching attach.now bounds))) }
+        ensures refused { IfErr result (λ e. IsRefusal self.old (Attaches (attaching attach.now bounds)) e) }
         ensures err { OnErr result (self.new ≡ self.old) }
     {
-        if let Some(fault) = self.attach_fault(attach) {
+        if let Some(fault) = self.attach_fault(attach, bounds) {
             return Err(fault);
         }
         let handle = attach.handle;
         let place = handle as usize;
         table::reach(&mut self.table, place)?;
-        match refusal(&self.terms, attach) {
+        match refusal(&self.terms, attach, bounds) {
             None => {
-                self.table[place] = Slot::Live(begun(self.alloc, &self.terms, attach)?);
+                self.table[place] = Slot::Live(begun(self.alloc, &self.terms, attach, bounds)?);
                 Ok(Report::Attached { handle })
             }
             Some(condition) => {
@@ -504,15 +508,16 @@ fn begun<A: Allocator + Copy>(
     alloc: A,
     terms: &SessionTerms,
     attach: &Attach<'_>,
+    bounds: LinkBounds,
 ) -> Result<KeptLink<A>, AllocError>
     requires name { length attach.now.name.now ≤ 255 }
     requires ends { length attach.now.source.now + length attach.now.target.now ≤ 1024 }
-    ensures { IfOk result (λ l. l ≡ live_begins (attached terms.now (attaching attach.now))) }
+    ensures { IfOk result (λ l. l ≡ live_begins (attached terms.now (attaching attach.now bounds))) }
 {
     let terms = Terms {
         initial_delivery_count: attach.initial_delivery_count.unwrap_or(0),
         rcv_settle_mode: attach.rcv_settle_mode,
-        bounds: terms.bounds,
+        bounds,
     };
     KeptLink::attach(
         alloc,

@@ -1,6 +1,4 @@
 //! What a session begins with.
-use amqp_link::LinkBounds;
-
 /// What the begins of both sides fix for as long as the session lives [2.7.2].
 #[derive(Clone, Copy, Debug)]
 pub struct SessionTerms {
@@ -12,6 +10,4 @@ pub struct SessionTerms {
     pub handle_max: u8,
     /// The peer's max-frame-size [2.7.1].
     pub max_frame_size: u32,
-    /// What each link may keep.
-    pub bounds: LinkBounds,
 }

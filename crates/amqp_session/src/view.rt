@@ -1,4 +1,5 @@
 //! What is shown of a link.
+use amqp_link::LinkBounds;
 
 /// A live link.
 #[derive(Clone, Copy, Debug)]
@@ -15,4 +16,6 @@ pub struct LinkView<'a> {
     pub opened: u32,
     /// How many of them are ready to be handed up.
     pub ready: u32,
+    /// How many deliveries and how long messages it allows.
+    pub bounds: LinkBounds,
 }

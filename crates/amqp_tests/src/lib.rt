@@ -5,6 +5,8 @@
 #[cfg(test)]
 mod dump_tests;
 #[cfg(test)]
+mod limits_tests;
+#[cfg(test)]
 mod loopback_tests;
 #[cfg(test)]
 mod recv_tests;

@@ -175,9 +175,23 @@ where
     L::Stream: Read + Write + OpenStream + Drop,
 {
     let name = String::from_str(alloc, "r")?;
-    let Some(config) = Config::checked(name, 512, 0, 1, 4, 10, 100) else {
-        return Err(AllocError);
-    };
+    match Config::checked(name, 512, 0, 1, 4, 10, 100) {
+        Some(config) => served_under(alloc, &config, listener, connections, most),
+        None => Err(AllocError),
+    }
+}
+
+/// The same under these settings.
+pub fn served_under<L: OpenListener>(
+    alloc: Global,
+    config: &Config,
+    listener: &L,
+    connections: u32,
+    most: usize,
+) -> Result<(bool, String, Vec<u8>), AllocError>
+where
+    L::Stream: Read + Write + OpenStream + Drop,
+{
     let policy = Policy {
         credit: 1,
         outcome: Outcome::Accepted,
@@ -192,7 +206,7 @@ where
     let all_closed = recv_on(
         alloc,
         listener,
-        &config,
+        config,
         policy,
         connections,
         &mut Device::new(&mut sink),

@@ -356,6 +356,49 @@ fn says_that_an_address_is_not_open(rt: HostRuntime) {
     assert_ends(&rt, host, ExitCode::FAILURE, "", "fault: Open\n");
 }
 
+/// Seventeen rows.
+const MANY: &[u8] =
+    b"a 1 1\nb 1 1\nc 1 1\nd 1 1\ne 1 1\nf 1 1\ng 1 1\nh 1 1\ni 1 1\nj 1 1\nk 1 1\nl 1 1\nm 1 1\nn 1 1\no 1 1\np 1 1\nq 1 1\n";
+
+/// A prefix of 256 bytes.
+const LONG: &[u8] =
+    b"aaaaaaaaaaaaaaaaaaaaaaaaaaaaaaaaaaaaaaaaaaaaaaaaaaaaaaaaaaaaaaaaaaaaaaaaaaaaaaaaaaaaaaaaaaaaaaaaaaaaaaaaaaaaaaaaaaaaaaaaaaaaaaaaaaaaaaaaaaaaaaaaaaaaaaaaaaaaaaaaaaaaaaaaaaaaaaaaaaaaaaaaaaaaaaaaaaaaaaaaaaaaaaaaaaaaaaaaaaaaaaaaaaaaaaaaaaaaaaaaaaaaaaaaaaaaaaaa 1 1\n";
+
+/// Behind limits that are read the address isn't open; behind others it is not asked for.
+#[test]
+fn names_the_line_of_a_bad_limit(rt: HostRuntime) {
+    let words: [&str; 6] = [
+        "amqp",
+        "recv",
+        "--listen",
+        "127.0.0.1:5672",
+        "--limits",
+        "a.amqp",
+    ];
+    for (file, told) in [
+        (whole(&MANY[..96]), "fault: Open\n"),
+        (whole(b"l 2 5"), "fault: Open\n"),
+        (whole(MANY), "fault: line 17\n"),
+        (whole(LONG), "fault: line 1\n"),
+        (whole(&LONG[1..]), "fault: Open\n"),
+        (whole(b""), "fault: line 1\n"),
+        (whole(b" 2 5\n"), "fault: line 1\n"),
+        (whole(b"l 2 5\nm 0 5\n"), "fault: line 2\n"),
+        (whole(b"l 2 5\nm 1025 5\n"), "fault: line 2\n"),
+        (whole(b"l 2 0\n"), "fault: line 1\n"),
+        (whole(b"l 2 1073741825\n"), "fault: line 1\n"),
+        (whole(b"l 2 5\nm 2 5\nl 3 6\n"), "fault: line 3\n"),
+        (whole(b"l 2 5\r\n"), "fault: line 1\n"),
+        (whole(b"l 2 5\n\xff 2 5\n"), "fault: line 2\n"),
+        (whole(b"limit l 2 5\n"), "fault: line 1\n"),
+        (broken(b"l 2 5\n"), "fault: Read\n"),
+        (None, "fault: Open\n"),
+    ] {
+        let host = host_of(rt.alloc(), &words, file);
+        assert_ends(&rt, host, ExitCode::FAILURE, "", told);
+    }
+}
+
 /// Two peers that have sent all that they send wait at a listener of this machine.
 #[test]
 fn ends_where_standard_output_is_closed(rt: HostRuntime) -> Result<(), Fail> {

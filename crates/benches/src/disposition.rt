@@ -1,8 +1,8 @@
-//! Dispositions of the sender over the open deliveries of a session.
+//! Dispositions over the open deliveries of a session: those of the sender, and the receiver's own settlement of a range.
 
 use crate::measure::{Failure, Measured, Mode};
 use crate::session::{Stopped, arrive, begin, send};
-use amqp_perform::{Disposition, Role};
+use amqp_perform::{Disposition, Outcome, Role};
 use amqp_session::{Report, Session};
 use std::alloc::Global;
 use std::rt::Clock;
@@ -19,6 +19,8 @@ const PAYLOAD: usize = 100;
 enum Meets {
     /// Deliveries that came in this round and were handed up, which it closes.
     HandedUp,
+    /// The same, by the receiver's own settlement.
+    SettledHere,
     /// Deliveries that are ready, which it settled in the first round.
     Settled,
     /// None, among as many ids as it can name, while others are open.
@@ -58,12 +60,18 @@ impl Measured for Case {
 }
 
 /// Every case, in the order in which they are measured.
-pub fn cases() -> [Case; 3] {
+pub fn cases() -> [Case; 4] {
     [
         Case {
             name: "1000-at-once",
             about: "1,000 messages of 100 bytes are granted, received and handed up, and their sender settles them at once",
             meets: Meets::HandedUp,
+            rounds: 5_000,
+        },
+        Case {
+            name: "1000-here",
+            about: "the same, but the receiver settles them, by one range",
+            meets: Meets::SettledHere,
             rounds: 5_000,
         },
         Case {
@@ -88,7 +96,7 @@ fn dispose_often(alloc: Global, meets: Meets, rounds: u32, payload: &[u8]) -> Re
     let mut first = come(&mut session, meets, 0, payload)?;
     for _ in 0..rounds {
         settled = settled.saturating_add(u64::from(dispose(&mut session, meets, first)));
-        if let Meets::HandedUp = meets {
+        if let Meets::HandedUp | Meets::SettledHere = meets {
             first = come(&mut session, meets, first.wrapping_add(OPEN), payload)?;
         }
     }
@@ -115,10 +123,17 @@ fn dispose(session: &mut Session, meets: Meets, first: u32) -> u32 {
         Meets::Nothing => (first.wrapping_add(OPEN), 1 << 31),
         _ => (first, OPEN),
     };
+    let last = first.wrapping_add(count - 1);
+    if let Meets::SettledHere = meets {
+        return match session.settle_range(first, last, Outcome::Accepted) {
+            Ok((_, count)) => count,
+            Err(_) => 0,
+        };
+    }
     let disposition = Disposition {
         role: Role::Sender,
         first,
-        last: Some(first.wrapping_add(count - 1)),
+        last: Some(last),
         settled: true,
         state: &[],
         batchable: &[],

@@ -8,7 +8,7 @@ const EVENTS: usize = 12;
 
 const CONDITIONS: usize = 12;
 
-const FAULTS: usize = 11;
+const FAULTS: usize = 12;
 
 const ENDS: usize = 4;
 
@@ -131,5 +131,6 @@ fn place_of_fault(fault: CallFault) -> usize {
         CallFault::AlreadyTold => 8,
         CallFault::Dead => 9,
         CallFault::NotOpen => 10,
+        CallFault::MixedModes => 11,
     }
 }

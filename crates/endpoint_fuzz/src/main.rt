@@ -22,7 +22,7 @@ use std::env;
 /// The lists of the gate.
 const COUNT: u64 = 100_000;
 
-const SEED: u64 = 1;
+const SEED: u64 = 100_001;
 
 fn main(rt: HostRuntime) -> Result<(), Failure> {
     let words: Vec<String> = env::args(&rt)?.skip(1).collect(rt.alloc())?;

@@ -44,6 +44,17 @@ const ECHOES: usize = 300;
 /// What a sender with long names says.
 static LONG: [u8; 1100] = [0x6e; 1100];
 
+/// The bytes of a frame, or of a part of one.
+type Made = Result<Vec<u8>, AllocError>;
+
+/// A link that is attached, and where.
+#[derive(Clone, Copy)]
+struct Place {
+    channel: u16,
+    handle: u32,
+    life: Life,
+}
+
 /// What makes the frames of a list.
 #[derive(Drop)]
 pub struct Peer {
@@ -64,12 +75,7 @@ impl Peer {
     }
 
     /// The bytes of a frame. One that can't come before others is preceded by none of them: it comes in its place.
-    pub fn frame(
-        &mut self,
-        model: &Model,
-        choices: &mut Choices<'_>,
-        kind: Kind,
-    ) -> Result<Vec<u8>, AllocError> {
+    pub fn frame(&mut self, model: &Model, choices: &mut Choices<'_>, kind: Kind) -> Made {
         let is_wild = choices.is_one_of(64);
         match model.stage {
             Stage::Header if is_wild => Vec::from_slice(self.alloc, b"AMQP\x03\x01\x00\x00"),
@@ -86,7 +92,7 @@ impl Peer {
         choices: &mut Choices<'_>,
         kind: Kind,
         is_wild: bool,
-    ) -> Result<Vec<u8>, AllocError> {
+    ) -> Made {
         match kind {
             Kind::Empty => Vec::from_slice(self.alloc, b"\x00\x00\x00\x08\x02\x00\x00\x01"),
             Kind::Long => self.long(model, choices),
@@ -118,7 +124,7 @@ impl Peer {
         choices: &mut Choices<'_>,
         session: Session,
         kind: Kind,
-    ) -> Result<Vec<u8>, AllocError> {
+    ) -> Made {
         let channel = session.channel;
         let is_wanted = session.is_live || choices.is_one_of(2);
         match kind {
@@ -132,8 +138,12 @@ impl Peer {
                 match model.link(session, handle) {
                     None => self.attach(choices, channel, handle),
                     Some(link) => {
-                        let life = link.life;
-                        self.on_link(model, choices, channel, handle, life, kind)
+                        let place = Place {
+                            channel,
+                            handle,
+                            life: link.life,
+                        };
+                        self.on_link(model, choices, place, kind)
                     }
                 }
             }
@@ -145,48 +155,35 @@ impl Peer {
         &mut self,
         model: &Model,
         choices: &mut Choices<'_>,
-        channel: u16,
-        handle: u32,
-        life: Life,
+        place: Place,
         kind: Kind,
-    ) -> Result<Vec<u8>, AllocError> {
+    ) -> Made {
+        let (channel, handle, link) = (place.channel, place.handle, place.life.link);
         match kind {
             Kind::Detach => self.detach(choices, channel, handle),
             Kind::Attach if choices.is_one_of(4) => self.attach(choices, channel, handle),
-            Kind::LinkFlow | Kind::Attach => self.link_flow(model, choices, channel, handle, life),
-            _ if model.history.is_marked(life.link) && choices.is_one_of(2) => {
-                self.link_flow(model, choices, channel, handle, life)
+            Kind::LinkFlow | Kind::Attach => self.link_flow(model, choices, place),
+            _ if model.history.is_marked(link) && choices.is_one_of(2) => {
+                self.link_flow(model, choices, place)
             }
             _ => {
-                let is_head = ends_delivery(model.history.last_part(life.link));
-                if is_head && model.history.credit(life.link) == 0 && !choices.is_one_of(32) {
+                let is_head = ends_delivery(model.history.last_part(link));
+                if is_head && model.history.credit(link) == 0 && !choices.is_one_of(32) {
                     return self.flow(choices, channel, Some(handle), None);
                 }
-                self.transfer(model, choices, channel, handle, life, is_head)
+                self.transfer(model, choices, place, is_head)
             }
         }
     }
 
-    fn link_flow(
-        &mut self,
-        model: &Model,
-        choices: &mut Choices<'_>,
-        channel: u16,
-        handle: u32,
-        life: Life,
-    ) -> Result<Vec<u8>, AllocError> {
-        let credit = model.history.credit(life.link);
-        let count = count_of(choices, model.history.count(life), credit);
-        self.flow(choices, channel, Some(handle), count)
+    fn link_flow(&mut self, model: &Model, choices: &mut Choices<'_>, place: Place) -> Made {
+        let credit = model.history.credit(place.life.link);
+        let count = count_of(choices, model.history.count(place.life), credit);
+        self.flow(choices, place.channel, Some(place.handle), count)
     }
 
     /// A frame where it can't come.
-    fn wild(
-        &mut self,
-        choices: &mut Choices<'_>,
-        channel: u16,
-        kind: Kind,
-    ) -> Result<Vec<u8>, AllocError> {
+    fn wild(&mut self, choices: &mut Choices<'_>, channel: u16, kind: Kind) -> Made {
         match kind {
             Kind::Begin => self.begin(choices, channel),
             Kind::End => self.end(channel),
@@ -197,7 +194,7 @@ impl Peer {
     }
 
     /// A frame of the longest size, or of one byte more, that says nothing.
-    fn long(&mut self, model: &Model, choices: &mut Choices<'_>) -> Result<Vec<u8>, AllocError> {
+    fn long(&mut self, model: &Model, choices: &mut Choices<'_>) -> Made {
         let more = u32::from(choices.is_one_of(4));
         let size = model.settings.max_frame.saturating_add(more);
         let mut frame = Vec::from_elem(self.alloc, 0, size as usize)?;
@@ -214,7 +211,7 @@ impl Peer {
         Ok(frame)
     }
 
-    fn raw(&mut self, choices: &mut Choices<'_>) -> Result<Vec<u8>, AllocError> {
+    fn raw(&mut self, choices: &mut Choices<'_>) -> Made {
         let mut bytes = Vec::new(self.alloc);
         for _ in 0..choices.below(12) {
             bytes.push(choices.byte())?;
@@ -226,7 +223,7 @@ impl Peer {
         Ok(frame)
     }
 
-    fn open(&mut self, choices: &mut Choices<'_>) -> Result<Vec<u8>, AllocError> {
+    fn open(&mut self, choices: &mut Choices<'_>) -> Made {
         let open = Performative::Open(Open {
             container_id: "peer",
             hostname: &[],
@@ -242,7 +239,7 @@ impl Peer {
         written(self.alloc, 0, &open, &[])
     }
 
-    fn begin(&mut self, choices: &mut Choices<'_>, channel: u16) -> Result<Vec<u8>, AllocError> {
+    fn begin(&mut self, choices: &mut Choices<'_>, channel: u16) -> Made {
         let remote_channel = if choices.is_one_of(64) { Some(0) } else { None };
         let begin = Performative::Begin(Begin {
             remote_channel,
@@ -257,12 +254,7 @@ impl Peer {
         written(self.alloc, channel, &begin, &[])
     }
 
-    fn attach(
-        &mut self,
-        choices: &mut Choices<'_>,
-        channel: u16,
-        handle: u32,
-    ) -> Result<Vec<u8>, AllocError> {
+    fn attach(&mut self, choices: &mut Choices<'_>, channel: u16, handle: u32) -> Made {
         let (is_strange, shape) = (choices.is_one_of(8), choices.byte());
         let source = termini(self.alloc, is_strange, shape)?;
         let is_nameless = is_strange && shape % 8 == 2;
@@ -303,7 +295,7 @@ impl Peer {
         channel: u16,
         handle: Option<u32>,
         delivery_count: Option<u32>,
-    ) -> Result<Vec<u8>, AllocError> {
+    ) -> Made {
         let next_outgoing_id = choices.number();
         let flow = Performative::Flow(Flow {
             next_incoming_id: None,
@@ -321,7 +313,7 @@ impl Peer {
         written(self.alloc, channel, &flow, &[])
     }
 
-    fn echoes(&mut self, channel: u16) -> Result<Vec<u8>, AllocError> {
+    fn echoes(&mut self, channel: u16) -> Made {
         let one = self.flow(&mut Choices::new(&[0, 0, 1]), channel, None, None)?;
         let mut all = Vec::new(self.alloc);
         for _ in 0..ECHOES {
@@ -330,12 +322,7 @@ impl Peer {
         Ok(all)
     }
 
-    fn disposition(
-        &mut self,
-        model: &Model,
-        choices: &mut Choices<'_>,
-        session: Session,
-    ) -> Result<Vec<u8>, AllocError> {
+    fn disposition(&mut self, model: &Model, choices: &mut Choices<'_>, session: Session) -> Made {
         let around = choices.below(4);
         let first = some_id(model, choices, session)?.wrapping_sub(around);
         let last = match choices.below(4) {
@@ -359,12 +346,7 @@ impl Peer {
         written(self.alloc, session.channel, &disposition, &[])
     }
 
-    fn detach(
-        &mut self,
-        choices: &mut Choices<'_>,
-        channel: u16,
-        handle: u32,
-    ) -> Result<Vec<u8>, AllocError> {
+    fn detach(&mut self, choices: &mut Choices<'_>, channel: u16, handle: u32) -> Made {
         let detach = Performative::Detach(Detach {
             handle,
             closed: choices.is_one_of(2),
@@ -373,7 +355,7 @@ impl Peer {
         written(self.alloc, channel, &detach, &[])
     }
 
-    fn end(&mut self, channel: u16) -> Result<Vec<u8>, AllocError> {
+    fn end(&mut self, channel: u16) -> Made {
         written(
             self.alloc,
             channel,
@@ -387,39 +369,32 @@ impl Peer {
         &mut self,
         model: &Model,
         choices: &mut Choices<'_>,
-        channel: u16,
-        handle: u32,
-        life: Life,
+        place: Place,
         is_head: bool,
-    ) -> Result<Vec<u8>, AllocError> {
+    ) -> Made {
         let shape = Shape {
             strange: choices.below(64),
             flags: choices.byte(),
             is_head,
-            is_second: life.is_second,
+            is_second: place.life.is_second,
         };
         let before = if is_head {
             0
         } else {
-            model.unfinished_len(life)?
+            model.unfinished_len(place.life)?
         };
         let payload = self.payload(model, choices, before)?;
         let id = self.next_id;
         if is_head {
             self.next_id = id.wrapping_add(1);
         }
-        let transfer = Performative::Transfer(shape.transfer(handle, id));
-        written(self.alloc, channel, &transfer, &payload)
+        let transfer = Performative::Transfer(shape.transfer(place.handle, id));
+        written(self.alloc, place.channel, &transfer, &payload)
     }
 
     /// A payload for a message that has so many bytes: a short one, one that goes up to where a message may end or where a piece
     /// of one ends, or a byte further.
-    fn payload(
-        &mut self,
-        model: &Model,
-        choices: &mut Choices<'_>,
-        before: u32,
-    ) -> Result<Vec<u8>, AllocError> {
+    fn payload(&mut self, model: &Model, choices: &mut Choices<'_>, before: u32) -> Made {
         let most = model.settings.max_message.saturating_sub(before);
         let piece = PIECE - before % PIECE;
         let room = model.settings.max_frame.saturating_sub(64);
@@ -500,7 +475,7 @@ impl Shape {
     fn mode(self) -> Option<ReceiverSettleMode> {
         match self.strange {
             5 => Some(mode(true)),
-            6 => Some(mode(false)),
+            6 | 18..=29 => Some(mode(false)),
             7..=16 => Some(mode(self.is_second)),
             _ => None,
         }
@@ -525,7 +500,7 @@ fn name(is_strange: bool, shape: u8) -> &'static str {
 }
 
 /// The source of an attach, sometimes a long one.
-fn termini(alloc: Global, is_strange: bool, shape: u8) -> Result<Vec<u8>, AllocError> {
+fn termini(alloc: Global, is_strange: bool, shape: u8) -> Made {
     let len = match shape % 8 {
         5 if is_strange => 1024,
         6 if is_strange => 480,
@@ -572,12 +547,7 @@ pub fn some_id(
 }
 
 /// A frame, as its bytes.
-fn written(
-    alloc: Global,
-    channel: u16,
-    performative: &Performative<'_>,
-    payload: &[u8],
-) -> Result<Vec<u8>, AllocError> {
+fn written(alloc: Global, channel: u16, performative: &Performative<'_>, payload: &[u8]) -> Made {
     let room = payload.len().saturating_add(ROOM);
     let mut frame = Vec::from_elem(alloc, 0, room)?;
     let len = write_frame(channel, performative, payload, frame.as_mut_slice()).unwrap_or(0);

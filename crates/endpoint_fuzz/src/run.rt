@@ -246,21 +246,32 @@ impl<'c> Run<'c> {
             Some(session) => some_id(&self.model, choices, session)?,
             None => choices.number(),
         };
-        let outcome = choices.of(
-            &[
-                Settlement::Accepted,
-                Settlement::Rejected,
-                Settlement::Released,
-                Settlement::Modified {
-                    failed: true,
-                    undeliverable: false,
-                },
-            ],
-            Settlement::Accepted,
-        );
+        let outcome = outcome(choices);
+        if choices.is_one_of(3) {
+            return self.settle_range(choices, channel, id, outcome);
+        }
         let found = self.endpoint.settle(channel, id, outcome);
         let wanted = self.model.settle(channel, id, outcome)?;
         self.answered("settle", found, wanted)
+    }
+
+    fn settle_range(
+        &mut self,
+        choices: &mut Choices<'_>,
+        channel: u16,
+        first: u32,
+        outcome: Settlement,
+    ) -> Result<(), Failure> {
+        let (first, last) = match self.model.session(channel) {
+            Some(session) if choices.is_one_of(2) => {
+                self.model.taken_ends(session)?.unwrap_or((first, first))
+            }
+            Some(session) => (first, some_id(&self.model, choices, session)?),
+            None => (first, choices.number()),
+        };
+        let found = self.endpoint.settle_range(channel, first, last, outcome);
+        let wanted = self.model.settle_range(channel, (first, last), outcome)?;
+        self.answered("settle_range", found, wanted)
     }
 
     /// This side detaches a link, or seldom closes the connection.
@@ -384,6 +395,21 @@ fn settings(choices: &mut Choices<'_>) -> Settings {
         },
         window: choices.of(&[0, 1, 3, 6, 6, 20, 20, 100], 0),
     }
+}
+
+fn outcome(choices: &mut Choices<'_>) -> Settlement {
+    choices.of(
+        &[
+            Settlement::Accepted,
+            Settlement::Rejected,
+            Settlement::Released,
+            Settlement::Modified {
+                failed: true,
+                undeliverable: false,
+            },
+        ],
+        Settlement::Accepted,
+    )
 }
 
 fn is_same_message(taken: &Taken, handed: &Handed) -> bool {

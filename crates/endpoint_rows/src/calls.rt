@@ -89,7 +89,7 @@ pub fn told(alloc: Global, answer: &Answer<Heap<'_>>) -> Result<String, Miss> {
     match answer {
         Answer::Fed(fed) => told_fed(alloc, *fed),
         Answer::Accepted => Ok(String::from_str(alloc, "Ok(())")?),
-        Answer::Dropped(count) => Ok(format!(in alloc; "Ok({count})")?),
+        Answer::Dropped(count) | Answer::Named(count) => Ok(format!(in alloc; "Ok({count})")?),
         Answer::HandedUp(taken) => told_taken(alloc, taken),
         Answer::Refused(fault) => Ok(format!(in alloc; "Err({fault:?})")?),
         Answer::MovedOut(bytes) => told_bytes(alloc, bytes),

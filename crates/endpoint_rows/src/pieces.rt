@@ -10,11 +10,13 @@ pub fn cut(
     answers: &str,
     size: u32,
 ) -> Result<(String, String), Miss> {
-    let mut lines = script.lines();
-    let config = lines.next().ok_or("no script")?;
-    let mut cut_script = format!(in alloc; "{config}\n")?;
+    let settings = script.lines().take_while(|line| is_setting(line)).count();
+    let mut cut_script = String::new(alloc);
     let mut cut_answers = String::new(alloc);
-    for (line, answer) in lines.zip(answers.lines()) {
+    for line in script.lines().take(settings) {
+        write!(cut_script, "{line}\n")?;
+    }
+    for (line, answer) in script.lines().skip(settings).zip(answers.lines()) {
         match whole_feed(line, answer) {
             Some((hex, outcome)) => {
                 cut_feed(hex, outcome, size, &mut cut_script, &mut cut_answers)?;
@@ -26,6 +28,11 @@ pub fn cut(
         }
     }
     Ok((cut_script, cut_answers))
+}
+
+/// A line that has no answer.
+fn is_setting(line: &str) -> bool {
+    line.starts_with("config ") || line.starts_with("limit ")
 }
 
 /// The hex text of a feed that uses up its bytes, and its outcome.

@@ -2,7 +2,7 @@
 
 use crate::parts::text_of;
 use amqp_endpoint::{Config, Endpoint};
-use row_files::words::{name_of, number};
+use row_files::words::{name_of, six_numbers};
 use row_files::{Heap, Miss};
 use std::alloc::{AllocError, Global};
 
@@ -17,7 +17,7 @@ pub fn config_of<'a>(
 ) -> Result<Result<Config<Heap<'a>>, AllocError>, Miss> {
     let (name, numbers) = name_of(words);
     let name = text_of(alloc, name)?;
-    let numbers = numbers_of(numbers)?;
+    let numbers = six_numbers(numbers)?;
     let Ok(name) = String::from_str(heap, name.as_str()) else {
         return Ok(Err(AllocError));
     };
@@ -57,16 +57,4 @@ fn checked<'a>(name: String<Heap<'a>>, numbers: Numbers) -> Option<Config<Heap<'
         max_message,
         window,
     )
-}
-
-fn numbers_of(words: &str) -> Result<Numbers, Miss> {
-    let mut words = words.split_whitespace();
-    let mut numbers = [0; 6];
-    for place in numbers.iter_mut() {
-        *place = number(words.next().ok_or("too few numbers")?)?;
-    }
-    match words.next() {
-        None => Ok(numbers),
-        Some(_) => Err(Miss::Unread("too many numbers")),
-    }
 }

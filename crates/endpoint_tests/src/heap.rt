@@ -64,6 +64,30 @@ fn counts_what_is_requested_and_what_lives(rt: HostRuntime) -> Result<(), Fail> 
     Ok(())
 }
 
+/// What lives when the heap is started anew is the most that did.
+#[test]
+fn keeps_the_most_that_lived(rt: HostRuntime) -> Result<(), Fail> {
+    let heap = TestHeap::new(rt.alloc(), 0);
+    assert_eq!(rt; heap.peak(), 0);
+    let first = pair(&heap)?;
+    let second = pair(&heap)?;
+    assert_eq!(rt; heap.peak(), 32);
+    drop(first);
+    assert_eq!(rt; (heap.live(), heap.peak()), (16, 32));
+    let third = pair(&heap)?;
+    assert_eq!(rt; (heap.live(), heap.peak()), (32, 32));
+    drop(third);
+    heap.restart(0);
+    assert_eq!(rt; (heap.requested(), heap.peak()), (0, 16));
+    let mut fourth = pair(&heap)?;
+    fourth.reserve_exact(8)?; // the old block lives until the new one is filled
+    assert_eq!(rt; (heap.live(), heap.peak()), (96, 112));
+    drop(second);
+    drop(fourth);
+    assert_eq!(rt; (heap.live(), heap.peak()), (0, 112));
+    Ok(())
+}
+
 /// A growth is one request, of the whole new block. Where it is refused, the old block lives on.
 #[test]
 fn counts_a_growth_as_a_request(rt: HostRuntime) -> Result<(), Fail> {

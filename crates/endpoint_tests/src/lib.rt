@@ -25,3 +25,5 @@ mod serials;
 mod serving;
 #[cfg(test)]
 mod shown;
+#[cfg(test)]
+mod starving;

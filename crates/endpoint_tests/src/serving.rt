@@ -7,7 +7,7 @@ use amqp_endpoint::{Config, End, Endpoint};
 use amqp_frame::{AtHand, Device, Direct, HoldsBack};
 use amqp_perform::Outcome as Settlement;
 use amqp_serve::{Policy, ServeFault, serve};
-use std::alloc::{AllocError, Global};
+use std::alloc::{AllocError, Allocator, Global};
 use std::cell::{Cell, RefCell};
 use std::io::{self, BufReader, BufWriter, Read, Write};
 use std::process::Abort;
@@ -71,7 +71,7 @@ fn serve_over<R: AtHand + Drop, W: Write + HoldsBack + Drop, S: Write + Drop>(
 
 /// The container 'r', with frames of 512 bytes, channel 0, the handles 0 and 1, four deliveries of ten bytes for a link, and a
 /// window of 100 places.
-pub fn config(alloc: Global) -> Result<Config, AllocError> {
+pub fn config<A: Allocator + Copy>(alloc: A) -> Result<Config<A>, AllocError> {
     let name = String::from_str(alloc, "r")?;
     Config::checked(name, 512, 0, 1, 4, 10, 100).ok_or(AllocError)
 }

@@ -1,7 +1,7 @@
 //! What an endpoint is set up with.
 
 use amqp_endpoint::Config;
-use row_files::words::number;
+use row_files::words::six_numbers;
 use row_files::{Heap, Miss};
 
 /// In the order of `Config::checked`, behind the name.
@@ -28,13 +28,6 @@ pub const SMALL: Settings = Settings {
 impl Settings {
     /// Those of six numbers.
     pub fn of(words: &str) -> Result<Settings, Miss> {
-        if words.split(' ').count() != 6 {
-            return Err(Miss::Unread("no six settings"));
-        }
-        let mut numbers = [0_u32; 6];
-        for (setting, word) in numbers.iter_mut().zip(words.split(' ')) {
-            *setting = number(word)?;
-        }
         let [
             max_frame,
             channel_max,
@@ -42,7 +35,7 @@ impl Settings {
             allowed,
             max_message,
             window,
-        ] = numbers;
+        ] = six_numbers(words)?;
         Ok(Settings {
             max_frame,
             channel_max,

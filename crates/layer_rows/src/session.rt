@@ -8,7 +8,10 @@
 use crate::messages::sizes;
 use amqp_link::LinkBounds;
 use amqp_perform::{Attach, Detach, Flow, Outcome, Performative, read_body, write_frame};
-use amqp_session::{Answer, CallFault, Report, Session, SessionFault, SessionTerms, refusal_reply};
+use amqp_session::{
+    Answer, CallFault, Report, Session, SessionFault, SessionTerms, refusal_reply,
+    write_attach_reply,
+};
 use row_files::words::{bytes_of, cut, hex_of, name_of, number, two_numbers};
 use row_files::{Heap, Miss, Subject};
 use std::alloc::Global;
@@ -19,42 +22,35 @@ use std::mem;
 pub struct SessionRows<'a> {
     heap: Heap<'a>,
     session: Session<Heap<'a>>,
+    /// What its links may keep.
+    bounds: LinkBounds,
     /// What a session has that was never begun.
     idle: SessionTerms,
     out: [u8; 256],
     written: usize,
 }
 
-/// None where a link can't have these bounds.
-fn terms(
-    incoming_window: u32,
-    allowed: u32,
-    max_frame_size: u32,
-    most: u32,
-) -> Option<SessionTerms> {
-    Some(SessionTerms {
+fn terms(incoming_window: u32, max_frame_size: u32) -> SessionTerms {
+    SessionTerms {
         incoming_window,
         next_outgoing_id: 0,
         handle_max: 1,
         max_frame_size,
-        bounds: LinkBounds::new(allowed, most)?,
-    })
+    }
 }
 
-fn no_places() -> Option<SessionTerms> {
-    terms(0, 1, u32::MAX, 10)
+fn no_places() -> SessionTerms {
+    terms(0, u32::MAX)
 }
 
 impl<'a> SessionRows<'a> {
     /// One whose session has no places.
     pub fn new(heap: Heap<'a>) -> Result<SessionRows<'a>, Miss> {
-        let (Some(terms), Some(idle)) = (no_places(), no_places()) else {
-            return Err(Miss::Unread("refused bounds"));
-        };
         Ok(SessionRows {
             heap,
-            session: Session::begin(heap, terms),
-            idle,
+            session: Session::begin(heap, no_places()),
+            bounds: LinkBounds::new(1, 10).ok_or("refused bounds")?,
+            idle: no_places(),
             out: [0; 256],
             written: 0,
         })
@@ -65,10 +61,8 @@ impl<'a> SessionRows<'a> {
         let (allowed, words) = name_of(words);
         let (largest, most) = name_of(words);
         let (largest, most) = (number_or(largest, u32::MAX)?, number_or(most, 10)?);
-        let Some(terms) = terms(number(window)?, number(allowed)?, largest, most) else {
-            return Err(Miss::Unread("refused bounds"));
-        };
-        self.session = Session::begin(self.heap, terms);
+        self.bounds = LinkBounds::new(number(allowed)?, most).ok_or("refused bounds")?;
+        self.session = Session::begin(self.heap, terms(number(window)?, largest));
         self.written = 0;
         Ok(())
     }
@@ -84,7 +78,7 @@ impl<'a> SessionRows<'a> {
             }
         }
         self.written = 0;
-        let done = match self.session.frame(&performative, payload) {
+        let done = match self.session.frame(&performative, payload, self.bounds) {
             Ok(done) => done,
             Err(fault) => return Ok(Err(fault)),
         };
@@ -104,7 +98,7 @@ impl<'a> SessionRows<'a> {
 
     fn accept(&mut self, attach: &Attach<'_>) {
         if let Some(room) = self.out.get_mut(self.written..) {
-            if let Some(len) = self.session.write_attach_reply(0, attach, room) {
+            if let Some(len) = write_attach_reply(0, attach, self.bounds, room) {
                 self.written = self.written.saturating_add(len);
             }
         }
@@ -155,6 +149,27 @@ impl<'a> SessionRows<'a> {
         Ok(())
     }
 
+    /// Settles the deliveries with these ids, and answers how many they are.
+    fn settle_range(&mut self, first: u32, last: u32, outcome: Outcome) -> Result<u32, CallFault> {
+        self.written = 0;
+        let (disposition, named) = self.session.settle_range(first, last, outcome)?;
+        self.say(&Performative::Disposition(disposition));
+        Ok(named)
+    }
+
+    /// Settles the deliveries that the words name, and says whether the test of it answered the same.
+    fn settle_words(&mut self, alloc: Global, words: &str) -> Result<String, Miss> {
+        let (first, words) = cut(words, ' ')?;
+        let (last, outcome) = cut(words, ' ')?;
+        let (first, last, outcome) = (number(first)?, number(last)?, outcome_of(outcome)?);
+        let fault = self.session.settle_range_fault(first, last);
+        let settled = self.settle_range(first, last, outcome);
+        if settled.err() != fault {
+            return Err(Miss::Unread("the test of a range says another thing"));
+        }
+        Ok(format!(in alloc; "{settled:?}")?)
+    }
+
     fn detach(&mut self, handle: u32) -> Result<u32, CallFault> {
         self.written = 0;
         let (detach, dropped) = self.session.detach(handle)?;
@@ -182,6 +197,7 @@ impl<'a> SessionRows<'a> {
                 let outcome = outcome_of(outcome)?;
                 Ok(format!(in alloc; "{:?}", self.settle(number(id)?, outcome))?)
             }
+            "settle_range" => self.settle_words(alloc, words),
             "sizes" => self.take_sizes(alloc, number(words)?),
             "take" => Ok(format!(in alloc; "{:?}", self.take(number(words)?))?),
             "detach" => Ok(format!(in alloc; "{:?}", self.detach(number(words)?))?),

@@ -37,16 +37,15 @@ impl<A: Allocator + Copy> Model for Receiver<A> {
 }
 
 impl<A: Allocator + Copy> Receiver<A> {
-    /// A receiver that grants so much credit, or what a link is allowed where that is less [2.6.7]. An error where memory for
+    /// A receiver that grants so much credit, or what its link is allowed where that is less [2.6.7]. An error where memory for
     /// its endpoint is refused.
     pub fn new(alloc: A, config: Config<A>, credit: u32) -> Result<Self, AllocError>
         ensures config { IfOk result (λ r. r.endpoint.connection.config ≡ config) }
-        ensures credit { IfOk result (λ r. r.credit ≡ min credit config.bounds.allowed) }
+        ensures credit { IfOk result (λ r. r.credit ≡ credit) }
         ensures got { IfOk result (λ r. r.got ≡ 0) }
     {
         uses_are_counted();
         config.is_within();
-        let credit = credit.min(config.bounds().allowed());
         let endpoint = Endpoint::new(alloc, config)?;
         Ok(Receiver {
             endpoint,
@@ -132,11 +131,16 @@ impl<A: Allocator + Copy> Receiver<A> {
     {
         uses_are_counted();
         uses_are_bounded();
-        if self.granted == 0 && self.credit > 0 {
-            match self.endpoint.grant(0, 0, self.credit) {
-                Ok(()) => self.granted = self.credit,
-                Err(_) => {}
-            }
+        if self.granted > 0 || self.credit == 0 {
+            return;
+        }
+        let Some(link) = self.endpoint.link(0, 0) else {
+            return;
+        };
+        let credit = self.credit.min(link.bounds.allowed());
+        match self.endpoint.grant(0, 0, credit) {
+            Ok(()) => self.granted = credit,
+            Err(_) => {}
         }
     }
 

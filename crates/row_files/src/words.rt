@@ -30,6 +30,19 @@ pub fn two_numbers(words: &str) -> Result<(u32, u32), Miss> {
     Ok((number(first)?, number(second)?))
 }
 
+/// Six numbers, parted by spaces.
+pub fn six_numbers(words: &str) -> Result<[u32; 6], Miss> {
+    let mut words = words.split_whitespace();
+    let mut numbers = [0; 6];
+    for place in numbers.iter_mut() {
+        *place = number(words.next().ok_or("too few numbers")?)?;
+    }
+    match words.next() {
+        None => Ok(numbers),
+        Some(_) => Err(Miss::Unread("too many numbers")),
+    }
+}
+
 /// The bytes that a hex text spells.
 pub fn bytes_of(alloc: Global, hex: &str) -> Result<Vec<u8>, Miss> {
     hex::decode(alloc, hex).map_err(|_| Miss::Unread("no hex text"))

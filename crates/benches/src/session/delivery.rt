@@ -4,7 +4,7 @@ use crate::frames::{attach, whole};
 use crate::measure::Failure;
 use crate::session::Case;
 use amqp_link::{LinkBounds, MAX_ALLOWED};
-use amqp_perform::{Outcome, Performative};
+use amqp_perform::Outcome;
 use amqp_session::{CallFault, Report, Session, SessionFault, SessionTerms};
 use std::alloc::Global;
 
@@ -44,15 +44,18 @@ fn terms() -> SessionTerms {
         next_outgoing_id: 0,
         handle_max: 255,
         max_frame_size: u32::MAX,
-        bounds: LinkBounds::new(MAX_ALLOWED, 1_000_000).unwrap(),
     }
+}
+
+/// What its links may keep.
+fn bounds() -> LinkBounds {
+    LinkBounds::new(MAX_ALLOWED, 1_000_000).unwrap()
 }
 
 /// A delivery comes, for which there is credit then.
 pub fn send(session: &mut Session, handle: u32, id: u32, payload: &[u8]) -> Result<(), Stopped> {
     session.grant(handle, 1)?;
-    let done = session.frame(&Performative::Transfer(whole(handle, id)), payload)?;
-    match done.report {
+    match session.transfer(&whole(handle, id), payload)? {
         Report::Ready { .. } => Ok(()),
         _ => Err(Stopped::Link),
     }
@@ -72,7 +75,7 @@ pub fn begin(alloc: Global, links: u32) -> Result<Session, Stopped> {
         if handle > session.terms().handle_max as u32 {
             return Err(Stopped::Link);
         }
-        session.attach(&attach(handle))?;
+        session.attach(&attach(handle), bounds())?;
     }
     Ok(session)
 }

@@ -1,7 +1,8 @@
 //! Calls of the application.
 
-use crate::model::history::{Life, What};
-use crate::model::{Model, Session, Stage};
+use crate::model::delivery::{Delivery, covers};
+use crate::model::history::{Life, NONE, What};
+use crate::model::{Model, Session, Stage, low};
 use amqp_endpoint::CallFault;
 use amqp_perform::Outcome as Settlement;
 use std::alloc::AllocError;
@@ -134,8 +135,8 @@ impl Model {
             Some((true, true, _)) => Some(CallFault::AlreadyTold),
             Some((true, false, _)) if !self.has_room() => Some(CallFault::Full),
             Some((true, false, is_second)) => {
-                self.write_disposition(channel, id, !is_second, outcome)?;
-                self.record(session.life, crate::model::history::NONE, What::Settled(id))?;
+                self.write_disposition(channel, (id, id), !is_second, outcome)?;
+                self.record(session.life, NONE, What::Settled(id))?;
                 None
             }
         };
@@ -161,6 +162,90 @@ impl Model {
             }
         }
         Ok(None)
+    }
+
+    pub fn settle_range(
+        &mut self,
+        channel: u16,
+        (first, last): (u32, u32),
+        outcome: Settlement,
+    ) -> Answer<u32> {
+        let session = match self.asked_session(channel) {
+            Ok(session) => session,
+            Err(fault) => return Ok(Err(fault)),
+        };
+        let named = self.open_within(session, first, last)?;
+        if let Some(fault) = self.range_fault(&named, first, last) {
+            return Ok(Err(fault));
+        }
+        let is_second = named.iter().any(|delivery| delivery.is_second);
+        self.write_disposition(channel, (first, last), !is_second, outcome)?;
+        for delivery in named.iter() {
+            self.record(session.life, NONE, What::Settled(delivery.id))?;
+        }
+        Ok(Ok(low(named.len() as u64)))
+    }
+
+    /// Why the settlement of a range that names these is refused.
+    fn range_fault(&self, named: &[Delivery], first: u32, last: u32) -> Option<CallFault> {
+        let has = |id: u32| named.iter().any(|delivery| delivery.id == id);
+        if !has(first) || !has(last) {
+            return Some(CallFault::NoDelivery);
+        }
+        if named.iter().any(|delivery| !delivery.is_taken) {
+            return Some(CallFault::NotTaken);
+        }
+        if named.iter().any(|delivery| delivery.is_told) {
+            return Some(CallFault::AlreadyTold);
+        }
+        let seconds = named.iter().filter(|delivery| delivery.is_second).count();
+        if seconds != 0 && seconds != named.len() {
+            return Some(CallFault::MixedModes);
+        }
+        if self.has_room() {
+            None
+        } else {
+            Some(CallFault::Full)
+        }
+    }
+
+    /// The open deliveries of a session whose ids a range covers.
+    fn open_within(
+        &self,
+        session: Session,
+        first: u32,
+        last: u32,
+    ) -> Result<Vec<Delivery>, AllocError> {
+        let mut within = Vec::new(self.alloc);
+        for link in self.links.iter() {
+            if link.is_live && link.life.session == session.life {
+                for delivery in self.open_deliveries(link.life)?.iter() {
+                    if covers(first, last, delivery.id) {
+                        within.push(*delivery)?;
+                    }
+                }
+            }
+        }
+        Ok(within)
+    }
+
+    /// The ids of two open deliveries of a session that were taken, on its first and its last link that has one.
+    pub fn taken_ends(&self, session: Session) -> Result<Option<(u32, u32)>, AllocError> {
+        let mut ends: Option<(u32, u32)> = None;
+        for link in self.links.iter() {
+            if link.is_live && link.life.session == session.life {
+                for delivery in self.open_deliveries(link.life)?.iter() {
+                    if delivery.is_taken {
+                        let (first, _) = ends.unwrap_or((delivery.id, delivery.id));
+                        ends = Some((first, delivery.id));
+                    }
+                }
+            }
+        }
+        Ok(match ends {
+            Some((one, other)) if !covers(one, other, other) => Some((other, one)),
+            _ => ends,
+        })
     }
 
     pub fn detach(&mut self, channel: u16, handle: u32) -> Answer<u32> {

@@ -107,14 +107,14 @@ impl Model {
     pub(super) fn write_disposition(
         &mut self,
         channel: u16,
-        id: u32,
+        (first, last): (u32, u32),
         settled: bool,
         outcome: Settlement,
     ) -> Result<(), AllocError> {
         let disposition = Performative::Disposition(Disposition {
             role: Role::Receiver,
-            first: id,
-            last: None,
+            first,
+            last: if first == last { None } else { Some(last) },
             settled,
             state: outcome.span(),
             batchable: &[],

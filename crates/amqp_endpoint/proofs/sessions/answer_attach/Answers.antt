@@ -1,17 +1,33 @@
-use Rattle.std.proofs.Common.{[], ◌∷◌, sym, ap, ◌∙◌}
+use Rattle.std.proofs.Common.{arith}
 use Rattle.amqp_perform.specs.declared.performative.Performative.TheVariants as performative
-use Rattle.amqp_perform.specs.Said.{Said, said}
-use Rattle.amqp_session.specs.declared.done.Answer.{Answer}
+use Rattle.amqp_perform.specs.Said.{said}
 use Rattle.amqp_session.specs.Frames.{attaching}
 use Rattle.amqp_endpoint.specs.Acting.{attach_answered}
-use Rattle.amqp_endpoint.specs.Connections.{slot_at}
-use Rattle.amqp_endpoint.proofs.SessionFrames.{both_fit}
+use Rattle.amqp_endpoint.proofs.SessionFrames.{refused_by_two, first_fits, both_fit, both_put}
 use Rattle.amqp_endpoint.proofs.sessions.answer_attach.Goals as goal
+
+pub put_frame-requires-clause-short : goal.put_frame-requires-clause-short
+put_frame-requires-clause-short g c =
+    let a = attaching c.args.attach.now c.args.bounds in
+    let reply = said (performative.Attach c.refusal_reply.result) in
+    let two = refused_by_two a c.args.answer.now c.in-Refusal.detach reply c.in-Refusal.is (c.refusal_reply.ensures c.args.bounds) in
+    first_fits c.args.channel (attach_answered a c.args.answer.now) reply (said (performative.Detach c.in-Refusal.detach)) c.requires.short two
+
+pub put_frame-requires-clause-room : goal.put_frame-requires-clause-room
+put_frame-requires-clause-room g c = omega (arith, put_frame-requires-clause-short g c, c.requires.room)
 
 pub put_detach-requires-clause-room : goal.put_detach-requires-clause-room
 put_detach-requires-clause-room g c =
-    let slot = slot_at c.args.connection.now c.args.channel in
-    let detach = said (performative.Detach c.in-Refusal.detach) in
-    both_fit c.args.out.now c.put_frame.new.self c.args.channel (attach_answered slot (attaching c.args.attach.now) c.args.answer.now)
-    (said (performative.Attach c.refusal_reply.result)) detach c.requires.room c.requires.short
-    (ap (λ (x : Answer). attach_answered slot (attaching c.args.attach.now) x) c.in-Refusal.is ∙ ap (λ (x : Said). x ∷ detach ∷ []) (sym c.refusal_reply.ensures)) c.put_frame.ensures
+    let a = attaching c.args.attach.now c.args.bounds in
+    let reply = said (performative.Attach c.refusal_reply.result) in
+    let two = refused_by_two a c.args.answer.now c.in-Refusal.detach reply c.in-Refusal.is (c.refusal_reply.ensures c.args.bounds) in
+    both_fit c.args.out.now c.put_frame.new.self c.args.channel (attach_answered a c.args.answer.now) reply (said (performative.Detach c.in-Refusal.detach)) c.requires.room
+    c.requires.short two c.put_frame.ensures
+
+pub returns-in-Refusal : goal.returns-in-Refusal
+returns-in-Refusal g c =
+    let a = attaching c.args.attach.now c.args.bounds in
+    let reply = said (performative.Attach c.refusal_reply.result) in
+    let two = refused_by_two a c.args.answer.now c.in-Refusal.detach reply c.in-Refusal.is (c.refusal_reply.ensures c.args.bounds) in
+    both_put c.args.out.now c.put_frame.new.self c.put_detach.new.self c.args.channel (attach_answered a c.args.answer.now) reply (said (performative.Detach c.in-Refusal.detach)) two
+    c.put_frame.ensures c.put_detach.ensures

@@ -1,5 +1,5 @@
 use Rattle.std.proofs.Common.{◌≤◌, subst, sym}
-use Rattle.amqp_session.specs.Frames.{frame_of}
+use Rattle.amqp_endpoint.specs.Fields.{frame_in}
 use Rattle.amqp_endpoint.specs.Connections.{ConnectionState, slot_at}
 use Rattle.amqp_endpoint.proofs.SessionFrames.{live_there, frame_there, framed_as, unframed_as, answer_fits, taken, unmet, broken}
 use Rattle.amqp_endpoint.proofs.sessions.frame.Goals as goal
@@ -8,7 +8,7 @@ pub answer-requires-clause-channel : goal.answer-requires-clause-channel
 answer-requires-clause-channel g c =
     let old = c.args.connection.now in
     let t = live_there (slot_at old c.args.channel) c.requires.live in
-    let f = frame_there (frame_of c.args.performative.now c.args.payload.now) c.requires.session in
+    let f = frame_there (frame_in old.config c.args.performative.now c.args.payload.now) c.requires.session in
     let framed = framed_as old c.frame.new.self c.args.channel t.0 f.0 c.frame.result c.in-Ok.done c.in-Ok.is (c.frame.ensures t.0 f.0 t.1 f.1) in
     subst (λ (s : ConnectionState). c.args.channel ≤ s.config.channel_max) (sym framed.after) c.requires.channel
 
@@ -16,7 +16,7 @@ pub answer-requires-clause-short : goal.answer-requires-clause-short
 answer-requires-clause-short g c =
     let old = c.args.connection.now in
     let t = live_there (slot_at old c.args.channel) c.requires.live in
-    let f = frame_there (frame_of c.args.performative.now c.args.payload.now) c.requires.session in
+    let f = frame_there (frame_in old.config c.args.performative.now c.args.payload.now) c.requires.session in
     let framed = framed_as old c.frame.new.self c.args.channel t.0 f.0 c.frame.result c.in-Ok.done c.in-Ok.is (c.frame.ensures t.0 f.0 t.1 f.1) in
     answer_fits old c.frame.new.self c.args.channel c.args.performative.now c.args.payload.now t.0 f.0 t.1 f.1 c.frames_are_as_long.ensures c.in-Ok.done framed
 

@@ -21,6 +21,6 @@ returns-in-Some g c =
     subst (λ (r : Option (Transfer × ℕ)). IfSome r (λ x. IsRead c.args.body.now (Ok (performative.Transfer x.0, x.1)))) c.in-Some.is c.read_transfer_body.ensures.exact in
     subst (λ (l : Line). HasDone s c.act_on_transfer.new.connection c.args.out.now c.act_on_transfer.new.out l c.act_on_transfer.result)
     (sym (ap (λ (x : Option (Descriptor × List Cell × List ℕ)). body_line s c.args.channel c.args.body.now x) read
-    ∙ ap (λ (r : Read). read_line s c.args.channel r) (c.fields_say_the_performative.ensures transfer payload)
-    ∙ ap (λ (bytes : List ℕ). read_line s c.args.channel (read_of transfer bytes)) (sym all)))
+    ∙ ap (λ (r : Read). read_line s c.args.channel r) (c.fields_say_the_performative.ensures s.config transfer payload)
+    ∙ ap (λ (bytes : List ℕ). read_line s c.args.channel (read_of s.config transfer bytes)) (sym all)))
     c.act_on_transfer.ensures

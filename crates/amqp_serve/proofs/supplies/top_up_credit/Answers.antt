@@ -20,17 +20,17 @@ returns-then-more-eq0-clause-supplied g c = (λ _. omega (arith, c.missing_credi
 
 pub returns-in-Ok-clause-supplied : goal.returns-in-Ok-clause-supplied
 returns-in-Ok-clause-supplied g c =
-    let lacks : c.missing_credit-more.result ≡ credit_lack c.args.policy.credit c.write_out.new.endpoint.connection.config.bounds.allowed
+    let lacks : c.missing_credit-more.result ≡ credit_lack c.args.policy.credit
     (link_in c.args.handle (slot_at c.write_out.new.endpoint.connection c.args.channel)) =
-    c.missing_credit-more.ensures ∙ ap (λ (s : ConnectionState). credit_lack c.args.policy.credit s.config.bounds.allowed (link_in c.args.handle (slot_at s c.args.channel))) (sym c.in_ok-write_out.ensures.connection) in
+    c.missing_credit-more.ensures ∙ ap (λ (s : ConnectionState). credit_lack c.args.policy.credit (link_in c.args.handle (slot_at s c.args.channel))) (sym c.in_ok-write_out.ensures.connection) in
     let some : 0 < c.missing_credit-more.result = omega (arith, c.if-more-eq0.false) in
     (λ _. given_enough c.args.policy c.write_out.new.endpoint c.grant.new.self (CreditOf c.args.channel c.args.handle) c.missing_credit-more.result some lacks c.in-Ok.ensures, λ _. refl)
 
 pub returns-in-Err-clause-supplied : goal.returns-in-Err-clause-supplied
 returns-in-Err-clause-supplied g c =
-    let lacks : c.missing_credit-more.result ≡ credit_lack c.args.policy.credit c.write_out.new.endpoint.connection.config.bounds.allowed
+    let lacks : c.missing_credit-more.result ≡ credit_lack c.args.policy.credit
     (link_in c.args.handle (slot_at c.write_out.new.endpoint.connection c.args.channel)) =
-    c.missing_credit-more.ensures ∙ ap (λ (s : ConnectionState). credit_lack c.args.policy.credit s.config.bounds.allowed (link_in c.args.handle (slot_at s c.args.channel))) (sym c.in_ok-write_out.ensures.connection) in
+    c.missing_credit-more.ensures ∙ ap (λ (s : ConnectionState). credit_lack c.args.policy.credit (link_in c.args.handle (slot_at s c.args.channel))) (sym c.in_ok-write_out.ensures.connection) in
     let some : 0 < c.missing_credit-more.result = omega (arith, c.if-more-eq0.false) in
     let kept : lack c.args.policy c.grant.new.self.connection (CreditOf c.args.channel c.args.handle) ≡ lack c.args.policy c.write_out.new.endpoint.connection (CreditOf c.args.channel c.args.handle) =
     ap (λ (s : ConnectionState). lack c.args.policy s (CreditOf c.args.channel c.args.handle)) c.in-Err.ensures.1.connection in
@@ -50,9 +50,9 @@ pub returns-in-Ok-clause-works : goal.returns-in-Ok-clause-works
 returns-in-Ok-clause-works g c = λ rest.
     let w1 = g.W.Write.contents (device_inner c.write_out.new.writer) in
     let k1 = g.S.Write.contents (device_inner c.write_out.new.sink) in
-    let lacks : c.missing_credit-more.result ≡ credit_lack c.args.policy.credit c.write_out.new.endpoint.connection.config.bounds.allowed
+    let lacks : c.missing_credit-more.result ≡ credit_lack c.args.policy.credit
     (link_in c.args.handle (slot_at c.write_out.new.endpoint.connection c.args.channel)) =
-    c.missing_credit-more.ensures ∙ ap (λ (s : ConnectionState). credit_lack c.args.policy.credit s.config.bounds.allowed (link_in c.args.handle (slot_at s c.args.channel))) (sym c.in_ok-write_out.ensures.connection) in
+    c.missing_credit-more.ensures ∙ ap (λ (s : ConnectionState). credit_lack c.args.policy.credit (link_in c.args.handle (slot_at s c.args.channel))) (sym c.in_ok-write_out.ensures.connection) in
     let some : 0 < c.missing_credit-more.result = omega (arith, c.if-more-eq0.false) in
     works_on (c.in_ok-write_out.ensures.works c.args.policy (ToppingUp (CreditOf c.args.channel c.args.handle ∷ rest)))
     (credit_topped c.args.policy rest c.write_out.new.endpoint c.grant.new.self c.args.channel c.args.handle c.missing_credit-more.result c.grant.result w1 k1 c.in_ok-write_out.ensures.empty
@@ -62,9 +62,9 @@ pub returns-in-Err-clause-works : goal.returns-in-Err-clause-works
 returns-in-Err-clause-works g c = λ rest.
     let w1 = g.W.Write.contents (device_inner c.write_out.new.writer) in
     let k1 = g.S.Write.contents (device_inner c.write_out.new.sink) in
-    let lacks : c.missing_credit-more.result ≡ credit_lack c.args.policy.credit c.write_out.new.endpoint.connection.config.bounds.allowed
+    let lacks : c.missing_credit-more.result ≡ credit_lack c.args.policy.credit
     (link_in c.args.handle (slot_at c.write_out.new.endpoint.connection c.args.channel)) =
-    c.missing_credit-more.ensures ∙ ap (λ (s : ConnectionState). credit_lack c.args.policy.credit s.config.bounds.allowed (link_in c.args.handle (slot_at s c.args.channel))) (sym c.in_ok-write_out.ensures.connection) in
+    c.missing_credit-more.ensures ∙ ap (λ (s : ConnectionState). credit_lack c.args.policy.credit (link_in c.args.handle (slot_at s c.args.channel))) (sym c.in_ok-write_out.ensures.connection) in
     let some : 0 < c.missing_credit-more.result = omega (arith, c.if-more-eq0.false) in
     works_on (c.in_ok-write_out.ensures.works c.args.policy (ToppingUp (CreditOf c.args.channel c.args.handle ∷ rest)))
     (credit_topped c.args.policy rest c.write_out.new.endpoint c.grant.new.self c.args.channel c.args.handle c.missing_credit-more.result c.grant.result w1 k1 c.in_ok-write_out.ensures.empty

@@ -12,11 +12,11 @@ use Rattle.amqp_session.proofs.refusal.fits.Goals as goal
 
 pub returns-then-room-ge-MAX_REPLY : goal.returns-then-room-ge-MAX_REPLY
 returns-then-room-ge-MAX_REPLY c =
-    sym (ap not (le-ltb _ _ (omega (arith, reply_short c.args.terms.now.bounds.max_message_size (attaching c.args.attach.now) c.requires.name c.requires.ends))))
+    sym (ap not (le-ltb _ _ (omega (arith, reply_short c.args.bounds.max_message_size (attaching c.args.attach.now c.args.bounds) c.requires.name c.requires.ends))))
 
 pub returns : goal.returns
 returns c =
-    let spoken = c.accepted-reply.ensures c.args.terms.now.bounds.max_message_size (attaching c.args.attach.now) (c.ulong-spelled.ensures
+    let spoken = c.accepted-reply.ensures c.args.bounds.max_message_size (attaching c.args.attach.now c.args.bounds) (c.ulong-spelled.ensures
     ∙ ap (λ n. canonical (Number kind.Ulong n)) c.max_message_size.ensures) (record {
       name_is = refl;
       source_is = refl;
@@ -26,7 +26,7 @@ returns c =
       sender_is = ap (λ m. m.snd_settle_mode) c.of.ensures;
       receiver_is = ap (λ m. m.rcv_settle_mode) c.of.ensures;
     }) in
-    let short = reply_short c.args.terms.now.bounds.max_message_size (attaching c.args.attach.now) c.requires.name c.requires.ends in
+    let short = reply_short c.args.bounds.max_message_size (attaching c.args.attach.now c.args.bounds) c.requires.name c.requires.ends in
     fits_is c.is_written.result (said_frame 0 (said (performative.Attach c.accepted-reply.result)) []) c.args.terms.now.max_frame_size c.is_written.ensures
     (omega (arith, short, ap (λ (s : Said). length (said_frame 0 s [])) spoken))
     ∙ ap (λ (s : Said). not (nat_lt c.args.terms.now.max_frame_size (length (said_frame 0 s [])))) spoken

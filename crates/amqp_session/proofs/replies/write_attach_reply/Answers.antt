@@ -1,4 +1,7 @@
-use Rattle.std.proofs.Common.{[], refl, ap, subst}
+use Rattle.std.proofs.Common.{[], refl, ap, subst, ◌∙◌}
+use Rattle.amqp_types.specs.Canonical.{canonical}
+use Rattle.amqp_types.specs.Trees.{Number}
+use Rattle.amqp_types.specs.declared.kind.Kind.TheVariants as kind
 use Rattle.amqp_perform.specs.Frames.{IsWritten}
 use Rattle.amqp_perform.specs.Said.{Said, said_frame}
 use Rattle.amqp_session.specs.Frames.{attaching}
@@ -6,7 +9,8 @@ use Rattle.amqp_session.proofs.replies.write_attach_reply.Goals as goal
 
 pub returns : goal.returns
 returns c =
-    let spoken = c.accepted-reply.ensures c.args.longest (attaching c.args.attach.now) c.ulong-spelled.ensures
+    let spoken = c.accepted-reply.ensures c.args.bounds.max_message_size (attaching c.args.attach.now c.args.bounds) (c.ulong-spelled.ensures
+    ∙ ap (λ n. canonical (Number kind.Ulong n)) c.max_message_size.ensures)
     (record {
       name_is = refl;
       source_is = refl;

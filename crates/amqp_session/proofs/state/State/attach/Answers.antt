@@ -46,19 +46,19 @@ invariant_of-self-in-Some-refusal g c =
 pub returns-in_ok-begun-in-None-clause-new : goal.returns-in_ok-begun-in-None-clause-new
 returns-in_ok-begun-in-None-clause-new g c =
     attached_there c.self.inside.terms c.self.inside.window c.self.inside.next_incoming_id c.self.inside.table.items c.args.self.now c.self.view_is c.self.invariant c.reach.new.table.items
-    c.reach.ensures.same (attaching c.args.attach.now) c.index_mut.result.now _ c.self.ranges.1.1.1.0.1 c.index_mut.ensures.value c.in_ok-reach.ensures.reached
+    c.reach.ensures.same (attaching c.args.attach.now c.args.bounds) c.index_mut.result.now _ c.self.ranges.1.1.1.0.1 c.index_mut.ensures.value c.in_ok-reach.ensures.reached
     (let within : c.args.attach.now.handle ≤ c.self.inside.terms.handle_max = (subst (λ (t : SessionState). c.args.attach.now.handle ≤ t.terms.handle_max) (sym c.self.view_is) c.requires) in
     c.reach.ensures.most (handles c.self.inside.terms) (omega (arith, within)) c.self.invariant.reached) (sym c.in-None.ensures) (ap (λ (l : LiveLink). Live l) c.in_ok-begun-in-None.ensures)
 
 pub returns-in_ok-begun-in-None-clause-report : goal.returns-in_ok-begun-in-None-clause-report
 returns-in_ok-begun-in-None-clause-report g c =
     attach_told c.self.inside.terms c.self.inside.window c.self.inside.next_incoming_id c.self.inside.table.items c.args.self.now c.self.view_is c.self.invariant c.reach.new.table.items
-    c.reach.ensures.same (attaching c.args.attach.now) None (sym c.in-None.ensures)
+    c.reach.ensures.same (attaching c.args.attach.now c.args.bounds) None (sym c.in-None.ensures)
 
 pub returns-in-Some-refusal-clause-new : goal.returns-in-Some-refusal-clause-new
 returns-in-Some-refusal-clause-new g c =
     refused_there c.self.inside.terms c.self.inside.window c.self.inside.next_incoming_id c.self.inside.table.items c.args.self.now c.self.view_is c.self.invariant c.reach.new.table.items
-    c.reach.ensures.same (attaching c.args.attach.now) c.index_mut-in-Some-refusal.result.now c.in-Some-refusal.condition c.self.ranges.1.1.1.0.1 c.index_mut-in-Some-refusal.ensures.value
+    c.reach.ensures.same (attaching c.args.attach.now c.args.bounds) c.index_mut-in-Some-refusal.result.now c.in-Some-refusal.condition c.self.ranges.1.1.1.0.1 c.index_mut-in-Some-refusal.ensures.value
     c.in_ok-reach.ensures.reached
     (let within : c.args.attach.now.handle ≤ c.self.inside.terms.handle_max = (subst (λ (t : SessionState). c.args.attach.now.handle ≤ t.terms.handle_max) (sym c.self.view_is) c.requires) in
     c.reach.ensures.most (handles c.self.inside.terms) (omega (arith, within)) c.self.invariant.reached) (sym c.in-Some-refusal.ensures)
@@ -66,4 +66,4 @@ returns-in-Some-refusal-clause-new g c =
 pub returns-in-Some-refusal-clause-report : goal.returns-in-Some-refusal-clause-report
 returns-in-Some-refusal-clause-report g c =
     attach_told c.self.inside.terms c.self.inside.window c.self.inside.next_incoming_id c.self.inside.table.items c.args.self.now c.self.view_is c.self.invariant c.reach.new.table.items
-    c.reach.ensures.same (attaching c.args.attach.now) (Some c.in-Some-refusal.condition) (sym c.in-Some-refusal.ensures)
+    c.reach.ensures.same (attaching c.args.attach.now c.args.bounds) (Some c.in-Some-refusal.condition) (sym c.in-Some-refusal.ensures)

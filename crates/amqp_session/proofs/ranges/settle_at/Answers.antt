@@ -5,7 +5,7 @@ use Rattle.amqp_session.specs.Indexes.{IsOnceAt}
 use Rattle.amqp_session.specs.Sessions.{slot_at}
 use Rattle.amqp_session.proofs.Lent.{lives, may_settle, can_settle, unchanged, stands_in, none_stands}
 use Rattle.amqp_session.proofs.Lookups.{once_at}
-use Rattle.amqp_session.proofs.session.settle_at.Goals as goal
+use Rattle.amqp_session.proofs.ranges.settle_at.Goals as goal
 
 pub settle_at-requires-clause-once : goal.settle_at-requires-clause-once
 settle_at-requires-clause-once g c =

@@ -1,6 +1,6 @@
 use Rattle.std.proofs.Common.{sym, ◌∙◌}
 use Rattle.amqp_session.proofs.Lookups.{found_none, found_here, found_within, once_at}
-use Rattle.amqp_session.proofs.session.find.Goals as goal
+use Rattle.amqp_session.proofs.ranges.find.Goals as goal
 
 pub returns-in-None : goal.returns-in-None
 returns-in-None g c = found_none c.args.index.now c.args.state.now.links c.requires.indexed c.args.id c.ranges.id.fits c.in-None.ensures
