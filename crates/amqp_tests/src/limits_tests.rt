@@ -196,7 +196,8 @@ impl Held {
         let attached = self.feed(rt, &attach(alloc, handle)?);
         let event = Event::Attached { channel: 0, handle };
         assert!(rt; attached == Outcome::Event(event));
-        let much = self.endpoint.grant(0, handle, row.allowed + 1);
+        let more = row.allowed.saturating_add(1);
+        let much = self.endpoint.grant(0, handle, more);
         assert!(rt; much == Err(CallFault::TooMuchCredit));
         assert!(rt; self.endpoint.grant(0, handle, row.allowed) == Ok(()));
         self.assert_within(rt);
