@@ -53,7 +53,10 @@ fn an_endpoint_shows_its_windows_and_links(rt: HostRuntime) -> Result<(), Fail> 
     for part in PARTS {
         let _ = endpoint.feed(part);
     }
-    assert_link(&rt, endpoint.link(0, 0).ok_or("no link")?);
+    match endpoint.link(0, 0) {
+        Some(link) => assert_link(&rt, &link),
+        None => return Err(Fail::from("no link")),
+    }
     assert_shown(&rt, &endpoint, Some(97), &[0]);
     let taken = endpoint.take(0, 0).ok().ok_or("nothing taken")?;
     let message = taken.message.to_vec(alloc)?;
@@ -74,7 +77,7 @@ fn assert_shown(rt: &impl Abort, endpoint: &Endpoint, window: Option<u32>, handl
 }
 
 /// Asserts that a link has these names, and has used its credit for one delivery.
-fn assert_link(rt: &impl Abort, link: LinkView<'_>) {
+fn assert_link(rt: &impl Abort, link: &LinkView<'_>) {
     let terms = (link.name, link.source, link.target);
     let wanted = (
         b"l".as_slice(),
