@@ -1,6 +1,24 @@
 //! How far a connection has come.
 
 /// How far a connection has come [2.4.6].
+///
+/// ```text
+///                   the peer's open
+///      Unopened ----------------------> Open
+///       |   |                          |   |
+///       |   | this side ends it        |   | this side ends it
+///       |   | with an error            |   | with an error, or `close`
+///       |   +---------> Closing <------+   |
+///       |                  |               |
+///       | another header,  | the peer's    | the peer's close,
+///       | malformed frame, | close,        | malformed frame,
+///       | end of input     | malformed     | end of input
+///       |                  | frame, end    |
+///       |                  | of input      |
+///       +--------------> Dead <------------+
+/// ```
+///
+/// All else that comes in `Closing` is dropped. No byte is taken in `Dead`.
 #[derive(Clone, Copy, Debug, PartialEq, Eq)]
 pub enum Phase {
     /// The peer's open has not come.
