@@ -31,3 +31,5 @@ pub mod RangeSteps
 pub mod RangeFaults
 pub mod RangeMays
 pub mod RangeIndexes
+pub mod Recents
+pub mod Olders

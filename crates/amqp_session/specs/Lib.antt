@@ -1,4 +1,5 @@
 pub mod Places
+pub mod Recents
 pub mod Frames
 pub mod Sessions
 pub mod Links

@@ -3,8 +3,8 @@ ghost use Rattle.std.specs.Prelude.{◌≡◌, ℕ, ◌<◌, ◌≤◌, ◌^◌,
 ghost use Rattle.amqp_session.specs.Indexes.{found, closed_of, gone_of, given_up, told_of, is_before, ids_of, IsPut, IsBegun, IsNotBegun, IsNext};
 
 use crate::kept_link::KeptLink;
+use crate::older::Older;
 use crate::report::Report;
-use crate::tree::Tree;
 use std::alloc::{AllocError, Allocator, Global};
 use std::marker::Model;
 
@@ -26,7 +26,7 @@ pub struct Index<A: Allocator + Copy = Global> {
     /// The one that began last, if it is open, with its id.
     newest: Option<(u32, Kept)>,
     /// The others.
-    older: Tree<A>,
+    older: Older<A>,
 }
 
 impl<A: Allocator + Copy> Model for Index<A> {
@@ -49,7 +49,7 @@ impl<A: Allocator + Copy> Index<A> {
     {
         Index {
             newest: None,
-            older: Tree::new(alloc),
+            older: Older::new(alloc),
         }
     }
 
@@ -178,7 +178,7 @@ impl<A: Allocator + Copy> Index<A> {
 }
 
 /// Whether an id is less than that of another, if there is another.
-fn is_before(id: u32, other: Option<(u32, Kept)>) -> bool
+pub fn is_before(id: u32, other: Option<(u32, Kept)>) -> bool
     ensures { result ≡ is_before id other }
 {
     match other {

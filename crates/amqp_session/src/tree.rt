@@ -60,6 +60,9 @@ impl<A: Allocator + Copy> Tree<A> {
         requires { from ≤ last }
         ensures { IsNext self.now from last result }
     {
+        if self.entries.is_empty() {
+            return None;
+        }
         let (id, kept) = self.entries.range(from..=last).next()?;
         Some((*id, *kept))
     }
