@@ -1,0 +1,12 @@
+pub mod Spoken
+pub mod Ways
+pub mod Joining
+pub mod Bodies
+pub mod Accepting
+pub mod Replying
+pub mod Climbs
+pub mod Wholes
+pub mod Worlds
+pub mod Words
+pub mod Heard
+pub mod Stands

@@ -1,0 +1,10 @@
+pub mod Turns
+pub mod Spoken
+pub mod Served
+pub mod Tells
+pub mod Reading
+pub mod Replying
+pub mod World
+pub mod Words
+pub mod Heard
+pub mod Stands

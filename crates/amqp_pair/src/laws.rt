@@ -1,0 +1,125 @@
+//! What holds of what is on its way between two ends. The calls do nothing: their contracts are the laws.
+ghost use Rattle.std.specs.Prelude.{◌≡◌, ℕ, ◌++◌, ◌∷◌, ◌≤◌, List, take, drop};
+ghost use Rattle.std.specs.List.{flat_map};
+ghost use Rattle.amqp_frame.specs.Splits.{SplitterState, Waits, IsEmptied};
+ghost use Rattle.amqp_frame.specs.Units.{StreamUnit, bytes_of, due_after, AreUnits};
+ghost use Rattle.amqp_pair.specs.Reading.{LineLaw, OpenLaw, BeginLaw, AttachLaw, FlowLaw, TransferLaw, TakenLaw, HeededLaw};
+ghost use Rattle.amqp_pair.specs.Replying.{OpenTells, BeginTells, AttachTells, FlowTells, LinkFlowTells, DispositionTells};
+ghost use Rattle.amqp_pair.specs.Tells.{TellsLaw};
+ghost use Rattle.amqp_pair.specs.Heard.{BeginHeardLaw, FlowHeardLaw, OfferedLaw};
+ghost use Rattle.amqp_pair.specs.Stands.{StandsLaw};
+ghost use Rattle.amqp_pair.specs.Words.{Writes};
+ghost use Rattle.amqp_pair.specs.World.{World, StepLaw, BeginLaw as WorldBeginLaw, WorldLaw};
+ghost use Rattle.amqp_send.specs.Sendings.{Sending, all_written};
+ghost use Rattle.amqp_pair.specs.Spoken.{spoken, FrontLaw, IsOnWay};
+ghost use Rattle.amqp_send.specs.Histories.{Deed, written};
+ghost use Rattle.amqp_send.specs.Sendings.{SendTerms};
+
+use amqp_frame::laws::{each_unit_has_bytes, no_unit_begins_another};
+use amqp_perform::laws::{outcomes_are_found, said_is_a_frame, said_is_read};
+use amqp_send::laws::frames_may_be_said;
+use amqp_types::laws::canonical_spells;
+
+/// What a sender wrote is units: its header, the frames of its opening, its answers to flows, its transfers, its close
+/// [2.2, 2.7].
+#[tactic(auto, using(crate::proofs::Spoken::spoken_is))]
+pub fn what_is_written_is_units()
+    ensures { (terms : SendTerms) (h : List Deed) → written terms h ≡ flat_map bytes_of (spoken terms h) }
+{}
+
+/// The units that one end wrote begin with those that the other end acted upon, and the bytes between are the others.
+pub fn what_was_acted_upon_comes_first()
+    ensures { FrontLaw }
+{
+    no_unit_begins_another();
+    each_unit_has_bytes();
+}
+
+/// Units stay on their way while their bytes are moved into the pipe and taken out of it; one more may be written behind
+/// them, and the one that waits is the first.
+pub fn units_stay_on_their_way()
+    ensures moves { (s : SplitterState) (pipe unsent : List ℕ) (way : List StreamUnit) (n : ℕ) → IsOnWay s pipe unsent way → IsOnWay s (pipe ++ take n unsent) (drop n unsent) way }
+    ensures takes { (s t : SplitterState) (pipe unsent : List ℕ) (way : List StreamUnit) (n : ℕ) → t.limit ≡ s.limit → t.stage ≡ s.stage → t.filled ≡ s.filled ++ take n pipe → IsOnWay s pipe unsent way → IsOnWay t (drop n pipe) unsent way }
+    ensures writes { (s : SplitterState) (pipe unsent : List ℕ) (way more : List StreamUnit) → AreUnits s.limit s.stage (way ++ more) → IsOnWay s pipe unsent way → IsOnWay s pipe (unsent ++ flat_map bytes_of more) (way ++ more) }
+    ensures acts { (s t : SplitterState) (pipe unsent : List ℕ) (way : List StreamUnit) (u : StreamUnit) → 8 ≤ s.limit → Waits s u → IsEmptied s t (due_after u) → IsOnWay s pipe unsent way → (later : List StreamUnit) × (way ≡ u ∷ later) × IsOnWay t pipe unsent later }
+{
+    no_unit_begins_another();
+    each_unit_has_bytes();
+}
+
+/// A frame of a receiver that may be said tells the sender what its fields say [2.7].
+pub fn frames_tell_what_they_say()
+    ensures { TellsLaw }
+{
+    said_is_read();
+    said_is_a_frame();
+}
+
+/// Each frame that an endpoint writes to a sender may be said: its open, its begin, its answer to the attach, its flows and its
+/// dispositions. They tell the sender its max-frame-size, its incoming-window, nothing, the window and the credit, and what
+/// became of a delivery [2.7].
+pub fn replies_tell_what_they_say()
+    ensures open { OpenTells }
+    ensures begin { BeginTells }
+    ensures attach { AttachTells }
+    ensures flow { FlowTells }
+    ensures link_flow { LinkFlowTells }
+    ensures disposition { DispositionTells }
+{
+    frames_tell_what_they_say();
+    canonical_spells();
+    outcomes_are_found();
+}
+
+/// A frame that may be said comes to the line of what its fields say [2.4 to 2.7].
+pub fn frames_come_to_their_lines()
+    ensures { LineLaw }
+{
+    said_is_read();
+    said_is_a_frame();
+}
+
+/// The frames of a sender come to their lines: its open on a connection that awaits one, its begin where nothing stands at its
+/// channel, its attach where nothing stands at its handle, its flows where its link lives, and its transfers where the
+/// window has a place too [2.4.1, 2.5.1, 2.5.6, 2.6.2].
+pub fn frames_of_a_sender_are_accepted()
+    ensures open { OpenLaw }
+    ensures begin { BeginLaw }
+    ensures attach { AttachLaw }
+    ensures flow { FlowLaw }
+    ensures transfer { TransferLaw }
+{
+    frames_come_to_their_lines();
+    frames_may_be_said();
+}
+
+/// A transfer in which neither session nor link finds a fault is taken, and told as unfinished or as ready; a flow that
+/// states no more than the credit is heeded. Neither is answered [2.6.7, 2.6.14].
+pub fn what_has_no_fault_fails_nothing()
+    ensures transfer { TakenLaw }
+    ensures flow { HeededLaw }
+{}
+
+/// On the message level, where frames and flows are on their way instead of bytes, each turn keeps what holds of all numbers.
+/// So under every list of turns nothing fails, what was given is a beginning of what was offered, and neither credit nor
+/// window of the sender, with what is on its way, is more than the receiver's [2.5.6, 2.6.7].
+pub fn the_message_level_is_sound()
+    ensures step { StepLaw }
+    ensures begin { WorldBeginLaw }
+    ensures all { WorldLaw }
+{}
+
+/// The frames that a sender writes, the flows and the begin that it hears, and the messages that it takes over are turns of
+/// the message level [2.6.7, 2.6.14].
+pub fn a_sender_makes_turns()
+    ensures writes { (s : Sending) (w : World) → Writes s (all_written s) w }
+    ensures flow { FlowHeardLaw }
+    ensures begin { BeginHeardLaw }
+    ensures offer { OfferedLaw }
+{}
+
+/// A connection with one link stands as the message level says, behind each event of its session that goes on with the link
+/// [2.5.6].
+pub fn a_connection_stands_as_the_message_level()
+    ensures { StandsLaw }
+{}
