@@ -10,3 +10,4 @@ pub mod Worlds
 pub mod Words
 pub mod Heard
 pub mod Stands
+pub mod Acted

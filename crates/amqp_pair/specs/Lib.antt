@@ -8,3 +8,4 @@ pub mod World
 pub mod Words
 pub mod Heard
 pub mod Stands
+pub mod Acted

@@ -6,6 +6,7 @@ ghost use Rattle.amqp_frame.specs.Units.{StreamUnit, bytes_of, due_after, AreUni
 ghost use Rattle.amqp_pair.specs.Reading.{LineLaw, OpenLaw, BeginLaw, AttachLaw, FlowLaw, TransferLaw, TakenLaw, HeededLaw};
 ghost use Rattle.amqp_pair.specs.Replying.{OpenTells, BeginTells, AttachTells, FlowTells, LinkFlowTells, DispositionTells};
 ghost use Rattle.amqp_pair.specs.Tells.{TellsLaw};
+ghost use Rattle.amqp_pair.specs.Acted.{ActedLaw};
 ghost use Rattle.amqp_pair.specs.Heard.{BeginHeardLaw, FlowHeardLaw, OfferedLaw};
 ghost use Rattle.amqp_pair.specs.Stands.{StandsLaw};
 ghost use Rattle.amqp_pair.specs.Words.{Writes};
@@ -123,3 +124,14 @@ pub fn a_sender_makes_turns()
 pub fn a_connection_stands_as_the_message_level()
     ensures { StandsLaw }
 {}
+
+/// The first word of a sender on its way to a connection with one link is acted upon as the message level acts upon its
+/// frame: it ends nothing, is answered by nothing, and session and link are those of the message level [2.5.6, 2.6.7, 2.6.14].
+pub fn words_are_acted_upon()
+    ensures { ActedLaw }
+{
+    a_connection_stands_as_the_message_level();
+    what_has_no_fault_fails_nothing();
+    frames_of_a_sender_are_accepted();
+    the_message_level_is_sound();
+}
