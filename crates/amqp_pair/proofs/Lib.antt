@@ -11,3 +11,4 @@ pub mod Words
 pub mod Heard
 pub mod Stands
 pub mod Acted
+pub mod Called

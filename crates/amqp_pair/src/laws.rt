@@ -7,6 +7,7 @@ ghost use Rattle.amqp_pair.specs.Reading.{LineLaw, OpenLaw, BeginLaw, AttachLaw,
 ghost use Rattle.amqp_pair.specs.Replying.{OpenTells, BeginTells, AttachTells, FlowTells, LinkFlowTells, DispositionTells};
 ghost use Rattle.amqp_pair.specs.Tells.{TellsLaw};
 ghost use Rattle.amqp_pair.specs.Acted.{ActedLaw};
+ghost use Rattle.amqp_pair.specs.Called.{GrantLaw, WidenLaw, DrainLaw, TakeLaw, SettleLaw};
 ghost use Rattle.amqp_pair.specs.Heard.{BeginHeardLaw, FlowHeardLaw, OfferedLaw};
 ghost use Rattle.amqp_pair.specs.Stands.{StandsLaw};
 ghost use Rattle.amqp_pair.specs.Words.{Writes};
@@ -134,4 +135,17 @@ pub fn words_are_acted_upon()
     what_has_no_fault_fails_nothing();
     frames_of_a_sender_are_accepted();
     the_message_level_is_sound();
+}
+
+/// The accepted calls of an endpoint with one link are turns of the message level. A grant, a drain and a widening write the
+/// flow that the message level sends, a settlement its disposition; a take writes nothing, and hands up what the message level
+/// gives [2.5.6, 2.6.7, 2.6.12].
+pub fn calls_are_turns()
+    ensures grant { GrantLaw }
+    ensures widen { WidenLaw }
+    ensures drain { DrainLaw }
+    ensures take { TakeLaw }
+    ensures settle { SettleLaw }
+{
+    a_connection_stands_as_the_message_level();
 }
