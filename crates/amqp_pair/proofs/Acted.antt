@@ -19,10 +19,10 @@ use Rattle.amqp_endpoint.specs.Lines.{Line, SessionFrame, line_of, report_told}
 use Rattle.amqp_endpoint.specs.Replies.{joined}
 use Rattle.amqp_endpoint.specs.Traces.{failure_in}
 use Rattle.amqp_send.specs.declared.flow_state.FlowState.{FlowState}
-use Rattle.amqp_pair.specs.Acted.{IsRight, GoesOnAs, ActedLaw}
+use Rattle.amqp_pair.specs.Acted.{GoesOnAs, ActedLaw}
 use Rattle.amqp_pair.specs.Reading.{FlowLaw, TransferLaw, TakenLaw, HeededLaw, flowing_of, sent_by}
 use Rattle.amqp_pair.specs.Stands.{AreFree, Stands, StandsLaw}
-use Rattle.amqp_pair.specs.Words.{Word, Sends, Answers, frame_in, unit_in}
+use Rattle.amqp_pair.specs.Words.{Word, Sends, Answers, frame_in, unit_in, IsRight}
 use Rattle.amqp_pair.specs.World.{World, Frame, First, Later, Told, Plain, Inv, StepLaw, To_end, happens, acts, fails, judged, takes_in, counts, id_open, first_sent, later_sent}
 
 -- What stands at channel 0, and at handle 0. ---------------------------------------------------------------------------
@@ -149,31 +149,31 @@ module _ (stand : StandsLaw) (takes : TakenLaw) (heeds : HeededLaw) where
     moved : (s : ConnectionState) (line other : Line) (w v : World) → other ≡ line → v ≡ w → GoesOnAs s line w → GoesOnAs s other v
     moved s line other w v e f g = subst (λ (z : Line). GoesOnAs s z v) (sym e) (subst (λ (z : World). GoesOnAs s line z) (sym f) g)
 
-    sends : (s : ConnectionState) (w : World) (a : Stands s w) (q : List Frame) (id : ℕ) (begun more : Bool) (payload : List ℕ) (used : Bool) → IsRight (Sends id begun more payload)
+    sends : (s : ConnectionState) (w : World) (most : ℕ) (lt : most < 2 ^ 32) (a : Stands s w) (q : List Frame) (id : ℕ) (begun more : Bool) (payload : List ℕ) (used : Bool) → IsRight most (Sends id begun more payload)
         → is_reused a.session a.link.link (sent_by id begun more payload) ≡ false → IsFine w (sent_by id begun more payload) used
         → (line : Line) × (line_of s (unit_in (Sends id begun more payload)) ≡ line) × GoesOnAs s line (judged w q (sent_by id begun more payload) None)
-    sends s w a q id begun more payload used right new fine = (
+    sends s w most lt a q id begun more payload used right new fine = (
       SessionFrame 0 a.session (Transfers 0 (sent_by id begun more payload)),
-      transfers s a.session a.link id begun more payload a.opened (at_channel s w a) (at_handle s w a) (omega (arith, some w.places fine.place, a.places)) right.0 right.1,
+      transfers s a.session a.link id begun more payload a.opened (at_channel s w a) (at_handle s w a) (omega (arith, some w.places fine.place, a.places)) right.0 (omega (arith, right.1, lt)),
       transfer s w a q (sent_by id begun more payload) used new fine,
     )
 
     pub acted : ActedLaw
-    acted s w x (Sends id false more payload) q a i e right =
+    acted s w x most (Sends id false more payload) q lt a i e right =
         let world : happens w To_end ≡ takes_in w q (first_sent id payload more) (id_open w.link id) = ap (λ (z : List Frame). acts w z) e in
         let fine = is_fine w q (first_sent id payload more) (id_open w.link id) (ap (λ (v : World). v.failed) (sym world) ∙ never w x i) in
-        let r = sends s w a q id false more payload (id_open w.link id) right (not_reused s w a id payload more fine.new) fine in
+        let r = sends s w most lt a q id false more payload (id_open w.link id) right (not_reused s w a id payload more fine.new) fine in
         moved s r.0 _ _ _ r.1 (world ∙ taken_in w q (first_sent id payload more) (id_open w.link id) fine) r.2
-    acted s w x (Sends id true more payload) q a i e right =
+    acted s w x most (Sends id true more payload) q lt a i e right =
         let world : happens w To_end ≡ takes_in w q (later_sent payload more) false = ap (λ (z : List Frame). acts w z) e in
         let fine = is_fine w q (later_sent payload more) false (ap (λ (v : World). v.failed) (sym world) ∙ never w x i) in
-        let r = sends s w a q id true more payload false right (and_false (is_none a.link.link.unfinished) false refl) fine in
+        let r = sends s w most lt a q id true more payload false right (and_false (is_none a.link.link.unfinished) false refl) fine in
         moved s r.0 _ _ _ r.1 (world ∙ taken_in w q (later_sent payload more) false fine) r.2
-    acted s w x (Answers f drain) q a i e right =
+    acted s w x most (Answers f drain) q lt a i e right =
         let world : happens w To_end ≡ counts w q f.delivery_count f.next_outgoing_id = ap (λ (z : List Frame). acts w z) e in
         let fine = heeded (is_beyond w.link.delivery_count w.link.credit (Some f.delivery_count)) (ap (λ (v : World). v.failed) (sym world) ∙ never w x i) in
         moved s (SessionFrame 0 a.session (Flows (flowing_of f))) _ _ _
-        (flows s a.session a.link f drain a.opened (at_channel s w a) (at_handle s w a) right.0 right.1 right.2 right.3)
+        (flows s a.session a.link f drain a.opened (at_channel s w a) (at_handle s w a) right.0 right.1 right.2 (omega (arith, right.3, lt)))
         (world ∙ ap (λ (b : Bool). cond b (fails w) (record w { to_end = q; link = link_after w.link (FlowStated (Some f.delivery_count)); next = f.next_outgoing_id })) fine)
         (flow s w a q f right.1 fine)
       where

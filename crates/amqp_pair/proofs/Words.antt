@@ -1,5 +1,5 @@
 -- The frames that a sender writes are turns of the message level.
-use Rattle.std.proofs.Common.{◌≡◌, ℕ, zero, suc, ◌-◌, ◌&&◌, ◌||◌, Bool, true, false, not, cond, ltb, leb, List, [], ◌∷◌, ◌++◌, length, map, take, drop, Option, Some, None, refl, sym, ap, subst, ◌∙◌, arith, append_assoc, append-nil}
+use Rattle.std.proofs.Common.{◌≡◌, ℕ, zero, suc, ◌+◌, ◌-◌, ◌%◌, ◌^◌, ◌<◌, ◌≤◌, ◌&&◌, ◌||◌, Bool, true, false, not, cond, ltb, leb, List, [], ◌∷◌, ◌++◌, length, map, take, drop, Option, Some, None, refl, sym, ap, subst, ◌∙◌, arith, append_assoc, append-nil}
 use Rattle.std.specs.List.{flat_map}
 use Rattle.std.proofs.Math.Seq.{take-length}
 use Rattle.std.proofs.lemmas.Bool.{ltb-true, le-leb}
@@ -11,7 +11,7 @@ use Rattle.amqp_send.specs.Flows.{credit, window, most, transferred}
 use Rattle.amqp_send.specs.Sendings.{Message, Sending, frame, heads_of, transfer_said, is_talking, is_last, share, may_go, fits, next_frame, wrote_of, wrote, writes, all_written, frames_left}
 use Rattle.amqp_pair.specs.World.{World, Turn, Write, run, happens, AreFair, charge, credit_of, window_of, cuts}
 use Rattle.amqp_pair.specs.World as world
-use Rattle.amqp_pair.specs.Words.{Sends, frame_in, text_in, with_sender, adds, IsKept, Writes}
+use Rattle.amqp_pair.specs.Words.{Word, Sends, frame_in, text_in, with_sender, adds, IsKept, AreRight, IsNumbered, Writes}
 
 -- Nothing is written, or one thing behind the other. ------------------------------------------------------------------
 
@@ -25,6 +25,8 @@ nothing s w = record {
   fair = tt;
   world = ap (λ (x : List world.Frame). record (with_sender w s) { to_end = x }) (sym (append-nil w.to_end));
   bytes = sym (append-nil s.unsent);
+  right = λ n. tt;
+  numbered = λ n. n;
   kept = kept_same s;
 }
 
@@ -36,6 +38,10 @@ pub fair_behind : (ts us : List Turn) (w : World) → AreFair ts w → AreFair u
 fair_behind [] us w f g = g
 fair_behind (t ∷ ts) us w f g = (f.0, fair_behind ts us (happens w t) f.1 g)
 
+pub all_right : (most : ℕ) (xs ys : List Word) → AreRight most xs → AreRight most ys → AreRight most (xs ++ ys)
+all_right most [] ys a b = b
+all_right most (x ∷ xs) ys a b = (a.0, all_right most xs ys a.1 b)
+
 pub behind : (s t u : Sending) (w : World) (a : Writes s t w) → Writes t u (adds w a.words) → Writes s u w
 behind s t u w a b = record {
   turns = a.turns ++ b.turns;
@@ -46,6 +52,8 @@ behind s t u w a b = record {
       (append_assoc w.to_end (map frame_in a.words) (map frame_in b.words) ∙ ap (λ (x : List world.Frame). w.to_end ++ x) (sym (map-append frame_in a.words b.words)));
   bytes = b.bytes ∙ ap (λ (x : List ℕ). x ++ flat_map text_in b.words) a.bytes ∙ append_assoc s.unsent (flat_map text_in a.words) (flat_map text_in b.words)
       ∙ ap (λ (x : List ℕ). s.unsent ++ x) (sym (flat_map-append text_in a.words b.words));
+  right = λ n. all_right s.flow.max_frame_size a.words b.words (a.right n) (subst (λ (k : ℕ). AreRight k b.words) a.kept.size (b.right (a.numbered n)));
+  numbered = λ n. b.numbered (a.numbered n);
   kept = record {
     terms = b.kept.terms ∙ a.kept.terms;
     talk = b.kept.talk ∙ a.kept.talk;
@@ -86,13 +94,14 @@ cut : (w : World) (s : Sending) (m : Message) (n : ℕ) (more : Bool) → s.mess
 cut w s m n more e g = rw (e, g.placed, g.paid) refl
 
 -- so much of the message goes into the frame, all of it into the last
-cut_frame : (w : World) (s : Sending) (m : Message) (n : ℕ) (last : Bool) → s.message ≡ Some m → Goes s.flow m → (last ≡ true → n ≡ length m.rest) →
+cut_frame : (w : World) (s : Sending) (m : Message) (n : ℕ) (last : Bool) → s.message ≡ Some m → Goes s.flow m → (last ≡ true → n ≡ length m.rest)
+    → (512 ≤ s.flow.max_frame_size → length (said_frame 0 (transfer_said s.flow.delivery_id m.begun (not last)) (take n m.rest)) ≤ s.flow.max_frame_size) →
     Writes s (record s {
       flow = transferred (heads_of m) s.flow;
       message = cond last None (Some (record { rest = drop n m.rest; begun = true }));
       unsent = s.unsent ++ said_frame 0 (transfer_said s.flow.delivery_id m.begun (not last)) (take n m.rest);
     }) w
-cut_frame w s m n true e g is_all =
+cut_frame w s m n true e g is_all short =
     let whole : take n m.rest ≡ m.rest = ap (λ (k : ℕ). take k m.rest) (is_all refl) ∙ take-length m.rest in
     record {
       turns = Write n false ∷ [];
@@ -101,40 +110,45 @@ cut_frame w s m n true e g is_all =
       world = cut w s m n false e g ∙ rw e refl;
       bytes = ap (λ (x : List ℕ). s.unsent ++ said_frame 0 (transfer_said s.flow.delivery_id m.begun false) x) whole
           ∙ ap (λ (x : List ℕ). s.unsent ++ x) (sym (append-nil (said_frame 0 (transfer_said s.flow.delivery_id m.begun false) m.rest)));
+      right = λ k. ((k.id, subst (λ (x : List ℕ). length (said_frame 0 (transfer_said s.flow.delivery_id m.begun false) x) ≤ s.flow.max_frame_size) whole (short k.least)), tt);
+      numbered = λ k. record { least = k.least; most = k.most; id = omega arith; next = omega arith; count = omega arith; peer = k.peer };
       kept = record { terms = refl; talk = refl; size = refl; peer = refl; flowed = refl };
     }
-cut_frame w s m n false e g is_all = record {
+cut_frame w s m n false e g is_all short = record {
   turns = Write n true ∷ [];
   words = Sends s.flow.delivery_id m.begun true (take n m.rest) ∷ [];
   fair = (tt, tt);
   world = cut w s m n true e g ∙ rw e refl;
   bytes = ap (λ (x : List ℕ). s.unsent ++ x) (sym (append-nil (said_frame 0 (transfer_said s.flow.delivery_id m.begun true) (take n m.rest))));
+  right = λ k. ((k.id, short k.least), tt);
+  numbered = λ k. record { least = k.least; most = k.most; id = omega arith; next = omega arith; count = omega arith; peer = k.peer };
   kept = record { terms = refl; talk = refl; size = refl; peer = refl; flowed = refl };
 }
 
 all_of_it : (f : FlowState) (m : Message) → is_last f m ≡ true → share f m ≡ length m.rest
 all_of_it f m e = ap (λ (b : Bool). cond b (length m.rest) (most f - length (frame (transfer_said f.delivery_id m.begun true)))) e
 
-frame_goes : (w : World) (s : Sending) (m : Message) → s.message ≡ Some m → is_talking s.talk ≡ true → may_go s.flow s.unsent m ≡ true → Writes s (wrote_of s (Some m)) w
-frame_goes w s m e t g = let go = goes s m g in rw (t, g) (cut_frame w s m (share s.flow m) (is_last s.flow m) e go (all_of_it s.flow m))
+module _ (within : (f : FlowState) (m : Message) → 512 ≤ f.max_frame_size → (length (next_frame f m) ≤ 4096) × (length (next_frame f m) ≤ f.max_frame_size)) where
+  frame_goes : (w : World) (s : Sending) (m : Message) → s.message ≡ Some m → is_talking s.talk ≡ true → may_go s.flow s.unsent m ≡ true → Writes s (wrote_of s (Some m)) w
+  frame_goes w s m e t g = let go = goes s m g in rw (t, g) (cut_frame w s m (share s.flow m) (is_last s.flow m) e go (all_of_it s.flow m) (λ least. (within s.flow m least).1))
 
-no_frame : (w : World) (s : Sending) (m : Message) (talks may : Bool) → s.message ≡ Some m → is_talking s.talk ≡ talks → may_go s.flow s.unsent m ≡ may → Writes s (wrote_of s (Some m)) w
-no_frame w s m false may e t g = rw t (nothing s w)
-no_frame w s m true false e t g = rw (t, g) (subst (λ (o : Option Message). Writes s (record s { message = o }) w) e (nothing s w))
-no_frame w s m true true e t g = frame_goes w s m e t g
+  no_frame : (w : World) (s : Sending) (m : Message) (talks may : Bool) → s.message ≡ Some m → is_talking s.talk ≡ talks → may_go s.flow s.unsent m ≡ may → Writes s (wrote_of s (Some m)) w
+  no_frame w s m false may e t g = rw t (nothing s w)
+  no_frame w s m true false e t g = rw (t, g) (subst (λ (o : Option Message). Writes s (record s { message = o }) w) e (nothing s w))
+  no_frame w s m true true e t g = frame_goes w s m e t g
 
-one_by : (w : World) (s : Sending) (o : Option Message) → s.message ≡ o → Writes s (wrote_of s o) w
-one_by w s None e = nothing s w
-one_by w s (Some m) e = no_frame w s m (is_talking s.talk) (may_go s.flow s.unsent m) e refl refl
+  one_by : (w : World) (s : Sending) (o : Option Message) → s.message ≡ o → Writes s (wrote_of s o) w
+  one_by w s None e = nothing s w
+  one_by w s (Some m) e = no_frame w s m (is_talking s.talk) (may_go s.flow s.unsent m) e refl refl
 
-one : (w : World) (s : Sending) → Writes s (wrote s) w
-one w s = one_by w s s.message refl
+  one : (w : World) (s : Sending) → Writes s (wrote s) w
+  one w s = one_by w s s.message refl
 
--- All of them. --------------------------------------------------------------------------------------------------------
+  -- All of them. --------------------------------------------------------------------------------------------------------
 
-pub many : (n : ℕ) (s : Sending) (w : World) → Writes s (writes n s) w
-many zero s w = nothing s w
-many (suc n) s w = let a = many n s w in behind s (writes n s) (wrote (writes n s)) w a (one (adds w a.words) (writes n s))
+  pub many : (n : ℕ) (s : Sending) (w : World) → Writes s (writes n s) w
+  many zero s w = nothing s w
+  many (suc n) s w = let a = many n s w in behind s (writes n s) (wrote (writes n s)) w a (one (adds w a.words) (writes n s))
 
-pub all : (s : Sending) (w : World) → Writes s (all_written s) w
-all s w = many (frames_left s.message) s w
+  pub all : (s : Sending) (w : World) → Writes s (all_written s) w
+  all s w = many (frames_left s.message) s w

@@ -5,15 +5,9 @@ use Rattle.amqp_endpoint.specs.Connections.{ConnectionState, InSession, connecti
 use Rattle.amqp_endpoint.specs.Lines.{Line, line_of, event_on, told_on}
 use Rattle.amqp_endpoint.specs.Replies.{reply_on}
 use Rattle.amqp_endpoint.specs.Traces.{failure_in}
-use Rattle.amqp_send.specs.Frames.{IsSmall}
 use Rattle.amqp_pair.specs.Stands.{Stands}
-use Rattle.amqp_pair.specs.Words.{Word, Sends, Answers, frame_in, text_in, unit_in}
+use Rattle.amqp_pair.specs.Words.{Word, frame_in, unit_in, IsRight}
 use Rattle.amqp_pair.specs.World.{World, Frame, To_end, happens, Plain, Inv}
-
--- its numbers have 32 bits, and so has its length
-abbrev pub IsRight : Word → Type 0
-IsRight (Sends id begun more payload) = (id < 2 ^ 32) × (length (text_in (Sends id begun more payload)) < 2 ^ 32)
-IsRight (Answers f drain) = IsSmall f.peer_next_outgoing_id × (f.next_outgoing_id < 2 ^ 32) × (f.delivery_count < 2 ^ 32) × (length (text_in (Answers f drain)) < 2 ^ 32)
 
 -- A line that goes on with the session on channel 0, which then stands so; it tells no failure and is answered by nothing.
 pub record GoesOnAs (s : ConnectionState) (line : Line) (w : World) : Type 0 where
@@ -25,4 +19,4 @@ pub record GoesOnAs (s : ConnectionState) (line : Line) (w : World) : Type 0 whe
 
 -- The first word on its way is acted upon as the message level acts upon its frame.
 abbrev pub ActedLaw : Type 0
-ActedLaw = (s : ConnectionState) (w : World) (x : Plain) (word : Word) (q : List Frame) → Stands s w → Inv w x → w.to_end ≡ frame_in word ∷ q → IsRight word → GoesOnAs s (line_of s (unit_in word)) (happens w To_end)
+ActedLaw = (s : ConnectionState) (w : World) (x : Plain) (most : ℕ) (word : Word) (q : List Frame) → most < 2 ^ 32 → Stands s w → Inv w x → w.to_end ≡ frame_in word ∷ q → IsRight most word → GoesOnAs s (line_of s (unit_in word)) (happens w To_end)

@@ -1,9 +1,10 @@
 -- What a sender writes behind its opening, word by word, and how its steps are turns of the message level (AMQP 1.0, part 2, sections 2.6.7, 2.6.14 and 2.7).
-use Rattle.std.specs.Prelude.{◌≡◌, ℕ, Bool, false, if◌then◌else◌, List, [], ◌++◌, map, Option, Some, None, option_map}
+use Rattle.std.specs.Prelude.{◌≡◌, ℕ, ◌^◌, ◌<◌, ◌≤◌, Bool, false, if◌then◌else◌, List, [], ◌∷◌, ◌++◌, length, map, Option, Some, None, option_map}
 use Rattle.std.specs.List.{flat_map}
 use Rattle.amqp_frame.specs.Units.{StreamUnit, FrameUnit}
 use Rattle.amqp_perform.specs.Said.{said_frame}
 use Rattle.amqp_send.specs.declared.flow_state.FlowState.{FlowState}
+use Rattle.amqp_send.specs.Frames.{IsSmall}
 use Rattle.amqp_send.specs.Sendings.{Message, Sending, flow_said, transfer_said}
 use Rattle.amqp_pair.specs.World.{World, Sender, Frame, First, Later, Told, Turn, run, AreFair}
 
@@ -48,6 +49,24 @@ with_sender w s = record w { sender = sender_of s }
 abbrev pub adds : World → List Word → World
 adds w words = record w { to_end = w.to_end ++ map frame_in words }
 
+-- its numbers have 32 bits, and it is no longer than this
+abbrev pub IsRight : ℕ → Word → Type 0
+IsRight most (Sends id begun more payload) = (id < 2 ^ 32) × (length (text_in (Sends id begun more payload)) ≤ most)
+IsRight most (Answers f drain) = IsSmall f.peer_next_outgoing_id × (f.next_outgoing_id < 2 ^ 32) × (f.delivery_count < 2 ^ 32) × (length (text_in (Answers f drain)) ≤ most)
+
+abbrev pub AreRight : ℕ → List Word → Type 0
+AreRight most [] = Unit {0}
+AreRight most (word ∷ words) = IsRight most word × AreRight most words
+
+-- the numbers of a sender have 32 bits, and its frames room for its opening
+pub record IsNumbered (f : FlowState) : Type 0 where
+  pub least : 512 ≤ f.max_frame_size
+  pub most : f.max_frame_size < 2 ^ 32
+  pub id : f.delivery_id < 2 ^ 32
+  pub next : f.next_outgoing_id < 2 ^ 32
+  pub count : f.delivery_count < 2 ^ 32
+  pub peer : IsSmall f.peer_next_outgoing_id
+
 -- What a step that writes leaves of the rest.
 pub record IsKept (s t : Sending) : Type 0 where
   pub terms : t.terms ≡ s.terms
@@ -63,6 +82,8 @@ pub record Writes (s t : Sending) (w : World) : Type 0 where
   pub fair : AreFair turns (with_sender w s)
   pub world : run turns (with_sender w s) ≡ adds (with_sender w t) words
   pub bytes : t.unsent ≡ s.unsent ++ flat_map text_in words
+  pub right : IsNumbered s.flow → AreRight s.flow.max_frame_size words
+  pub numbered : IsNumbered s.flow → IsNumbered t.flow
   pub kept : IsKept s t
 
 -- An event of the sender, and what it then writes, are turns of the message level from one world to the other.
@@ -72,3 +93,8 @@ pub record Steps (s t : Sending) (w v : World) : Type 0 where
   pub fair : AreFair turns (with_sender w s)
   pub world : run turns (with_sender w s) ≡ adds (with_sender v t) words
   pub bytes : t.unsent ≡ s.unsent ++ flat_map text_in words
+  pub right : IsNumbered s.flow → AreRight s.flow.max_frame_size words
+  pub numbered : IsNumbered s.flow → IsNumbered t.flow
+  pub terms : t.terms ≡ s.terms
+  pub talk : t.talk ≡ s.talk
+  pub size : t.flow.max_frame_size ≡ s.flow.max_frame_size

@@ -19,7 +19,7 @@ ghost use Rattle.amqp_send.specs.Sendings.{SendTerms};
 
 use amqp_frame::laws::{each_unit_has_bytes, no_unit_begins_another};
 use amqp_perform::laws::{outcomes_are_found, said_is_a_frame, said_is_read};
-use amqp_send::laws::frames_may_be_said;
+use amqp_send::laws::{frames_are_within, frames_may_be_said};
 use amqp_types::laws::canonical_spells;
 
 /// What a sender wrote is units: its header, the frames of its opening, its answers to flows, its transfers, its close
@@ -118,7 +118,9 @@ pub fn a_sender_makes_turns()
     ensures flow { FlowHeardLaw }
     ensures begin { BeginHeardLaw }
     ensures offer { OfferedLaw }
-{}
+{
+    frames_are_within();
+}
 
 /// A connection with one link stands as the message level says, behind each event of its session that goes on with the link
 /// [2.5.6].
