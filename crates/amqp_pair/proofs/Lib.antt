@@ -12,3 +12,4 @@ pub mod Heard
 pub mod Stands
 pub mod Acted
 pub mod Called
+pub mod Histories

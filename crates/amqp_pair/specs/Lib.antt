@@ -10,3 +10,4 @@ pub mod Heard
 pub mod Stands
 pub mod Acted
 pub mod Called
+pub mod Histories

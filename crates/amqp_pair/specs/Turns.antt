@@ -1,5 +1,5 @@
 -- A sender and an endpoint, two pipes between them, and what a turn does to them (AMQP 1.0, part 2, sections 2.2 to 2.7).
-use Rattle.std.specs.Prelude.{◌≡◌, ℕ, ◌-◌, min, List, [], ◌∷◌, ◌++◌, length, drop, Option}
+use Rattle.std.specs.Prelude.{◌≡◌, ℕ, ◌-◌, ◌<◌, min, List, [], ◌∷◌, ◌++◌, length, drop, slice_index, Option}
 use Rattle.amqp_endpoint.specs.declared.event.Fed.{Fed}
 use Rattle.amqp_endpoint.specs.Configs.{Configured}
 use Rattle.amqp_endpoint.specs.Runs as of_endpoint
@@ -69,7 +69,26 @@ pub record IsToEndpoint (old new : Ends) (n : ℕ) (came : Fed) : Type 0 where
   pub moved : List ℕ
   pub out : of_sender.Does old.sender new.sender (of_sender.Output (room_for n old.to_endpoint)) (of_sender.MovedOut moved)
   pub fed : of_endpoint.Does old.endpoint new.endpoint (of_endpoint.Feed (old.to_endpoint ++ moved)) (of_endpoint.Fed came.used came.outcome)
+  pub bytes : (i : ℕ) → slice_index (old.to_endpoint ++ moved) i < 256
   pub pipe : new.to_endpoint ≡ drop came.used (old.to_endpoint ++ moved)
+  pub other : new.to_sender ≡ old.to_sender
+  pub taken : new.taken ≡ old.taken
+
+-- The first half of it: the sender's bytes went into the pipe.
+pub record IsFilled (old new : Ends) (n : ℕ) : Type 0 where
+  pub moved : List ℕ
+  pub out : of_sender.Does old.sender new.sender (of_sender.Output (room_for n old.to_endpoint)) (of_sender.MovedOut moved)
+  pub pipe : new.to_endpoint ≡ old.to_endpoint ++ moved
+  pub endpoint : new.endpoint ≡ old.endpoint
+  pub other : new.to_sender ≡ old.to_sender
+  pub taken : new.taken ≡ old.taken
+
+-- The second half: the whole pipe was fed.
+pub record IsFedWhole (old new : Ends) (came : Fed) : Type 0 where
+  pub fed : of_endpoint.Does old.endpoint new.endpoint (of_endpoint.Feed old.to_endpoint) (of_endpoint.Fed came.used came.outcome)
+  pub bytes : (i : ℕ) → slice_index old.to_endpoint i < 256
+  pub pipe : new.to_endpoint ≡ drop came.used old.to_endpoint
+  pub sender : new.sender ≡ old.sender
   pub other : new.to_sender ≡ old.to_sender
   pub taken : new.taken ≡ old.taken
 

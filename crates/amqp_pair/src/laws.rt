@@ -8,6 +8,10 @@ ghost use Rattle.amqp_pair.specs.Replying.{OpenTells, BeginTells, AttachTells, F
 ghost use Rattle.amqp_pair.specs.Tells.{TellsLaw};
 ghost use Rattle.amqp_pair.specs.Acted.{ActedLaw};
 ghost use Rattle.amqp_pair.specs.Called.{GrantLaw, WidenLaw, DrainLaw, TakeLaw, SettleLaw};
+ghost use Rattle.amqp_endpoint.specs.Configs.{Configured, IsConfigured};
+ghost use Rattle.amqp_pair.specs.declared.turn.TurnAnswer.{TurnAnswer};
+ghost use Rattle.amqp_pair.specs.Histories.{AllInRange, HasHistories};
+ghost use Rattle.amqp_pair.specs.Turns.{Turn, Ends, IsJoined};
 ghost use Rattle.amqp_pair.specs.Heard.{BeginHeardLaw, FlowHeardLaw, OfferedLaw};
 ghost use Rattle.amqp_pair.specs.Stands.{StandsLaw};
 ghost use Rattle.amqp_pair.specs.Words.{Writes};
@@ -17,8 +21,10 @@ ghost use Rattle.amqp_pair.specs.Spoken.{spoken, FrontLaw, IsOnWay};
 ghost use Rattle.amqp_send.specs.Histories.{Deed, written};
 ghost use Rattle.amqp_send.specs.Sendings.{SendTerms};
 
+use amqp_endpoint::laws::runs_have_a_history as endpoint_runs;
 use amqp_frame::laws::{each_unit_has_bytes, no_unit_begins_another};
 use amqp_perform::laws::{outcomes_are_found, said_is_a_frame, said_is_read};
+use amqp_send::laws::runs_have_a_history as sender_runs;
 use amqp_send::laws::{frames_are_within, frames_may_be_said};
 use amqp_types::laws::canonical_spells;
 
@@ -150,4 +156,14 @@ pub fn calls_are_turns()
     ensures settle { SettleLaw }
 {
     a_connection_stands_as_the_message_level();
+}
+
+/// Under every list of turns each end has its run and its history, the pipes lose and invent nothing, and what was taken is
+/// what the endpoint handed up: of each life of a link the first of the deliveries that are whole in the bytes that it took
+/// [2.2 to 2.7].
+pub fn each_end_has_its_history()
+    ensures { (config : Configured) (terms : SendTerms) (turns : List Turn) (answers : List TurnAnswer) (last : Ends) → IsConfigured config.container_id config.max_frame config.window → AllInRange turns → IsJoined config terms turns answers last → HasHistories config terms last }
+{
+    endpoint_runs();
+    sender_runs();
 }

@@ -1,13 +1,14 @@
 //! A sender, an endpoint, and the two pipes between them.
-ghost use Rattle.std.specs.Prelude.{◌≡◌, ◌≤◌, length, take, drop, IfOk};
+ghost use Rattle.std.specs.Prelude.{◌≡◌, ◌≤◌, length, take, drop, IfOk, OnOk};
 ghost use Rattle.amqp_endpoint.specs.Runs as of_endpoint;
-ghost use Rattle.amqp_pair.specs.Turns.{Offer, ToEndpoint, ToSender, Ask, turn_of, AreStart, TurnDone};
+ghost use Rattle.amqp_pair.specs.Turns.{Offer, ToEndpoint, ToSender, Ask, turn_of, AreStart, TurnDone, IsFilled, IsFedWhole};
 ghost use Rattle.amqp_session.specs.Calls.{Widen, Grant, Drain, Take, Settle};
 ghost use Rattle.amqp_send.specs.Keeping.{terms_of};
 ghost use Rattle.std.specs.String.{string_bytes};
 
 use crate::turn::{Turn, TurnAnswer};
-use amqp_endpoint::{Config, Endpoint};
+use amqp_endpoint::laws::are_bytes;
+use amqp_endpoint::{Config, Endpoint, Fed};
 use amqp_link::Taken;
 use amqp_perform::Outcome;
 use amqp_send::{SendConfig, Sender};
@@ -84,16 +85,33 @@ impl<A: Allocator + Copy> Pair<A> {
     }
 
     /// Moves bytes of the sender into its pipe, and feeds the whole pipe to the endpoint.
+    #[tactic(auto, using(crate::proofs::Joining::fed_behind))]
     fn to_endpoint(&mut self, alloc: A, n: usize) -> Result<TurnAnswer, AllocError>
         ensures { IfOk result (λ answer. TurnDone self.old self.new (ToEndpoint n) answer) }
+    {
+        self.fill(alloc, n)?;
+        Ok(TurnAnswer::EndpointFed(self.feed()))
+    }
+
+    /// Moves bytes of the sender into its pipe.
+    fn fill(&mut self, alloc: A, n: usize) -> Result<(), AllocError>
+        ensures { OnOk result (IsFilled self.old self.new n) }
     {
         let room = n.min(PIPE_SIZE - self.to_endpoint.len());
         let mut bytes = Vec::from_elem(alloc, 0, room)?;
         let count = self.sender.output(bytes.as_mut_slice());
         self.to_endpoint.extend_from_slice(&bytes[..count])?;
+        Ok(())
+    }
+
+    /// Feeds the whole pipe to the endpoint, once.
+    fn feed(&mut self) -> Fed
+        ensures { IsFedWhole self.old self.new result }
+    {
+        are_bytes(&self.to_endpoint);
         let fed = self.endpoint.feed(&self.to_endpoint);
         drop_front(&mut self.to_endpoint, fed.used);
-        Ok(TurnAnswer::EndpointFed(fed))
+        fed
     }
 
     /// The same the other way.
