@@ -1,5 +1,5 @@
 -- The words of a sender are acted upon as on the message level.
-use Rattle.std.proofs.Common.{◌≡◌, ℕ, zero, suc, ◌+◌, ◌-◌, ◌%◌, ◌^◌, ◌<◌, ◌≤◌, ◌&&◌, ◌||◌, Bool, true, false, not, cond, eqb, List, [], ◌∷◌, ◌++◌, length, Option, Some, None, refl, sym, ap, subst, ◌∙◌, arith}
+use Rattle.std.proofs.Common.{◌≡◌, ℕ, zero, suc, ◌^◌, ◌<◌, ◌&&◌, ◌||◌, Bool, true, false, cond, eqb, List, [], ◌∷◌, Option, Some, None, refl, sym, ap, subst, ◌∙◌, arith}
 use Rattle.std.specs.Prelude.{is_none, unwrap_or, slice_get}
 use Rattle.std.specs.List.{list_any}
 use Rattle.amqp_link.specs.declared.transfer.LinkFault.{LinkFault}
@@ -14,7 +14,7 @@ use Rattle.amqp_session.specs.Places.{GoesOn}
 use Rattle.amqp_session.specs.Sessions as session
 use Rattle.amqp_session.specs.Sessions.{SessionState, LiveLink, live_after, slot_has, is_open_id, is_reused, TransferCame, LinkFlowCame}
 use Rattle.amqp_endpoint.specs.declared.event.Event.TheVariants as told
-use Rattle.amqp_endpoint.specs.Connections.{ConnectionState, InSession, slot_at}
+use Rattle.amqp_endpoint.specs.Connections.{ConnectionState, slot_at}
 use Rattle.amqp_endpoint.specs.Lines.{Line, SessionFrame, line_of, report_told}
 use Rattle.amqp_endpoint.specs.Replies.{joined}
 use Rattle.amqp_endpoint.specs.Traces.{failure_in}
@@ -22,8 +22,8 @@ use Rattle.amqp_send.specs.declared.flow_state.FlowState.{FlowState}
 use Rattle.amqp_pair.specs.Acted.{GoesOnAs, ActedLaw}
 use Rattle.amqp_pair.specs.Reading.{FlowLaw, TransferLaw, TakenLaw, HeededLaw, flowing_of, sent_by}
 use Rattle.amqp_pair.specs.Stands.{AreFree, Stands, StandsLaw}
-use Rattle.amqp_pair.specs.Words.{Word, Sends, Answers, frame_in, unit_in, IsRight}
-use Rattle.amqp_pair.specs.World.{World, Frame, First, Later, Told, Plain, Inv, StepLaw, To_end, happens, acts, fails, judged, takes_in, counts, id_open, first_sent, later_sent}
+use Rattle.amqp_pair.specs.Words.{Sends, Answers, unit_in, IsRight}
+use Rattle.amqp_pair.specs.World.{World, Frame, Plain, Inv, StepLaw, To_end, happens, acts, fails, judged, takes_in, counts, id_open, first_sent, later_sent}
 
 -- What stands at channel 0, and at handle 0. ---------------------------------------------------------------------------
 

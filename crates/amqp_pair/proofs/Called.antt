@@ -1,9 +1,8 @@
 -- The calls of an endpoint with one link are turns of the message level.
-use Rattle.std.proofs.Common.{◌≡◌, ℕ, zero, suc, ◌+◌, ◌-◌, ◌%◌, ◌^◌, ◌<◌, ◌≤◌, Bool, true, false, not, cond, ltb, leb, eqb, List, [], ◌∷◌, ◌++◌, length, Option, Some, None, refl, sym, ap, subst, ◌∙◌, arith}
+use Rattle.std.proofs.Common.{◌≡◌, ℕ, suc, ◌+◌, ◌^◌, ◌<◌, ◌≤◌, Bool, true, false, cond, ltb, leb, eqb, List, [], ◌∷◌, ◌++◌, Option, Some, None, refl, sym, ap, subst, ◌∙◌, arith}
 use Rattle.std.specs.Prelude.{is_none, slice_get, unwrap_or}
 use Rattle.std.proofs.lemmas.Bool.{le-leb, lt-ltb}
 use Rattle.amqp_link.specs.Links.{Delivery, LinkState, LinkEvent, Granted, DrainAsked, HandedUp as Gives, ReceiverSettled, open_count, first_ready, link_after}
-use Rattle.amqp_perform.specs.declared.outcome.Outcome.{Outcome}
 use Rattle.amqp_perform.specs.Said.{Said}
 use Rattle.amqp_session.specs.declared.fault.CallFault as session_fault
 use Rattle.amqp_session.specs.declared.fault.CallFault.TheVariants as of_session
@@ -12,15 +11,14 @@ use Rattle.amqp_session.specs.declared.slot.Slot.TheVariants.{Free, Live}
 use Rattle.amqp_session.specs.Calls as call
 use Rattle.amqp_session.specs.Calls.{at_link, settles_at_once, standing_in}
 use Rattle.amqp_session.specs.Faults.{where_so, or_else, slot_flow, link_flow, session_flow}
-use Rattle.amqp_session.specs.Frames.{flow_said, link_flow_said, disposition_said}
+use Rattle.amqp_session.specs.Frames.{flow_said, link_flow_said}
 use Rattle.amqp_session.specs.Places.{Nothing, GoesOn, AllGoOn, live_in, places_after}
 use Rattle.amqp_session.specs.Sessions.{SessionState, SessionEvent, LiveLink, live_after, session_begins, session_after, Widened, Called, Settled}
-use Rattle.amqp_endpoint.specs.declared.fault.CallFault.{CallFault}
 use Rattle.amqp_endpoint.specs.Calls.{call_fault, dead_fault, at_session, of_option, full_fault, writes, slot_event, slot_spoken}
 use Rattle.amqp_endpoint.specs.Connections.{ConnectionState, InSession, connection_after, slot_at}
-use Rattle.amqp_endpoint.specs.Replies.{Spoken, on_channel}
-use Rattle.amqp_endpoint.specs.Runs.{Answer, handed_of, HandedUp, handed, link_handed, accepted_answer}
-use Rattle.amqp_pair.specs.Called.{flow_speaks, IsCalled, IsFlowCalled, GrantLaw, WidenLaw, DrainLaw, IsTakeCalled, TakeLaw, IsSettleCalled, SettleLaw}
+use Rattle.amqp_endpoint.specs.Replies.{on_channel}
+use Rattle.amqp_endpoint.specs.Runs.{handed_of, handed, link_handed, accepted_answer}
+use Rattle.amqp_pair.specs.Called.{flow_speaks, IsFlowCalled, GrantLaw, WidenLaw, DrainLaw, TakeLaw, SettleLaw}
 use Rattle.amqp_pair.specs.Stands.{Stands, StandsLaw}
 use Rattle.amqp_pair.specs.World.{World, Turn, Grant, Widen, Drain, Take, Settle, happens, flows, takes, flow_of, Plain, Inv}
 use Rattle.amqp_pair.proofs.Acted.{at_channel, at_handle, stands_as, free_still}
@@ -74,7 +72,7 @@ session_flow_is s w a = ap (λ (n : ℕ). flow_said n a.session.window) a.next �
 session_is : (s : ConnectionState) (w v : World) (e : SessionEvent) (a : Stands s w) (b : Stands (connection_after s (InSession 0 e)) v) → b.session ≡ session_after a.session e
 session_is s w v e a b =
     let p : Live b.session ≡ Live (session_after a.session e) =
-      sym (at_channel (connection_after s (InSession 0 e)) v b) ∙ ap (λ (z : List (Slot SessionState)). unwrap_or (slice_get (places_after session_begins session_after z (GoesOn 0 e)) 0) Free) a.sessions in
+    sym (at_channel (connection_after s (InSession 0 e)) v b) ∙ ap (λ (z : List (Slot SessionState)). unwrap_or (slice_get (places_after session_begins session_after z (GoesOn 0 e)) 0) Free) a.sessions in
     ap (λ (q : Slot SessionState). unwrap_or (live_in q) a.session) p
 
 module _ (stand : StandsLaw) where
@@ -83,8 +81,8 @@ module _ (stand : StandsLaw) where
       → (b : Stands (connection_after s (InSession 0 (Called 0 e))) v) × (b.session ≡ session_after a.session (Called 0 e))
   on_link s w x a i e v l p n =
       let b : Stands (connection_after s (InSession 0 (Called 0 e))) v =
-        stands_as _ _ v (ap (λ (z : LinkState). link_after z e) a.same ∙ sym l) (omega (arith, p)) (omega (arith, n, i.end_next))
-        (stand s w (Called 0 e) (GoesOn 0 e) (live_after a.link e) a refl refl (λ k. free_still (eqb 0 (suc k)))) in
+      stands_as _ _ v (ap (λ (z : LinkState). link_after z e) a.same ∙ sym l) (omega (arith, p)) (omega (arith, n, i.end_next))
+      (stand s w (Called 0 e) (GoesOn 0 e) (live_after a.link e) a refl refl (λ k. free_still (eqb 0 (suc k)))) in
       (b, session_is s w v (Called 0 e) a b)
 
   flow_called : (s : ConnectionState) (w v : World) (x : Plain) (a : Stands s w) (i : Inv w x) (c : call.Call) (e : LinkEvent) (turn : Turn) → call.call_event a.session c ≡ Called 0 e
@@ -107,9 +105,9 @@ module _ (stand : StandsLaw) where
   grants s w x unsent n a i e =
       let v : World = record w { link = link_after w.link (Granted n) } in
       let none : where_so (ltb a.link.link.terms.bounds.allowed (a.link.link.credit + open_count a.link.link + n)) of_session.TooMuchCredit ≡ None =
-        ap (λ (q : Slot LiveLink). at_link q (λ l. where_so (ltb l.terms.bounds.allowed (l.credit + open_count l + n)) of_session.TooMuchCredit)) (sym (at_handle s w a)) ∙ no_fault s w a unsent (call.Grant 0 n) e in
+      ap (λ (q : Slot LiveLink). at_link q (λ l. where_so (ltb l.terms.bounds.allowed (l.credit + open_count l + n)) of_session.TooMuchCredit)) (sym (at_handle s w a)) ∙ no_fault s w a unsent (call.Grant 0 n) e in
       let fits : w.link.credit + open_count w.link + n ≤ w.link.terms.bounds.allowed =
-        subst (λ (l : LinkState). l.credit + open_count l + n ≤ l.terms.bounds.allowed) a.same (not_less a.link.link.terms.bounds.allowed (a.link.link.credit + open_count a.link.link + n) (not_so _ of_session.TooMuchCredit none)) in
+      subst (λ (l : LinkState). l.credit + open_count l + n ≤ l.terms.bounds.allowed) a.same (not_less a.link.link.terms.bounds.allowed (a.link.link.credit + open_count a.link.link + n) (not_so _ of_session.TooMuchCredit none)) in
       flow_called s w v x a i (call.Grant 0 n) (Granted n) (Grant n) refl refl (ap (λ (b : Bool). cond b (flows v true) w) (le-leb _ _ fits)) refl refl refl refl
 
   pub drains : DrainLaw
@@ -121,7 +119,7 @@ module _ (stand : StandsLaw) where
       let fits : a.session.window + n < 2 ^ 31 = not_least (2 ^ 31) (a.session.window + n) (not_so _ of_session.WindowTooWide (no_fault s w a unsent (call.Widen n) e)) in
       let goes : happens w (Widen n) ≡ flows v false = ap (λ (b : Bool). cond b (flows v false) w) (lt-ltb (w.places + n) (2 ^ 31) (omega (arith, fits, a.places))) in
       let b : Stands (connection_after s (InSession 0 (Widened n))) (flows v false) =
-        stands_as _ _ (flows v false) a.same (omega arith) (omega (arith, i.end_next)) (stand s w (Widened n) Nothing a.link a refl refl (λ k. refl)) in
+      stands_as _ _ (flows v false) a.same (omega arith) (omega (arith, i.end_next)) (stand s w (Widened n) Nothing a.link a refl refl (λ k. refl)) in
       record {
         called = record {
           event = Widened n;
@@ -151,7 +149,7 @@ module _ (stand : StandsLaw) where
   pub gives : TakeLaw
   gives s w x unsent a i e =
       let none : where_so (is_none (slice_get a.link.link.ready 0)) of_session.NothingReady ≡ None =
-        ap (λ (q : Slot LiveLink). at_link q (λ l. where_so (is_none (first_ready l)) of_session.NothingReady)) (sym (at_handle s w a)) ∙ no_fault s w a unsent (call.Take 0) e in
+      ap (λ (q : Slot LiveLink). at_link q (λ l. where_so (is_none (first_ready l)) of_session.NothingReady)) (sym (at_handle s w a)) ∙ no_fault s w a unsent (call.Take 0) e in
       let f = first a.link.link.ready none in
       let d : Delivery = f.0 in
       let mine : w.link.ready ≡ d ∷ f.1 = ap (λ (l : LinkState). l.ready) (sym a.same) ∙ f.2 in

@@ -1,5 +1,5 @@
 -- Turns are runs of both ends.
-use Rattle.std.proofs.Common.{◌≡◌, ℕ, ◌+◌, ◌^◌, ◌<◌, List, [], ◌∷◌, ◌++◌, length, get_or, take, drop, map, Option, refl, sym, ap, subst, ◌∙◌, append_assoc, append-nil}
+use Rattle.std.proofs.Common.{◌≡◌, ℕ, ◌+◌, ◌<◌, List, [], ◌∷◌, ◌++◌, length, get_or, take, drop, map, Option, refl, sym, ap, subst, ◌∙◌, append_assoc, append-nil}
 use Rattle.std.specs.List.{flat_map}
 use Rattle.std.proofs.lemmas.List.{take-append-drop, map_more}
 use Rattle.amqp_endpoint.specs.declared.event.Fed.{Fed}
@@ -12,7 +12,7 @@ use Rattle.amqp_endpoint.specs.Traces.{AreInRange, IsWholeRun, all_taken}
 use Rattle.amqp_pair.specs.declared.turn.TurnAnswer.{TurnAnswer}
 use Rattle.amqp_pair.specs.declared.turn.TurnAnswer.TheVariants as answer
 use Rattle.amqp_pair.specs.Histories.{IsInRange, AllInRange, handed_by, Parts, HasHistories}
-use Rattle.amqp_pair.specs.Turns.{Turn, Offer, ToEndpoint, ToSender, Ask, Ends, TurnDone, Pair, AreStart, IsJoined, room_for, IsOffered, IsToEndpoint, IsToSender, IsAsked}
+use Rattle.amqp_pair.specs.Turns.{Turn, Offer, ToEndpoint, ToSender, Ask, Ends, TurnDone, Pair, IsJoined, room_for, IsOffered, IsToEndpoint, IsToSender, IsAsked}
 use Rattle.amqp_send.specs.declared.news.News.{News}
 use Rattle.amqp_send.specs.Calls.{SenderState}
 use Rattle.amqp_send.specs.Runs as of_sender

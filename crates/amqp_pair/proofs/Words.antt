@@ -1,5 +1,5 @@
 -- The frames that a sender writes are turns of the message level.
-use Rattle.std.proofs.Common.{◌≡◌, ℕ, zero, suc, ◌+◌, ◌-◌, ◌%◌, ◌^◌, ◌<◌, ◌≤◌, ◌&&◌, ◌||◌, Bool, true, false, not, cond, ltb, leb, List, [], ◌∷◌, ◌++◌, length, map, take, drop, Option, Some, None, refl, sym, ap, subst, ◌∙◌, arith, append_assoc, append-nil}
+use Rattle.std.proofs.Common.{◌≡◌, ℕ, zero, suc, ◌-◌, ◌≤◌, ◌&&◌, ◌||◌, Bool, true, false, not, cond, ltb, leb, List, [], ◌∷◌, ◌++◌, length, map, take, drop, Option, Some, None, refl, sym, ap, subst, ◌∙◌, arith, append_assoc, append-nil}
 use Rattle.std.specs.List.{flat_map}
 use Rattle.std.proofs.Math.Seq.{take-length}
 use Rattle.std.proofs.lemmas.Bool.{ltb-true, le-leb}
@@ -11,7 +11,7 @@ use Rattle.amqp_send.specs.Flows.{credit, window, most, transferred}
 use Rattle.amqp_send.specs.Sendings.{Message, Sending, frame, heads_of, transfer_said, is_talking, is_last, share, may_go, fits, next_frame, wrote_of, wrote, writes, all_written, frames_left}
 use Rattle.amqp_pair.specs.World.{World, Turn, Write, run, happens, AreFair, charge, credit_of, window_of, cuts}
 use Rattle.amqp_pair.specs.World as world
-use Rattle.amqp_pair.specs.Words.{Word, Sends, frame_in, text_in, with_sender, adds, IsKept, AreRight, IsNumbered, Writes}
+use Rattle.amqp_pair.specs.Words.{Word, Sends, frame_in, text_in, with_sender, adds, IsKept, AreRight, Writes}
 
 -- Nothing is written, or one thing behind the other. ------------------------------------------------------------------
 

@@ -1,5 +1,5 @@
 -- What the words of a sender come to on a connection with one link, on the message level (AMQP 1.0, part 2, sections 2.5.6, 2.6.7 and 2.6.14).
-use Rattle.std.specs.Prelude.{◌≡◌, ℕ, ◌^◌, ◌<◌, List, [], ◌∷◌, length, None}
+use Rattle.std.specs.Prelude.{◌≡◌, ℕ, ◌^◌, ◌<◌, List, [], ◌∷◌, None}
 use Rattle.amqp_session.specs.Sessions.{SessionEvent}
 use Rattle.amqp_endpoint.specs.Connections.{ConnectionState, InSession, connection_after}
 use Rattle.amqp_endpoint.specs.Lines.{Line, line_of, event_on, told_on}

@@ -1,5 +1,5 @@
 -- What became of both ends under a list of turns: each has its run and its history, and the pipes lost and invented nothing (AMQP 1.0, part 2, sections 2.2 to 2.7).
-use Rattle.std.specs.Prelude.{◌≡◌, ℕ, ◌^◌, ◌<◌, List, [], ◌∷◌, ◌++◌}
+use Rattle.std.specs.Prelude.{◌≡◌, List, [], ◌∷◌, ◌++◌}
 use Rattle.std.specs.List.{flat_map}
 use Rattle.amqp_endpoint.specs.Configs.{Configured}
 use Rattle.amqp_endpoint.specs.Runs as of_endpoint

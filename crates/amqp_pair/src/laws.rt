@@ -24,8 +24,7 @@ ghost use Rattle.amqp_send.specs.Sendings.{SendTerms};
 use amqp_endpoint::laws::runs_have_a_history as endpoint_runs;
 use amqp_frame::laws::{each_unit_has_bytes, no_unit_begins_another};
 use amqp_perform::laws::{outcomes_are_found, said_is_a_frame, said_is_read};
-use amqp_send::laws::runs_have_a_history as sender_runs;
-use amqp_send::laws::{frames_are_within, frames_may_be_said};
+use amqp_send::laws::{frames_are_within, frames_may_be_said, runs_have_a_history as sender_runs};
 use amqp_types::laws::canonical_spells;
 
 /// What a sender wrote is units: its header, the frames of its opening, its answers to flows, its transfers, its close
