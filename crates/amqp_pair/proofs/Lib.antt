@@ -13,3 +13,4 @@ pub mod Stands
 pub mod Acted
 pub mod Called
 pub mod Histories
+pub mod Attached

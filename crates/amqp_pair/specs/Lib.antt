@@ -11,3 +11,4 @@ pub mod Stands
 pub mod Acted
 pub mod Called
 pub mod Histories
+pub mod Attached

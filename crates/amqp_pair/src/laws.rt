@@ -12,6 +12,7 @@ ghost use Rattle.amqp_endpoint.specs.Configs.{Configured, IsConfigured};
 ghost use Rattle.amqp_pair.specs.declared.turn.TurnAnswer.{TurnAnswer};
 ghost use Rattle.amqp_pair.specs.Histories.{AllInRange, HasHistories};
 ghost use Rattle.amqp_pair.specs.Turns.{Turn, Ends, IsJoined};
+ghost use Rattle.amqp_pair.specs.Attached.{AttachedLaw};
 ghost use Rattle.amqp_pair.specs.Heard.{BeginHeardLaw, FlowHeardLaw, OfferedLaw};
 ghost use Rattle.amqp_pair.specs.Stands.{StandsLaw};
 ghost use Rattle.amqp_pair.specs.Words.{Writes};
@@ -25,7 +26,7 @@ use amqp_endpoint::laws::runs_have_a_history as endpoint_runs;
 use amqp_frame::laws::{each_unit_has_bytes, no_unit_begins_another};
 use amqp_perform::laws::{outcomes_are_found, said_is_a_frame, said_is_read};
 use amqp_send::laws::{frames_are_within, frames_may_be_said, runs_have_a_history as sender_runs};
-use amqp_types::laws::canonical_spells;
+use amqp_types::laws::{canonical_spells, reading_is_exact};
 
 /// What a sender wrote is units: its header, the frames of its opening, its answers to flows, its transfers, its close
 /// [2.2, 2.7].
@@ -165,4 +166,13 @@ pub fn each_end_has_its_history()
 {
     endpoint_runs();
     sender_runs();
+}
+
+/// The sender's attach, in a session that has begun and has no link, is answered, and its link stands, where the answer is
+/// no longer than the sender's frames [2.6.2, 2.6.3, 2.7.1].
+pub fn the_attach_is_accepted()
+    ensures { AttachedLaw }
+{
+    reading_is_exact();
+    canonical_spells();
 }
