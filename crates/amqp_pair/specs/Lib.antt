@@ -12,3 +12,4 @@ pub mod Acted
 pub mod Called
 pub mod Histories
 pub mod Attached
+pub mod WordUnits

@@ -13,6 +13,7 @@ ghost use Rattle.amqp_pair.specs.declared.turn.TurnAnswer.{TurnAnswer};
 ghost use Rattle.amqp_pair.specs.Histories.{AllInRange, HasHistories};
 ghost use Rattle.amqp_pair.specs.Turns.{Turn, Ends, IsJoined};
 ghost use Rattle.amqp_pair.specs.Attached.{AttachedLaw};
+ghost use Rattle.amqp_pair.specs.WordUnits.{WordUnitsLaw};
 ghost use Rattle.amqp_pair.specs.Heard.{BeginHeardLaw, FlowHeardLaw, OfferedLaw};
 ghost use Rattle.amqp_pair.specs.Stands.{StandsLaw};
 ghost use Rattle.amqp_pair.specs.Words.{Writes};
@@ -175,4 +176,11 @@ pub fn the_attach_is_accepted()
 {
     reading_is_exact();
     canonical_spells();
+}
+
+/// The words of a sender are units of the stream to its receiver, where they are no longer than that accepts [2.3.1].
+pub fn words_are_units()
+    ensures { WordUnitsLaw }
+{
+    said_is_a_frame();
 }
