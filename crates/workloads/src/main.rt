@@ -1,0 +1,132 @@
+//! The jobs that a user of this repository waits for, on inputs that they make themselves, for `bench/run`.
+//!
+//! `workloads NAME SEED ROUNDS` does a job so many times, each time on another input that follows from the seed, and prints a
+//! digest of all that came of it. With no words each job is done once on a small input, so that the same is printed each time.
+#![tactic(auto)]
+
+mod awkward;
+mod desk;
+mod digest;
+mod documents;
+mod dumped;
+mod failure;
+mod gateway;
+mod numbers;
+mod peer;
+mod receiving;
+mod replayed;
+mod telemetry;
+
+use crate::desk::Desk;
+use crate::failure::Failure;
+use std::alloc::Global;
+use std::env;
+
+/// How much of a job is done at a time.
+#[derive(Clone, Copy, PartialEq, Eq)]
+pub enum Size {
+    /// Enough to see that it is done.
+    Small,
+    /// As much as a user has.
+    Full,
+}
+
+impl Size {
+    /// So many, or so many where it is small.
+    pub fn of(self, full: u32, small: u32) -> u32 {
+        match self {
+            Size::Full => full,
+            Size::Small => small,
+        }
+    }
+}
+
+/// What is done.
+#[derive(Clone, Copy)]
+enum Job {
+    Telemetry,
+    Documents,
+    Gateway,
+    Dump,
+    Replay,
+    Awkward,
+}
+
+/// Every job, in the order in which they are done.
+const JOBS: [Job; 6] = [
+    Job::Telemetry,
+    Job::Documents,
+    Job::Gateway,
+    Job::Dump,
+    Job::Replay,
+    Job::Awkward,
+];
+
+impl Job {
+    fn name(self) -> &'static str {
+        match self {
+            Job::Telemetry => "telemetry",
+            Job::Documents => "documents",
+            Job::Gateway => "gateway",
+            Job::Dump => "dump",
+            Job::Replay => "replay",
+            Job::Awkward => "awkward",
+        }
+    }
+
+    /// Does it so many times.
+    fn run(self, alloc: Global, seed: u64, rounds: u32, size: Size) -> Result<Desk, Failure> {
+        let mut desk = Desk::new(alloc, seed, size)?;
+        for _ in 0..rounds {
+            desk.peer.bytes.clear();
+            match self {
+                Job::Telemetry => telemetry::run(&mut desk)?,
+                Job::Documents => documents::run(&mut desk)?,
+                Job::Gateway => gateway::run(&mut desk)?,
+                Job::Dump => dumped::run(&mut desk)?,
+                Job::Replay => replayed::run(&mut desk)?,
+                Job::Awkward => awkward::run(&mut desk)?,
+            }
+        }
+        Ok(desk)
+    }
+}
+
+fn main(rt: HostRuntime) -> Result<(), Failure> {
+    let words: Vec<String> = env::args(&rt)?.skip(1).collect(rt.alloc())?;
+    match words.as_slice() {
+        [] => run_all(&rt, rt.alloc()),
+        [name, seed, rounds] => {
+            let job = job_of(name.as_str()).ok_or(Failure::NoSuchJob)?;
+            let seed = seed.parse::<u64>().ok().ok_or(Failure::NoSuchJob)?;
+            let rounds = rounds.parse::<u32>().ok().ok_or(Failure::NoSuchJob)?;
+            show(&rt, job, job.run(rt.alloc(), seed, rounds, Size::Full)?)
+        }
+        _ => Err(Failure::NoSuchJob),
+    }
+}
+
+fn job_of(name: &str) -> Option<Job> {
+    for job in JOBS {
+        if job.name() == name {
+            return Some(job);
+        }
+    }
+    None
+}
+
+fn run_all(rt: &impl Print, alloc: Global) -> Result<(), Failure> {
+    for job in JOBS {
+        show(rt, job, job.run(alloc, 1, 2, Size::Small)?)?;
+    }
+    Ok(())
+}
+
+/// Prints what came of a job.
+fn show(rt: &impl Print, job: Job, mut desk: Desk) -> Result<(), Failure> {
+    let name = job.name();
+    let (answered, answers) = (desk.answers.bytes(), desk.answers.value());
+    let (recorded, records) = (desk.records.bytes(), desk.records.value());
+    println!(rt; "{name} answers={answered} {answers:016x} records={recorded} {records:016x}")?;
+    Ok(())
+}

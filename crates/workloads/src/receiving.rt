@@ -1,0 +1,45 @@
+//! A connection that is served over bytes in memory, as a receiver over a socket serves it.
+
+use crate::desk::Desk;
+use crate::failure::Failure;
+use amqp_endpoint::{Config, End, Endpoint};
+use amqp_frame::Device;
+use amqp_perform::Outcome;
+use amqp_serve::{Policy, serve};
+use std::io::{BufReader, BufWriter};
+
+/// How many bytes of answers and of records are written at once.
+const BUFFER: usize = 65536;
+
+/// How a connection is served.
+#[derive(Clone, Copy)]
+pub struct Receiver {
+    /// How many bytes a read brings.
+    pub at_once: u32,
+    /// The credit that each link is kept at, and the deliveries that it may have open.
+    pub credit: u32,
+}
+
+impl Receiver {
+    /// Serves a connection whose peer sends what the desk has, and adds what was answered and recorded.
+    pub fn serve(&self, desk: &mut Desk) -> Result<(), Failure> {
+        let alloc = desk.alloc;
+        let name = String::from_str(alloc, "recv")?;
+        let checked = Config::checked(name, 65536, 7, 7, self.credit, 1 << 20, 2048);
+        let mut endpoint = Endpoint::new(alloc, checked.ok_or(Failure::Settings)?)?;
+        let policy = Policy {
+            credit: self.credit,
+            outcome: Outcome::Accepted,
+        };
+        let stream = desk.peer.bytes.as_slice();
+        let input = BufReader::with_capacity(alloc, self.at_once as usize, stream)?;
+        let mut reader = Device::new(input);
+        let mut writer = Device::new(BufWriter::with_capacity(alloc, BUFFER, &mut desk.answers)?);
+        let mut sink = Device::new(BufWriter::with_capacity(alloc, BUFFER, &mut desk.records)?);
+        match serve(&mut endpoint, &mut reader, &mut writer, &mut sink, policy) {
+            Ok(End::Closed) => Ok(()),
+            Ok(end) => Err(Failure::Ended(end)),
+            Err(fault) => Err(Failure::Serve(fault)),
+        }
+    }
+}
