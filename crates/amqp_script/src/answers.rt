@@ -1,55 +1,75 @@
 //! The line of an answer.
 
+use crate::digits::put_hex;
 use amqp_endpoint::{Answer, End, Event, Fed, Outcome, Scope};
 use amqp_link::Taken;
 use amqp_perform::Condition;
+use itoa::{Buffer, Integer};
 use std::alloc::{AllocError, Global};
-use std::fmt::Write;
 
 /// Appends the line of an answer.
-pub fn write_answer(alloc: Global, out: &mut String, answer: &Answer) -> Result<(), AllocError> {
+pub fn write_answer(alloc: Global, out: &mut Vec<u8>, answer: &Answer) -> Result<(), AllocError> {
     match answer {
         Answer::Fed(fed) => write_fed(out, *fed)?,
-        Answer::Accepted => out.push_str("ok")?,
-        Answer::Dropped(dropped) => write!(out, "ok dropped={dropped}")?,
-        Answer::Named(named) => write!(out, "ok settled={named}")?,
-        Answer::HandedUp(taken) => write_taken(alloc, out, taken)?,
-        Answer::Refused(fault) => write!(out, "refused {fault:?}")?,
-        Answer::MovedOut(bytes) => write!(out, "output {}", hex::encode(alloc, bytes)?)?,
-        Answer::Holds(held) => write!(out, "held {held}")?,
+        Answer::Accepted => put(out, b"ok")?,
+        Answer::Dropped(dropped) => put_counted(out, b"ok dropped=", *dropped)?,
+        Answer::Named(named) => put_counted(out, b"ok settled=", *named)?,
+        Answer::HandedUp(taken) => write_taken(out, taken)?,
+        Answer::Refused(fault) => put(out, format!(in alloc; "refused {fault:?}")?.as_bytes())?,
+        Answer::MovedOut(bytes) => {
+            put(out, b"output ")?;
+            put_hex(out, bytes)?;
+        }
+        Answer::Holds(held) => put_counted(out, b"held ", *held)?,
         Answer::Ended(end) => write_end(out, *end)?,
     }
-    out.push('\n')
+    put(out, b"\n")
 }
 
-fn write_fed(out: &mut String, fed: Fed) -> Result<(), AllocError> {
-    write!(out, "used={} ", fed.used)?;
+fn put(out: &mut Vec<u8>, text: &[u8]) -> Result<(), AllocError> {
+    out.extend_from_slice(text)
+}
+
+/// Appends a text, and a number in decimal.
+fn put_counted<I: Integer>(out: &mut Vec<u8>, text: &[u8], number: I) -> Result<(), AllocError> {
+    put(out, text)?;
+    put(out, Buffer::new().format(number).as_bytes())
+}
+
+fn write_fed(out: &mut Vec<u8>, fed: Fed) -> Result<(), AllocError> {
+    put_counted(out, b"used=", fed.used)?;
     match fed.outcome {
-        Outcome::More => out.push_str("More"),
+        Outcome::More => put(out, b" More"),
         Outcome::Event(event) => write_event(out, event),
-        Outcome::Blocked => out.push_str("Blocked"),
-        Outcome::NoMemory => out.push_str("NoMemory"),
-        Outcome::Dead => out.push_str("Dead"),
+        Outcome::Blocked => put(out, b" Blocked"),
+        Outcome::NoMemory => put(out, b" NoMemory"),
+        Outcome::Dead => put(out, b" Dead"),
     }
 }
 
-fn write_event(out: &mut String, event: Event) -> Result<(), AllocError> {
+fn write_event(out: &mut Vec<u8>, event: Event) -> Result<(), AllocError> {
     match event {
-        Event::Opened => out.push_str("Opened"),
-        Event::Begun { channel } => write!(out, "Begun {channel}"),
-        Event::Attached { channel, handle } => write!(out, "Attached {channel} {handle}"),
-        Event::Unfinished { channel, handle } => write!(out, "Part {channel} {handle}"),
-        Event::Ready { channel, handle } => write!(out, "Ready {channel} {handle}"),
-        Event::Aborted { channel, handle } => write!(out, "Aborted {channel} {handle}"),
-        Event::Drained { channel, handle } => write!(out, "Drained {channel} {handle}"),
-        Event::Settled { channel, count } => write!(out, "Settled {channel} {count}"),
+        Event::Opened => put(out, b" Opened"),
+        Event::Begun { channel } => put_counted(out, b" Begun ", channel),
+        Event::Attached { channel, handle } => put_place(out, b" Attached ", channel, handle),
+        Event::Unfinished { channel, handle } => put_place(out, b" Part ", channel, handle),
+        Event::Ready { channel, handle } => put_place(out, b" Ready ", channel, handle),
+        Event::Aborted { channel, handle } => put_place(out, b" Aborted ", channel, handle),
+        Event::Drained { channel, handle } => put_place(out, b" Drained ", channel, handle),
+        Event::Settled { channel, count } => put_place(out, b" Settled ", channel, count),
         Event::Detached {
             channel,
             handle,
             dropped,
-        } => write!(out, "Detached {channel} {handle} dropped={dropped}"),
-        Event::Ended { channel, dropped } => write!(out, "Ended {channel} dropped={dropped}"),
-        Event::Closed { dropped } => write!(out, "Closed dropped={dropped}"),
+        } => {
+            put_place(out, b" Detached ", channel, handle)?;
+            put_counted(out, b" dropped=", dropped)
+        }
+        Event::Ended { channel, dropped } => {
+            put_counted(out, b" Ended ", channel)?;
+            put_counted(out, b" dropped=", dropped)
+        }
+        Event::Closed { dropped } => put_counted(out, b" Closed dropped=", dropped),
         Event::Failed {
             scope,
             condition,
@@ -58,38 +78,63 @@ fn write_event(out: &mut String, event: Event) -> Result<(), AllocError> {
     }
 }
 
+/// Appends a text, a channel and another number.
+fn put_place(out: &mut Vec<u8>, text: &[u8], channel: u16, number: u32) -> Result<(), AllocError> {
+    put_counted(out, text, channel)?;
+    put_counted(out, b" ", number)
+}
+
 fn write_failure(
-    out: &mut String,
+    out: &mut Vec<u8>,
     scope: Scope,
     condition: Condition,
     dropped: u32,
 ) -> Result<(), AllocError> {
     match scope {
-        Scope::Connection => out.push_str("Failed connection ")?,
-        Scope::Session { channel } => write!(out, "Failed session {channel} ")?,
-        Scope::Link { channel, handle } => write!(out, "Failed link {channel} {handle} ")?,
+        Scope::Connection => put(out, b" Failed connection ")?,
+        Scope::Session { channel } => {
+            put_counted(out, b" Failed session ", channel)?;
+            put(out, b" ")?;
+        }
+        Scope::Link { channel, handle } => {
+            put_place(out, b" Failed link ", channel, handle)?;
+            put(out, b" ")?;
+        }
     }
-    for byte in condition.name() {
-        out.push(*byte as char)?;
-    }
-    write!(out, " dropped={dropped}")
+    put(out, condition.name())?;
+    put_counted(out, b" dropped=", dropped)
 }
 
-fn write_taken(alloc: Global, out: &mut String, taken: &Taken) -> Result<(), AllocError> {
-    let tag = hex::encode(alloc, taken.delivery_tag.as_bytes())?;
-    let message = hex::encode(alloc, taken.message.to_vec(alloc)?)?;
-    write!(
+fn write_taken(out: &mut Vec<u8>, taken: &Taken) -> Result<(), AllocError> {
+    put_counted(out, b"taken id=", taken.delivery_id)?;
+    put(out, b" tag=")?;
+    put_hex(out, taken.delivery_tag.as_bytes())?;
+    put_counted(out, b" format=", taken.message_format)?;
+    put(
         out,
-        "taken id={} tag={tag} format={} settled={} message={message}",
-        taken.delivery_id, taken.message_format, taken.settled
-    )
+        if taken.settled {
+            b" settled=true message="
+        } else {
+            b" settled=false message="
+        },
+    )?;
+    let mut at: usize = 0;
+    for _ in 0..taken.message.len() {
+        let piece = taken.message.piece(at);
+        if piece.is_empty() {
+            break;
+        }
+        put_hex(out, piece)?;
+        at = at.saturating_add(piece.len());
+    }
+    Ok(())
 }
 
-fn write_end(out: &mut String, end: End) -> Result<(), AllocError> {
+fn write_end(out: &mut Vec<u8>, end: End) -> Result<(), AllocError> {
     match end {
-        End::Failed => out.push_str("end Failed"),
-        End::Closed => out.push_str("end Closed"),
-        End::Between => out.push_str("end Between"),
-        End::Inside(count) => write!(out, "end Inside {count}"),
+        End::Failed => put(out, b"end Failed"),
+        End::Closed => put(out, b"end Closed"),
+        End::Between => put(out, b"end Between"),
+        End::Inside(count) => put_counted(out, b"end Inside ", count),
     }
 }

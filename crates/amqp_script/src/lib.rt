@@ -6,6 +6,7 @@
 #![tactic(auto)]
 
 mod answers;
+mod digits;
 mod limits;
 mod lines;
 mod replay;

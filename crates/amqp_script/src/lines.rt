@@ -1,5 +1,6 @@
 //! The lines of a script: what they set up and ask for. Words are parted by one space.
 
+use crate::digits::is_hex;
 use amqp_endpoint::{Call, Config, LinkLimit};
 use amqp_perform::Outcome;
 use std::alloc::{AllocError, Global};
@@ -18,9 +19,10 @@ impl<'a> Words<'a> {
     /// The next word, which may be empty; none behind the last.
     fn word(&mut self) -> Option<&'a str> {
         let rest = self.rest.take()?;
-        match rest.split_once(' ') {
-            Some((word, behind)) => {
-                self.rest = Some(behind);
+        match rest.bytes().position(|byte| byte == b' ') {
+            Some(end) => {
+                let (word, behind) = rest.split_at_checked(end)?;
+                self.rest = behind.get(1..);
                 Some(word)
             }
             None => Some(rest),
@@ -30,10 +32,18 @@ impl<'a> Words<'a> {
     /// A number below 2^32: one digit or more, and nothing else.
     fn number(&mut self) -> Option<u32> {
         let word = self.word()?;
-        if word.is_empty() || !word.bytes().all(|byte| byte.is_ascii_digit()) {
+        if word.is_empty() {
             return None;
         }
-        word.parse::<u32>().ok()
+        let mut number: u32 = 0;
+        for byte in word.bytes() {
+            let digit = byte.wrapping_sub(b'0');
+            if digit > 9 {
+                return None;
+            }
+            number = number.checked_mul(10)?.checked_add(digit as u32)?;
+        }
+        Some(number)
     }
 
     /// A channel, which is below 2^16.
@@ -163,19 +173,26 @@ fn row_words(row: &str) -> Option<Row<'_>> {
     words.end(row)
 }
 
-/// The hex text of a `feed` that has one: pairs of digits.
+/// The word of a line that feeds bytes, or none.
+const FEED: &str = "feed";
+
+/// The text behind the word of a line that feeds some bytes.
 pub fn fed(line: &str) -> Option<&str> {
-    let hex = line.strip_prefix("feed ")?;
-    if !hex.is_empty() && hex.len() % 2 == 0 && hex.bytes().all(|byte| byte.is_ascii_hexdigit()) {
-        Some(hex)
-    } else {
-        None
+    line.strip_prefix(FEED)?.strip_prefix(' ')
+}
+
+/// Whether a line asks for a call.
+pub fn is_call(line: &str) -> bool {
+    match fed(line) {
+        Some(hex) => is_hex(hex.as_bytes()),
+        None => call_of(line, &[]).is_some(),
     }
 }
 
-/// The call that a line asks for, where these are the bytes that it feeds. None where it asks for none.
+/// The call that a line asks for, where these are the bytes that it feeds: what stands behind `feed` is not looked at. None where
+/// it asks for none.
 pub fn call_of<'a>(line: &str, piece: &'a [u8]) -> Option<Call<'a>> {
-    if line == "feed" || fed(line).is_some() {
+    if line == FEED || fed(line).is_some() {
         return Some(Call::Feed(piece));
     }
     let mut words = Words::of(line);

@@ -6,10 +6,12 @@ ghost use Rattle.amqp_frame.specs.Devices.{device_inner, has_failed};
 ghost use Rattle.amqp_script.specs.declared.replay.ScriptFault.TheVariants.{NoMemory};
 
 use crate::answers::write_answer;
+use crate::digits::read_hex;
 use crate::limits::{limits_of, line_of};
-use crate::lines::{call_of, config_of, fed};
+use crate::lines::{call_of, config_of, fed, is_call};
 use amqp_endpoint::{Config, Endpoint};
 use amqp_frame::Device;
+use memchr::memchr_iter;
 use std::alloc::{AllocError, Global};
 use std::io::{Read, Write};
 use thiserror::Error;
@@ -91,9 +93,12 @@ pub fn read_script<R: Read + Drop>(
 pub fn lines_of(alloc: Global, script: &[u8]) -> Result<Vec<&[u8]>, AllocError> {
     let text = script.strip_suffix(b"\n".as_slice()).unwrap_or(script);
     let mut lines = Vec::new(alloc);
-    for line in text.split(|byte| *byte == b'\n') {
-        lines.push(line)?;
+    let mut start = 0;
+    for end in memchr_iter(b'\n', text) {
+        lines.push(text.get(start..end).unwrap_or(&[]))?;
+        start = end.saturating_add(1);
     }
+    lines.push(text.get(start..).unwrap_or(&[]))?;
     Ok(lines)
 }
 
@@ -113,7 +118,7 @@ fn check(alloc: Global, lines: &[&[u8]]) -> Result<Setup, ScriptFault>
     let setup = set_up(alloc, lines)?;
     for (index, line) in lines.iter().enumerate().skip(setup.lines) {
         let number = index.saturating_add(1);
-        if call_of(text_of(line, number)?, &[]).is_none() {
+        if !is_call(text_of(line, number)?) {
             return Err(ScriptFault::Line(number));
         }
     }
@@ -165,30 +170,31 @@ fn run<W: Write + Drop>(
         lines: first,
     } = setup;
     let mut endpoint = Endpoint::new(alloc, config)?;
+    let mut piece = Vec::new(alloc);
+    let mut answer = Vec::new(alloc);
     for line in lines.iter().skip(first) {
-        let answer = answer_to(alloc, &mut endpoint, line)?;
-        write_out(answer.as_bytes(), writer)?;
+        answer.clear();
+        answer_to(alloc, &mut endpoint, line, &mut piece, &mut answer)?;
+        write_out(&answer, writer)?;
     }
     Ok(())
 }
 
-/// Does what a line asks for. The line of its answer; nothing where it asks for nothing.
-fn answer_to(alloc: Global, endpoint: &mut Endpoint, line: &[u8]) -> Result<String, AllocError> {
+/// Does what a line asks for, and appends the line of its answer; nothing where it asks for nothing. Its bytes stand in `piece`
+/// then.
+fn answer_to(
+    alloc: Global,
+    endpoint: &mut Endpoint,
+    line: &[u8],
+    piece: &mut Vec<u8>,
+    answer: &mut Vec<u8>,
+) -> Result<(), AllocError> {
     let line = str::from_utf8(line).unwrap_or("");
-    let piece = bytes_fed(alloc, line)?;
-    let mut answer = String::new(alloc);
-    if let Some(call) = call_of(line, &piece) {
-        write_answer(alloc, &mut answer, &endpoint.call(alloc, &call)?)?;
+    read_hex(piece, fed(line).unwrap_or("").as_bytes())?;
+    match call_of(line, piece) {
+        Some(call) => write_answer(alloc, answer, &endpoint.call(alloc, &call)?),
+        None => Ok(()),
     }
-    Ok(answer)
-}
-
-/// The bytes that a line feeds.
-fn bytes_fed(alloc: Global, line: &str) -> Result<Vec<u8>, AllocError> {
-    let hex = fed(line).unwrap_or("");
-    let mut bytes = Vec::from_elem(alloc, 0, hex.len() / 2)?;
-    let _ = hex::decode_to_slice(hex, &mut bytes);
-    Ok(bytes)
 }
 
 /// Writes all of the bytes.
