@@ -142,15 +142,22 @@ fn dump_from<R: Print + AllocGlobal, I: Read + Drop>(rt: &R, input: I) -> Result
     }
 }
 
-/// Runs a script, with its answers on standard output.
+/// Runs a script, with its answers on standard output. They go out many at a time, and all of them at the end, whatever it is.
 fn replay_file<R: Print + Files + AllocGlobal>(rt: &R, path: &str) -> Result<ExitCode, Fault> {
     let file = match fs::open(rt, path) {
         Ok(file) => file,
         Err(_) => return Err(Fault::Open),
     };
+    let Ok(output) = io::BufWriter::with_capacity(rt.alloc(), BUFFER, io::writer(rt)) else {
+        return Err(Fault::NoMemory);
+    };
     let mut reader = Device::new(file);
-    let mut writer = Device::new(io::writer(rt));
-    match replay_script(rt.alloc(), &mut reader, &mut writer) {
+    let mut writer = Device::new(output);
+    let ran = replay_script(rt.alloc(), &mut reader, &mut writer);
+    let flushed = writer.flush();
+    let _ = writer.into_inner().into_parts(); // what standard output refused is not tried again
+    match ran {
+        _ if flushed.is_err() => Err(Fault::Script(ScriptFault::Write)),
         Ok(()) => Ok(ExitCode::SUCCESS),
         Err(fault) => Err(Fault::Script(fault)),
     }
