@@ -1,5 +1,5 @@
 -- How long the frames of a sender are.
-use Rattle.std.proofs.Common.{◌≡◌, ℕ, ◌+◌, ◌-◌, ◌<◌, ◌≤◌, Bool, true, false, not, cond, List, [], ◌∷◌, ◌++◌, length, take, drop, Option, Some, None, refl, sym, ap, subst, ◌∙◌, arith}
+use Rattle.std.proofs.Common.{◌≡◌, ℕ, ◌+◌, ◌-◌, ◌<◌, ◌≤◌, Bool, true, false, not, cond, min, List, [], ◌∷◌, ◌++◌, length, take, drop, Option, Some, None, refl, sym, ap, subst, ◌∙◌, arith}
 use Rattle.std.specs.List.{concat}
 use Rattle.std.proofs.Math.Seq.{take-length}
 use Rattle.std.proofs.lemmas.Bool.{leb-true, leb-false}
@@ -19,6 +19,11 @@ use Rattle.amqp_send.specs.Lengths.{Lengths, NullIsLeast}
 pub close_long : length (frame close_said) ≡ 12
 unfolding list_frame described_text
 close_long = refl
+
+-- a transfer that goes on and that more follow takes 20 without its payload
+pub later_long : length (frame (later_said true)) ≡ 20
+unfolding list_frame described_text
+later_long = refl
 
 module _ (laws : Lengths) where
   -- a text of 255 bytes at most, and little behind it
@@ -109,6 +114,14 @@ module _ (laws : Lengths) (null : NullIsLeast) where
 
   pub frame_full : (f : FlowState) (m : Message) → 512 ≤ f.max_frame_size → is_last f m ≡ false → length (next_frame f m) ≡ most f
   frame_full f m le e = (frame_by f m le false e).1 refl
+
+  -- so it is full or holds all that is left
+  least_by : (f : FlowState) (m : Message) → 512 ≤ f.max_frame_size → (last : Bool) → is_last f m ≡ last → min (most f) (length m.rest) ≤ length (next_frame f m)
+  least_by f m le true e = rw (e, take-length m.rest) (omega (arith, laws.payload 0 (transfer_said f.delivery_id m.begun false) m.rest))
+  least_by f m le false e = omega (arith, frame_full f m le e)
+
+  pub frame_least : (f : FlowState) (m : Message) → 512 ≤ f.max_frame_size → min (most f) (length m.rest) ≤ length (next_frame f m)
+  frame_least f m le = least_by f m le (is_last f m) refl
 
   -- and takes some of the message, but not all
   pub share_some : (f : FlowState) (m : Message) → 512 ≤ f.max_frame_size → is_last f m ≡ false → 0 < share f m

@@ -1,6 +1,7 @@
 pub mod Fields
 pub mod Opens
 pub mod Lengths
+pub mod Heads
 pub mod Writing
 pub mod Histories
 pub mod Runs

@@ -1,9 +1,9 @@
 //! The message that is being sent, frame by frame [2.6.14].
-ghost use Rattle.std.specs.Prelude.{◌≡◌, ◌≤◌, ◌+◌, ◌++◌, length, drop, take, Some, None, true, false};
+ghost use Rattle.std.specs.Prelude.{◌≡◌, ◌≤◌, ◌+◌, ◌++◌, length, min, drop, take, Some, None, IsFalse, true, false};
 ghost use Rattle.amqp_perform.specs.Said.{said_frame};
 ghost use Rattle.amqp_send.specs.Flows as flows;
 ghost use Rattle.amqp_send.specs.Sendings as spec;
-ghost use Rattle.amqp_send.specs.Sendings.{Message, is_last, next_frame, left_of, heads_of, may_go, transfer_said};
+ghost use Rattle.amqp_send.specs.Sendings.{Message, frame, is_last, next_frame, left_of, heads_of, may_go, transfer_said};
 
 use crate::flow_state::FlowState;
 use crate::frames::transfer;
@@ -11,6 +11,12 @@ use crate::laws::lengths_of_frames;
 use crate::output::Output;
 use std::alloc::{Allocator, Global};
 use std::marker::Model;
+
+/// No transfer is longer than that without its payload.
+const HEAD_MOST: usize = 64;
+
+/// How long a transfer is without its payload, where it goes on with a message and more follow.
+const LATER_HEAD_LEN: usize = 20;
 
 /// A message, and how much of it stands in frames.
 #[derive(Drop)]
@@ -77,6 +83,43 @@ impl<A: Allocator + Copy> Outgoing<A> {
     }
 }
 
+/// Whether what is left of the message fits one frame.
+fn is_last<A: Allocator + Copy>(
+    message: &Outgoing<A>,
+    flow: FlowState,
+    output: &mut Output<A>,
+) -> bool
+    ensures value { result ≡ is_last flow message.now }
+    ensures same { output.new ≡ output.old }
+{
+    lengths_of_frames();
+    let most = flow.most();
+    if message.rest().len() + HEAD_MOST <= most {
+        return true;
+    }
+    let tag = flow.delivery_id.to_be_bytes();
+    let last = transfer(flow.delivery_id, &tag, message.is_begun(), false);
+    output.measure(&last, message.rest(), most).is_some()
+}
+
+/// How long the next frame is without its payload, where more follow; no more than the longest frame.
+fn head_len_of<A: Allocator + Copy>(
+    message: &Outgoing<A>,
+    flow: FlowState,
+    output: &mut Output<A>,
+) -> usize
+    ensures len { result ≡ min (length (frame (transfer_said flow.delivery_id message.now.begun true))) (flows.most flow) }
+    ensures same { output.new ≡ output.old }
+{
+    let most = flow.most();
+    if message.is_begun() {
+        return LATER_HEAD_LEN.min(most);
+    }
+    let tag = flow.delivery_id.to_be_bytes();
+    let head = transfer(flow.delivery_id, &tag, false, true);
+    output.measure(&head, &[], most).unwrap_or(most)
+}
+
 /// How much of the message goes into its next frame: all that is left where that fits one, and else as much as
 /// fills one that more follow.
 fn share<A: Allocator + Copy>(
@@ -88,22 +131,29 @@ fn share<A: Allocator + Copy>(
     ensures last { result.last ≡ is_last flow message.now }
     ensures same { output.new ≡ output.old }
 {
-    let most = flow.most();
-    let tag = flow.delivery_id.to_be_bytes();
-    let begun = message.is_begun();
-    let last = transfer(flow.delivery_id, &tag, begun, false);
-    if output.measure(&last, message.rest(), most).is_some() {
+    if is_last(message, flow, output) {
         return Part {
             len: message.rest().len(),
             last: true,
         };
     }
-    let head = transfer(flow.delivery_id, &tag, begun, true);
-    let head_len = output.measure(&head, &[], most).unwrap_or(most);
+    let most = flow.most();
+    let head_len = head_len_of(message, flow, output);
     Part {
         len: most - head_len,
         last: false,
     }
+}
+
+/// Whether there may be room for the next frame: a frame that more follow is as long as a frame may be, and the last
+/// one is no shorter than what is left.
+fn may_fit<A: Allocator + Copy>(message: &Outgoing<A>, flow: FlowState, output: &Output<A>) -> bool
+    requires { 512 ≤ flow.max_frame_size }
+    ensures { IsFalse result → spec.fits output.now (next_frame flow message.now) ≡ false }
+{
+    lengths_of_frames();
+    let least = flow.most().min(message.rest().len());
+    least <= output.room()
 }
 
 /// Puts the frame with this share of the message into the output, where there is room for it.
@@ -142,6 +192,9 @@ pub fn write_frame_of<A: Allocator + Copy>(
     lengths_of_frames();
     let begun = message.is_begun();
     if !begun && flow.credit() == 0 || flow.window() == 0 {
+        return (false, Some(message));
+    }
+    if !may_fit(&message, *flow, output) {
         return (false, Some(message));
     }
     let part = share(&message, *flow, output);

@@ -1,11 +1,12 @@
 //! What waits to be sent.
-ghost use Rattle.std.specs.Prelude.{◌≡◌, ◌≤◌, ◌+◌, ◌++◌, [], min, length, take, drop, IfOk};
+ghost use Rattle.std.specs.Prelude.{◌≡◌, ◌≤◌, ◌+◌, ◌++◌, [], min, length, take, drop, IfOk, IfSome};
 ghost use Rattle.std.specs.Option.{SomeIff};
 ghost use Rattle.amqp_perform.specs.Said.{said, said_frame};
 ghost use Rattle.amqp_send.specs.Sendings as spec;
 ghost use Rattle.amqp_send.specs.Sendings.{pipe_size, frame, fits};
 
 use crate::flow_state::MAX_FRAME_SIZE;
+use crate::laws::lengths_of_frames;
 use amqp_perform::{Performative, write_frame};
 use circular_buffer::HeapCircularBuffer;
 use std::alloc::{AllocError, Allocator, Global};
@@ -14,8 +15,8 @@ use std::marker::Model;
 /// How many bytes may wait.
 const PIPE_SIZE: usize = 8192;
 
-/// The bytes that wait to be sent, at most 8192, and one frame's room in which a frame is put together. Only
-/// `new` takes memory.
+/// The bytes that wait to be sent, at most 8192, and one frame's room in which a frame is put together up to its
+/// payload. Only `new` takes memory.
 #[derive(Drop)]
 pub struct Output<A: Allocator + Copy = Global> {
     pipe: HeapCircularBuffer<u8, A>,
@@ -69,7 +70,9 @@ impl<A: Allocator + Copy> Output<A> {
         ensures len { SomeIff result (length (said_frame 0 (said performative.now) payload.now) ≤ most) (length (said_frame 0 (said performative.now) payload.now)) }
         ensures same { self.new ≡ self.old }
     {
-        write_frame(0, performative, payload, &mut self.scratch[..most])
+        lengths_of_frames();
+        let head_len = write_head(performative, payload, most, self.scratch.as_mut_slice())?;
+        Some(head_len + payload.len())
     }
 
     /// Puts a frame behind the bytes that wait, where there is room for it whole, and answers whether there
@@ -79,12 +82,14 @@ impl<A: Allocator + Copy> Output<A> {
         ensures fits { result ≡ fits self.old (said_frame 0 (said performative.now) payload.now) }
         ensures new { self.new ≡ spec.put self.old (said_frame 0 (said performative.now) payload.now) }
     {
-        match write_frame(0, performative, payload, self.scratch.as_mut_slice()) {
-            Some(len) if len <= PIPE_SIZE - self.pipe.len() => {
-                self.pipe.fill_from_slice(&self.scratch[..len]);
+        let most = (PIPE_SIZE - self.pipe.len()).min(MAX_FRAME_SIZE as usize);
+        match write_head(performative, payload, most, self.scratch.as_mut_slice()) {
+            Some(head_len) => {
+                self.pipe.fill_from_slice(&self.scratch[..head_len]);
+                self.pipe.fill_from_slice(payload);
                 true
             }
-            _ => false,
+            None => false,
         }
     }
 
@@ -104,5 +109,32 @@ impl<A: Allocator + Copy> Output<A> {
         ensures left { self.new ≡ drop result self.old }
     {
         self.pipe.read_into(out)
+    }
+}
+
+/// Writes a frame up to its payload at the front of `out`, and answers how many bytes that are; `None` where the
+/// frame with its payload is longer than `most`. No byte of the payload is read.
+fn write_head(
+    performative: &Performative<'_>,
+    payload: &[u8],
+    most: usize,
+    out: &mut [u8],
+) -> Option<usize>
+    requires most { most ≤ 4096 }
+    requires room { 4096 ≤ length out.old }
+    ensures len { SomeIff result (length (said_frame 0 (said performative.now) payload.now) ≤ most) (length (frame (said performative.now))) }
+    ensures written { IfSome result (λ n. take n out.new ++ payload.now ≡ said_frame 0 (said performative.now) payload.now) }
+{
+    lengths_of_frames();
+    if payload.len() > most {
+        return None;
+    }
+    match write_frame(0, performative, &[], out) {
+        Some(head_len) if head_len + payload.len() <= most => {
+            let size = (head_len + payload.len()) as u32;
+            out[..4].copy_from_slice(&size.to_be_bytes());
+            Some(head_len)
+        }
+        _ => None,
     }
 }
