@@ -29,3 +29,5 @@ pub mod Agreeing
 pub mod Depths
 pub mod Peeks
 pub mod Puts
+pub mod Shorts
+pub mod Marks

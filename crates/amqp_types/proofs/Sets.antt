@@ -34,19 +34,25 @@ module _ {K : Type 0} (octets_of : K → List ℕ) where
       ap (λ (b : Bool). b || list_any (λ k. is_eq (slice_cmp nat_cmp octets (octets_of k))) ks) (is_eq-slice_cmp octets (octets_of k) ∙ bytes_eq-swap octets (octets_of k))
       ∙ ap (λ (b : Bool). bytes_eq (octets_of k) octets || b) (found octets ks)
 
-  placed : (octets : List ℕ) (k x : K) (xs : List K) (o : Ordering) → o ≡ slice_cmp nat_cmp (octets_of k) (octets_of x)
-      → is_among octets (map octets_of (insert_key (λ a b. slice_cmp nat_cmp (octets_of a) (octets_of b)) xs k)) ≡ (bytes_eq (octets_of k) octets || is_among octets (map octets_of xs))
-      → is_among octets (map octets_of (match_ordering o (k ∷ x ∷ xs) (x ∷ xs) (x ∷ insert_key (λ a b. slice_cmp nat_cmp (octets_of a) (octets_of b)) xs k)))
+module _ {K : Type 0} (octets_of : K → List ℕ) (cmp : K → K → Ordering) (exact : (a b : K) → cmp a b ≡ Equal → octets_of a ≡ octets_of b) where
+  placed : (octets : List ℕ) (k x : K) (xs : List K) (o : Ordering) → o ≡ cmp k x
+      → is_among octets (map octets_of (insert_key cmp xs k)) ≡ (bytes_eq (octets_of k) octets || is_among octets (map octets_of xs))
+      → is_among octets (map octets_of (match_ordering o (k ∷ x ∷ xs) (x ∷ xs) (x ∷ insert_key cmp xs k)))
       ≡ (bytes_eq (octets_of k) octets || (bytes_eq (octets_of x) octets || is_among octets (map octets_of xs)))
   placed octets k x xs Less e rest = refl
   placed octets k x xs Equal e rest =
       once (bytes_eq (octets_of k) octets) (bytes_eq (octets_of x) octets) (is_among octets (map octets_of xs))
-      (ap (λ (ys : List ℕ). bytes_eq ys octets) (sym (exact_bytes (octets_of k) (octets_of x) (sym e))))
+      (ap (λ (ys : List ℕ). bytes_eq ys octets) (sym (exact k x (sym e))))
   placed octets k x xs Greater e rest =
       ap (λ (b : Bool). bytes_eq (octets_of x) octets || b) rest
       ∙ swap (bytes_eq (octets_of k) octets) (bytes_eq (octets_of x) octets) (is_among octets (map octets_of xs))
 
-  pub inserted : (octets : List ℕ) (k : K) (ks : List K)
-      → is_among octets (map octets_of (insert_key (λ a b. slice_cmp nat_cmp (octets_of a) (octets_of b)) ks k)) ≡ (bytes_eq (octets_of k) octets || is_among octets (map octets_of ks))
-  inserted octets k [] = refl
-  inserted octets k (x ∷ xs) = placed octets k x xs (slice_cmp nat_cmp (octets_of k) (octets_of x)) refl (inserted octets k xs)
+  -- where equal ones have the same bytes
+  pub inserted_by : (octets : List ℕ) (k : K) (ks : List K) → is_among octets (map octets_of (insert_key cmp ks k)) ≡ (bytes_eq (octets_of k) octets || is_among octets (map octets_of ks))
+  inserted_by octets k [] = refl
+  inserted_by octets k (x ∷ xs) = placed octets k x xs (cmp k x) refl (inserted_by octets k xs)
+
+-- so it is where they are ordered by their bytes
+pub inserted : {K : Type 0} (octets_of : K → List ℕ) (octets : List ℕ) (k : K) (ks : List K)
+    → is_among octets (map octets_of (insert_key (λ a b. slice_cmp nat_cmp (octets_of a) (octets_of b)) ks k)) ≡ (bytes_eq (octets_of k) octets || is_among octets (map octets_of ks))
+inserted octets_of = inserted_by octets_of (λ a b. slice_cmp nat_cmp (octets_of a) (octets_of b)) (λ a b e. exact_bytes (octets_of a) (octets_of b) e)

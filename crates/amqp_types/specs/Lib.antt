@@ -15,3 +15,4 @@ pub mod Shapes
 pub mod Parts
 pub mod Lawful
 pub mod Peeks
+pub mod ShortKeys

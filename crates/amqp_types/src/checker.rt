@@ -16,15 +16,17 @@ use std::alloc::Global;
 ///
 /// Bytes may follow it. It is what [`decode`] answers without the value: a fault is the first from the left, equal
 /// keys and too many nodes among them, and `NoMemory` is answered only where memory was refused. No memory is
-/// taken for a value that holds no map and no array. Any other, and one in which something is wrong, is read as
-/// `decode` reads it and dropped.
+/// taken for a value that holds no map and no array. Of a map whose keys are strings or symbols of at most 255 bytes, all
+/// of one kind, memory is taken to find equal keys where they are more than 32, and none where they are fewer. Any other
+/// value, one in which something is wrong, and one for which that memory is refused, is read as `decode` reads it and
+/// dropped.
 pub fn check(alloc: Global, bytes: &[u8], limits: Limits) -> Result<usize, ReadFault>
     ensures within { IfOk result (λ n. n ≤ length bytes.now) }
     ensures exact { Gives (λ n. drop n bytes.now) result (rest_of (decoded limits.depth limits.nodes bytes.now)) }
     // A fault stands within the bytes.
     ensures placed { IfErr result (λ e. place_of e ≤ length bytes.now) }
 {
-    match checked_len(bytes, limits) {
+    match checked_len(alloc, bytes, limits) {
         Some(len) => Ok(len),
         None => decoded_len(alloc, bytes, limits),
     }

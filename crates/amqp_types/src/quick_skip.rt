@@ -90,7 +90,7 @@ fn number_in(size: SizeWidth, bytes: &[u8]) -> Option<usize>
 }
 
 /// Whether the bytes may be those of the kind.
-fn are_octets(kind: Kind, octets: &[u8]) -> bool
+pub fn are_octets(kind: Kind, octets: &[u8]) -> bool
     ensures { IsTrue result → (at : ℕ) → octets_fault kind at octets.now ≡ None }
 {
     match kind {
