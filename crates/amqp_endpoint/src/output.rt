@@ -7,12 +7,12 @@ ghost use Rattle.amqp_endpoint.specs.Lengths.{said_most};
 ghost use Rattle.amqp_endpoint.specs.Calls.{output_size, reply_room, has_room, heartbeat};
 
 use crate::laws::frames_are_as_long;
+use amqp_frame::Pipe;
 use amqp_link::LinkBounds;
 use amqp_perform::{
     Attach, Detach, Disposition, Flow, Performative, write_disposition, write_flow, write_frame,
 };
 use amqp_session::write_attach_reply;
-use circular_buffer::HeapCircularBuffer;
 use std::alloc::{AllocError, Allocator, Global};
 use std::marker::Model;
 
@@ -25,11 +25,11 @@ const REPLY_ROOM: usize = 2560;
 /// An empty frame on channel 0 [2.4.5].
 const HEARTBEAT: [u8; 8] = [0, 0, 0, 8, 2, 0, 0, 0];
 
-/// The bytes that wait to be moved out, at most 8192, and room in which a frame is put together. Only `new` takes
-/// memory.
+/// The bytes that wait to be moved out, at most 8192, and room in which a frame is put together where that behind them in the
+/// pipe's block is too short. Only `new` takes memory.
 #[derive(Drop)]
 pub struct Output<A: Allocator + Copy = Global> {
-    pipe: HeapCircularBuffer<u8, A>,
+    pipe: Pipe<A>,
     scratch: [u8; REPLY_ROOM],
 }
 
@@ -38,9 +38,9 @@ impl<A: Allocator + Copy> Model for Output<A> {
 
     ghost Value = { List ℕ };
 
-    ghost view = { λ a. a.pipe.items };
+    ghost view = { λ a. a.pipe.waits };
 
-    ghost invariant = { λ a. (a.pipe.capacity ≡ 8192) × (length a.pipe.items ≤ 8192) };
+    ghost invariant = { λ a. (a.pipe.size ≡ 8192) × (length a.pipe.waits ≤ 8192) };
 }
 
 impl<A: Allocator + Copy> Output<A> {
@@ -49,7 +49,7 @@ impl<A: Allocator + Copy> Output<A> {
         ensures { IfOk result (λ a. a ≡ []) }
     {
         Ok(Output {
-            pipe: HeapCircularBuffer::with_capacity(alloc, OUTPUT_SIZE)?,
+            pipe: Pipe::new(alloc, OUTPUT_SIZE)?,
             scratch: [0; REPLY_ROOM],
         })
     }
@@ -76,7 +76,7 @@ impl<A: Allocator + Copy> Output<A> {
         requires { length self.old + length bytes.now ≤ output_size }
         ensures { self.new ≡ self.old ++ bytes.now }
     {
-        self.pipe.fill_from_slice(bytes);
+        self.pipe.put(bytes);
     }
 
     /// Puts a frame without payload behind them.
@@ -96,8 +96,10 @@ impl<A: Allocator + Copy> Output<A> {
         requires room { length self.old + length (said_frame channel (said performative.now) []) ≤ output_size }
         ensures { self.new ≡ self.old ++ said_frame channel (said performative.now) [] }
     {
-        if let Some(len) = write_frame(channel, performative, &[], &mut self.scratch) {
-            self.pipe.fill_from_slice(&self.scratch[..len]);
+        if let Some(len) = write_frame(channel, performative, &[], self.pipe.behind()) {
+            self.pipe.came(len);
+        } else if let Some(len) = write_frame(channel, performative, &[], &mut self.scratch) {
+            self.pipe.put(&self.scratch[..len]);
         }
     }
 
@@ -107,8 +109,10 @@ impl<A: Allocator + Copy> Output<A> {
         requires room { length self.old + length (said_frame channel (said (performative.Flow flow.now)) []) ≤ output_size }
         ensures { self.new ≡ self.old ++ said_frame channel (said (performative.Flow flow.now)) [] }
     {
-        if let Some(len) = write_flow(channel, flow, &[], &mut self.scratch) {
-            self.pipe.fill_from_slice(&self.scratch[..len]);
+        if let Some(len) = write_flow(channel, flow, &[], self.pipe.behind()) {
+            self.pipe.came(len);
+        } else if let Some(len) = write_flow(channel, flow, &[], &mut self.scratch) {
+            self.pipe.put(&self.scratch[..len]);
         }
     }
 
@@ -118,8 +122,10 @@ impl<A: Allocator + Copy> Output<A> {
         requires room { length self.old + length (said_frame channel (said (performative.Disposition disposition.now)) []) ≤ output_size }
         ensures { self.new ≡ self.old ++ said_frame channel (said (performative.Disposition disposition.now)) [] }
     {
-        if let Some(len) = write_disposition(channel, disposition, &[], &mut self.scratch) {
-            self.pipe.fill_from_slice(&self.scratch[..len]);
+        if let Some(len) = write_disposition(channel, disposition, &[], self.pipe.behind()) {
+            self.pipe.came(len);
+        } else if let Some(len) = write_disposition(channel, disposition, &[], &mut self.scratch) {
+            self.pipe.put(&self.scratch[..len]);
         }
     }
 
@@ -139,7 +145,7 @@ impl<A: Allocator + Copy> Output<A> {
         ensures { self.new ≡ self.old ++ said_frame channel (attach_said bounds.max_message_size (attaching attach.now bounds)) [] }
     {
         if let Some(len) = write_attach_reply(channel, attach, bounds, &mut self.scratch) {
-            self.pipe.fill_from_slice(&self.scratch[..len]);
+            self.pipe.put(&self.scratch[..len]);
         }
     }
 
@@ -148,7 +154,7 @@ impl<A: Allocator + Copy> Output<A> {
         requires { length self.old + 8 ≤ output_size }
         ensures { self.new ≡ self.old ++ heartbeat }
     {
-        self.pipe.fill_from_slice(HEARTBEAT.as_slice());
+        self.pipe.put(HEARTBEAT.as_slice());
     }
 
     /// The first bytes that wait, as many as lie in one piece: some, where some wait.
@@ -156,8 +162,7 @@ impl<A: Allocator + Copy> Output<A> {
         ensures front { (behind : List ℕ) × (self.now ≡ result.now ++ behind) }
         ensures some { 0 < length self.now → 0 < length result.now }
     {
-        let (front, behind) = self.pipe.as_slices();
-        if front.is_empty() { behind } else { front }
+        self.pipe.front()
     }
 
     /// Drops the first `n` of them.
@@ -165,8 +170,7 @@ impl<A: Allocator + Copy> Output<A> {
         requires { n ≤ length self.old }
         ensures { self.new ≡ drop n self.old }
     {
-        let left = self.pipe.len() - n;
-        self.pipe.truncate_front(left);
+        self.pipe.drop_front(n);
     }
 
     /// Moves the first bytes that wait into `out`, as many as it holds, and answers how many.

@@ -7,8 +7,8 @@ ghost use Rattle.amqp_send.specs.Sendings.{pipe_size, frame, fits};
 
 use crate::flow_state::MAX_FRAME_SIZE;
 use crate::laws::lengths_of_frames;
+use amqp_frame::Pipe;
 use amqp_perform::{Performative, write_frame};
-use circular_buffer::HeapCircularBuffer;
 use std::alloc::{AllocError, Allocator, Global};
 use std::marker::Model;
 
@@ -19,7 +19,7 @@ const PIPE_SIZE: usize = 8192;
 /// payload. Only `new` takes memory.
 #[derive(Drop)]
 pub struct Output<A: Allocator + Copy = Global> {
-    pipe: HeapCircularBuffer<u8, A>,
+    pipe: Pipe<A>,
     scratch: Vec<u8, A>,
 }
 
@@ -28,9 +28,9 @@ impl<A: Allocator + Copy> Model for Output<A> {
 
     ghost Value = { List ℕ };
 
-    ghost view = { λ a. a.pipe.items };
+    ghost view = { λ a. a.pipe.waits };
 
-    ghost invariant = { λ a. (a.pipe.capacity ≡ 8192) × (length a.pipe.items ≤ 8192) × (length a.scratch.items ≡ 4096) };
+    ghost invariant = { λ a. (a.pipe.size ≡ 8192) × (length a.pipe.waits ≤ 8192) × (length a.scratch.items ≡ 4096) };
 }
 
 impl<A: Allocator + Copy> Output<A> {
@@ -39,7 +39,7 @@ impl<A: Allocator + Copy> Output<A> {
         ensures { IfOk result (λ a. a ≡ []) }
     {
         Ok(Output {
-            pipe: HeapCircularBuffer::with_capacity(alloc, PIPE_SIZE)?,
+            pipe: Pipe::new(alloc, PIPE_SIZE)?,
             scratch: Vec::from_elem(alloc, 0, MAX_FRAME_SIZE as usize)?,
         })
     }
@@ -56,7 +56,7 @@ impl<A: Allocator + Copy> Output<A> {
         requires { length self.old + length bytes.now ≤ pipe_size }
         ensures { self.new ≡ self.old ++ bytes.now }
     {
-        self.pipe.fill_from_slice(bytes);
+        self.pipe.put(bytes);
     }
 
     /// How long a frame would be, where that is at most `most`.
@@ -85,8 +85,8 @@ impl<A: Allocator + Copy> Output<A> {
         let most = (PIPE_SIZE - self.pipe.len()).min(MAX_FRAME_SIZE as usize);
         match write_head(performative, payload, most, self.scratch.as_mut_slice()) {
             Some(head_len) => {
-                self.pipe.fill_from_slice(&self.scratch[..head_len]);
-                self.pipe.fill_from_slice(payload);
+                self.pipe.put(&self.scratch[..head_len]);
+                self.pipe.put(payload);
                 true
             }
             None => false,

@@ -1,10 +1,24 @@
-use Rattle.std.proofs.Common.{arith, List, map, subst}
+use Rattle.std.proofs.Common.{arith, ap, length, List, map, refl, subst}
 use Rattle.std.proofs.lemmas.List.{take_all}
 use Rattle.amqp_endpoint.specs.declared.call.Call as asked
 use Rattle.amqp_endpoint.specs.Endpoints.{call_of, answer_of, IsReplay}
 use Rattle.amqp_endpoint.specs.Traces.{AreInRange}
 use Rattle.amqp_endpoint.proofs.Runs.{replay_on, ranges_on}
 use Rattle.amqp_endpoint.proofs.replays.replay.Goals as goal
+
+pub loop-call-init : goal.loop-call-init
+loop-call-init g c =
+    let s = c.in_ok-endpoint.endpoint in
+    record {
+      replay = record {
+        start = s;
+        new = c.in_ok-endpoint.ensures;
+        run = rw c.in_ok-answers.ensures.items refl;
+      };
+      range = tt;
+      long = ap length c.in_ok-answers.ensures.items;
+      room = omega (arith, c.in_ok-answers.ensures.capacity);
+    }
 
 pub loop-call-preserved : goal.loop-call-preserved
 loop-call-preserved g c = record {
