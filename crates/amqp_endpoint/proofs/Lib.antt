@@ -30,3 +30,4 @@ pub mod Untold
 pub mod Follows
 pub mod Fills
 pub mod Lent
+pub mod Lents

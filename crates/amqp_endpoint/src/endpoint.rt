@@ -1,15 +1,15 @@
 //! The receiving endpoint of one connection.
 ghost use Rattle.std.specs.Prelude.{◌≡◌, ◌↔◌, [], IsTrue, ℕ, List, slice_index, ◌+◌, ◌≤◌, ◌++◌, ◌^◌, ◌<◌, min, length, take, drop, true, false, Some, None, option_map, IfOk, OnOk, IfErr};
-ghost use Rattle.amqp_frame.specs.Splits.{IsOver, TakesNothing};
+ghost use Rattle.amqp_frame.specs.Splits.{IsOver, IsLent, TakesNothing};
 ghost use Rattle.amqp_frame.specs.declared.units.Stage.{Stage};
 ghost use Rattle.amqp_session.specs.Calls.{Widen, Grant, Drain, Take, Settle, SettleRange, Detach};
 ghost use Rattle.amqp_session.specs.Places.{live_in};
-ghost use Rattle.amqp_endpoint.specs.Calls.{output_size, open_call_fault};
+ghost use Rattle.amqp_endpoint.specs.Calls.{output_size, reply_room, open_call_fault};
 ghost use Rattle.amqp_endpoint.specs.Connections.{slot_at, is_dead};
 ghost use Rattle.amqp_endpoint.specs.Endpoints.{HasActed, IsLinkAt, accepted_by, dropped_by, named_by, handed_by};
 ghost use Rattle.amqp_endpoint.specs.Held.{held};
 ghost use Rattle.amqp_endpoint.specs.Runs.{IsStart, IsMoved, IsFinished, CallDone, CloseDone, BeatDone, end_of};
-ghost use Rattle.amqp_endpoint.specs.Steps.{AsksFor, MayRead, Comes, IsFed, told_outcome};
+ghost use Rattle.amqp_endpoint.specs.Steps.{AsksFor, MayRead, Comes, IsFed, TakesAndActs, told_outcome};
 ghost use Rattle.amqp_endpoint.specs.RoomLending.{LendsRoom};
 ghost use Rattle.std.specs.Borrow.{sem};
 
@@ -21,7 +21,7 @@ use crate::output::Output;
 use crate::phase::Phase;
 use crate::units::{act_on_fault, act_on_frame, act_on_header};
 use crate::{asking, closing};
-use amqp_frame::Splitter;
+use amqp_frame::{Frame, Splitter};
 use amqp_link::Taken;
 use amqp_perform::Outcome as Settlement;
 use amqp_session::LinkView;
@@ -98,9 +98,39 @@ impl<A: Allocator + Copy> Endpoint<A> {
                 outcome: Outcome::Dead,
             };
         }
+        if self.out.has_room() {
+            if let Some((frame, size)) = self.input.lent_front(piece) {
+                return self.act_on_lent(frame, size, piece);
+            }
+        }
         let used = self.input.push(piece);
         let outcome = self.act();
         Fed { used, outcome }
+    }
+
+    /// Acts upon a frame of so many bytes that lies whole at the front of a piece, for whose answer there is room. It is not
+    /// copied, unless memory is refused for it, so that it has to wait.
+    #[inline(always)]
+    fn act_on_lent(&mut self, frame: Frame<'_>, size: usize, piece: &[u8]) -> Fed
+        requires lent { IsLent self.old.input piece.now frame size }
+        requires room { length self.old.unsent + reply_room ≤ output_size }
+        ensures { TakesAndActs self.old self.new piece.now result.used result.outcome }
+    {
+        match act_on_frame(
+            &mut self.connection,
+            &mut self.out,
+            frame.channel,
+            frame.body,
+        ) {
+            Ok(told) => Fed {
+                used: size,
+                outcome: told_outcome(&self.connection, told),
+            },
+            Err(AllocError) => Fed {
+                used: self.input.push(piece),
+                outcome: Outcome::NoMemory,
+            },
+        }
     }
 
     /// Lends the room that the next bytes of the peer are read into, so that a reader fills it: what is left of the

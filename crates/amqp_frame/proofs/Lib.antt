@@ -4,3 +4,4 @@ pub mod Readings
 pub mod Results
 pub mod Overs
 pub mod Pipes
+pub mod Lents

@@ -142,6 +142,19 @@ pub record IsTaken (old new : SplitterState) (piece : List ℕ) (used : ℕ) : T
   pub full : TakesNothing old → used ≡ 0
   pub early : (k : ℕ) → k + 1 ≤ used → IsRest old.limit old.stage (old.filled ++ take k piece)
 
+-- A whole frame of so many bytes lies at the front of a piece. A splitter that takes them and lets the frame go is what it was: so the frame may be acted upon where it lies.
+pub record IsLent (s : SplitterState) (piece : List ℕ) (frame : Frame) (size : ℕ) : Type 0 where
+  pub taken : IsTaken s (record s { filled = take size piece }) piece size
+  pub waits : Waits (record s { filled = take size piece }) (FrameUnit (take size piece))
+  pub goes : IsEmptied (record s { filled = take size piece }) s (due_after (FrameUnit (take size piece)))
+  pub channel : frame.channel ≡ channel_of (take size piece)
+  pub body : frame.body.now ≡ body_of (take size piece)
+
+-- the frame that is lent, with its size; None where no frame is due, some of it is held, or it does not lie whole at the front
+abbrev pub IsLentFront : SplitterState → List ℕ → Option (Frame × ℕ) → Type 0
+IsLentFront s piece None = IsWholeIn s.limit s.stage s.filled piece None
+IsLentFront s piece (Some lent) = IsLent s piece lent.0 lent.1
+
 -- neither a frame nor a fault waits, and no fault went by
 pub record HasNoFrame (s : SplitterState) : Type 0 where
   pub frames : (bytes : List ℕ) → Waits s (FrameUnit bytes) → ⊥

@@ -4,7 +4,7 @@ ghost use Rattle.amqp_frame.specs.Units.{StreamUnit, HeaderUnit, IsRest, due_aft
 ghost use Rattle.std.specs.Borrow.{sem};
 ghost use Rattle.amqp_frame.specs.Rooms.{whole_length};
 ghost use Rattle.amqp_frame.specs.SplitLends.{LendsRoom};
-ghost use Rattle.amqp_frame.specs.Splits.{IsHeld, IsJudged, IsSound, IsFilled, IsWanted, IsWholeIn, IsOver, TakesNothing, IsOne, IsAsked, Asks, MayCome, IsTaken, Waits, IsUnchanged, IsEmptied, IsFrameAnswer, IsNext, WentBy};
+ghost use Rattle.amqp_frame.specs.Splits.{IsHeld, IsJudged, IsSound, IsFilled, IsWanted, IsWholeIn, IsLentFront, IsOver, TakesNothing, IsOne, IsAsked, Asks, MayCome, IsTaken, Waits, IsUnchanged, IsEmptied, IsFrameAnswer, IsNext, WentBy};
 
 use crate::room::Room;
 use crate::units::{Frame, FrameFault, HEADER, Progress, Stage, progress_of, whole_size};
@@ -154,6 +154,16 @@ impl<A: Allocator + Copy> Splitter<A> {
                 Progress::Fails(fault) => Some(Err(fault)),
             },
         }
+    }
+
+    /// The frame that lies whole at the front of `piece`, lent from there, and how many bytes it has; `None` where no frame
+    /// is due, or some of it is held. [`Splitter::push`] of these bytes and [`Splitter::drop_frame`] would leave the splitter as
+    /// it is, so that the frame may be acted upon where it lies, and is not copied.
+    pub fn lent_front<'a>(&self, piece: &'a [u8]) -> Option<(Frame<'a>, usize)>
+        ensures { IsLentFront self.now piece.now result }
+    {
+        let size = whole_in(self.limit, self.stage, self.bytes.as_slice(), piece)?;
+        Some((frame_in(&piece[..size]), size))
     }
 
     /// Lets the unit that waits go. Behind [`HEADER`] or a frame a frame is due. Behind another
