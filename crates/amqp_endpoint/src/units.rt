@@ -15,7 +15,7 @@ use crate::output::Output;
 use crate::phase::Phase;
 use crate::{bodies, closing};
 use amqp_frame::HEADER;
-use amqp_perform::{BodyFault, Condition, Performative, read_body, read_transfer_body};
+use amqp_perform::{BodyFault, Condition, Performative, Transfer, read_body, read_transfer_into};
 use std::alloc::{AllocError, Allocator};
 
 /// Acts upon the protocol header: it is answered by the own one, and another than the own one ends the connection
@@ -84,8 +84,9 @@ fn act_on_body<A: Allocator + Copy>(
     ensures { HasDone connection.old connection.new out.old out.new (body_line connection.old channel body.now (body_at body.now)) result }
 {
     fields_say_the_performative();
-    if let Some((transfer, len)) = &read_transfer_body(body) {
-        return bodies::act_on_transfer(connection, out, channel, transfer, &body[*len..]);
+    let mut transfer = Transfer::blank();
+    if let Some(len) = read_transfer_into(body, &mut transfer) {
+        return bodies::act_on_transfer(connection, out, channel, &transfer, &body[len..]);
     }
     act_on_any_body(connection, out, channel, body)
 }

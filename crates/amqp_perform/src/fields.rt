@@ -46,6 +46,14 @@ impl<'a> Fields<'a> {
         }
     }
 
+    /// How many are left, and the bytes that spell them.
+    pub fn parts(&self) -> (usize, &'a [u8])
+        ensures count { result.0 ≡ self.now.left }
+        ensures items { result.1.now ≡ self.now.items.bytes.now }
+    {
+        (self.left, self.items.bytes)
+    }
+
     /// Whether all items were taken, and no byte is left behind them.
     pub fn ended(&self) -> bool
         ensures { result ≡ (self.now.left == 0 && (length self.now.items.bytes.now == 0)) }

@@ -29,5 +29,5 @@ pub use outcome::Outcome;
 pub use performative::{
     Attach, Begin, Close, Detach, Disposition, End, Flow, Open, Performative, Transfer,
 };
-pub use reader::{read_body, read_transfer_body};
+pub use reader::{read_body, read_transfer_body, read_transfer_into};
 pub use writer::{write_disposition, write_flow, write_frame};

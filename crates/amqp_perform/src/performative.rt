@@ -88,6 +88,25 @@ pub struct Transfer<'a> {
     pub batchable: &'a [u8],
 }
 
+impl<'a> Transfer<'a> {
+    /// One of handle 0 that states nothing more, to be read into.
+    pub fn blank() -> Transfer<'a> {
+        Transfer {
+            handle: 0,
+            delivery_id: None,
+            delivery_tag: None,
+            message_format: None,
+            settled: None,
+            more: false,
+            rcv_settle_mode: None,
+            state: &[],
+            resume: false,
+            aborted: false,
+            batchable: &[],
+        }
+    }
+}
+
 /// Tells of the state of deliveries. [2.7.6]
 #[derive(Clone, Copy, Debug, PartialEq, Eq)]
 pub struct Disposition<'a> {

@@ -9,7 +9,7 @@ ghost use Rattle.amqp_perform.specs.declared.performative.Performative.TheVarian
 ghost use Rattle.amqp_perform.specs.Bodies.{Body, BodyOf, IsFaultOf};
 ghost use Rattle.amqp_perform.specs.Cells.{Cell, Whole};
 ghost use Rattle.amqp_perform.specs.Performatives.{span, flag, optional_whole, open_cells, begin_cells, attach_cells, flow_cells, transfer_cells, disposition_cells, detach_cells, end_cells, close_cells, type_of, performative_cells};
-ghost use Rattle.amqp_perform.specs.BodyReading.{TakesFrom, value_at, fields_at, IsPerformativeAt, body_at, fault_of, IsRead, IsOfOther};
+ghost use Rattle.amqp_perform.specs.BodyReading.{TakesFrom, value_at, fields_at, IsPerformativeAt, body_at, fault_of, IsRead, IsOfOther, performative_at};
 ghost use Rattle.amqp_perform.specs.Tables.{uint_from, default, open_fields, begin_fields, attach_fields, flow_fields, transfer_fields, disposition_fields, detach_fields, end_fields, close_fields};
 
 use crate::descriptor::Descriptor;
@@ -184,31 +184,33 @@ fn read_flow<'a>(fields: &mut Fields<'a>) -> Option<Flow<'a>>
     })
 }
 
-#[inline(always)]
 fn read_transfer<'a>(fields: &mut Fields<'a>) -> Option<Transfer<'a>>
     ensures { TakesFrom transfer_cells (fields_at transfer_fields) fields.old fields.new result }
 {
-    let handle = fields.uint()??;
-    let delivery_id = fields.uint()?;
-    let delivery_tag = fields.binary()?;
-    let message_format = fields.uint()?;
-    let settled = fields.boolean()?;
-    let more = fields.flag()?;
-    let rcv_settle_mode = fields.receiver_mode()?;
+    let mut transfer: Transfer<'a> = Transfer::blank();
+    fill_transfer(fields, &mut transfer)?;
+    Some(transfer)
+}
+
+/// Reads the fields of a transfer into it. They are put where they are wanted, since a transfer that is handed back is moved
+/// there over the stack.
+#[inline(always)]
+fn fill_transfer<'a>(fields: &mut Fields<'a>, transfer: &mut Transfer<'a>) -> Option<()>
+    ensures { TakesFrom (λ _. transfer_cells transfer.new) (fields_at transfer_fields) fields.old fields.new result }
+{
+    transfer.handle = fields.uint()??;
+    transfer.delivery_id = fields.uint()?;
+    transfer.delivery_tag = fields.binary()?;
+    transfer.message_format = fields.uint()?;
+    transfer.settled = fields.boolean()?;
+    transfer.more = fields.flag()?;
+    transfer.rcv_settle_mode = fields.receiver_mode()?;
     let (state, resume, aborted, batchable) = read_transfer_state(fields)?;
-    Some(Transfer {
-        handle,
-        delivery_id,
-        delivery_tag,
-        message_format,
-        settled,
-        more,
-        rcv_settle_mode,
-        state,
-        resume,
-        aborted,
-        batchable,
-    })
+    transfer.state = state;
+    transfer.resume = resume;
+    transfer.aborted = aborted;
+    transfer.batchable = batchable;
+    Some(())
 }
 
 /// The last fields of a transfer: its state, and whether it resumes, is aborted and may be batched.
@@ -288,23 +290,46 @@ fn read_performative<'a>(
     }
 }
 
-/// The transfer that a body begins with, and what follows it.
-#[tactic(auto, unfolding(crate::specs::BodyReading::body_at, crate::specs::BodyReading::performative_at))]
-#[inline(always)]
-fn transfer_at(bytes: &[u8]) -> Option<(Transfer<'_>, &[u8])>
-    ensures { MatchOption result (IsOfOther Descriptor.Transfer (body_at bytes.now)) (λ x. body_at bytes.now ≡ Some (Descriptor.Transfer, transfer_cells x.0, x.1.now)) }
+/// Reads the transfer that all of these items spell, so many; `None` where they spell none.
+#[tactic(auto, unfolding(crate::specs::BodyReading::performative_at))]
+#[inline(never)]
+fn whole_transfer<'a>(count: usize, items: &'a [u8], transfer: &mut Transfer<'a>) -> Option<()>
+    ensures { MatchOption result (performative_at Descriptor.Transfer count items.now ≡ None) (λ _. performative_at Descriptor.Transfer count items.now ≡ Some (transfer_cells transfer.new)) }
 {
-    let mut list = described_list(bytes)?;
+    let mut fields = Fields::of(count, items);
+    fill_transfer(&mut fields, transfer)?;
+    if !fields.ended() {
+        return None;
+    }
+    Some(())
+}
+
+/// Reads the transfer that a body begins with, and answers what follows it.
+#[tactic(auto, unfolding(crate::specs::BodyReading::body_at))]
+#[inline(always)]
+fn transfer_at<'a>(bytes: &'a [u8], transfer: &mut Transfer<'a>) -> Option<&'a [u8]>
+    ensures { MatchOption result (IsOfOther Descriptor.Transfer (body_at bytes.now)) (λ rest. body_at bytes.now ≡ Some (Descriptor.Transfer, transfer_cells transfer.new, rest.now)) }
+{
+    let list = described_list(bytes)?;
     match list.descriptor {
         Descriptor::Transfer => {}
         _ => return None,
     }
-    let transfer = read_transfer(&mut list.fields)?;
-    if list.fields.ended() {
-        Some((transfer, list.rest))
-    } else {
-        None
-    }
+    let (count, items) = list.fields.parts();
+    whole_transfer(count, items, transfer)?;
+    Some(list.rest)
+}
+
+/// Reads the transfer that a frame's body begins with into `transfer`, and answers how many bytes it takes, as [`read_body`]
+/// reads it; `None` where the body begins with none, and what stands in `transfer` then says nothing. [2.7.5]
+#[inline(always)]
+pub fn read_transfer_into<'a>(bytes: &'a [u8], transfer: &mut Transfer<'a>) -> Option<usize>
+    ensures within { IfSome result (λ n. n ≤ length bytes.now) }
+    ensures exact { IfSome result (λ n. IsRead bytes.now (Ok (performative.Transfer transfer.new, n))) }
+    ensures none { IfNone result (IsOfOther Descriptor.Transfer (body_at bytes.now)) }
+{
+    let rest = transfer_at(bytes, transfer)?;
+    Some(bytes.len() - rest.len())
 }
 
 /// The transfer that a frame's body begins with, and how many bytes it takes, as [`read_body`] reads it; `None` where
@@ -314,8 +339,9 @@ pub fn read_transfer_body(bytes: &[u8]) -> Option<(Transfer<'_>, usize)>
     ensures exact { IfSome result (λ r. IsRead bytes.now (Ok (performative.Transfer r.0, r.1))) }
     ensures none { IfNone result (IsOfOther Descriptor.Transfer (body_at bytes.now)) }
 {
-    let (transfer, rest) = transfer_at(bytes)?;
-    Some((transfer, bytes.len() - rest.len()))
+    let mut transfer = Transfer::blank();
+    let len = read_transfer_into(bytes, &mut transfer)?;
+    Some((transfer, len))
 }
 
 /// The performative that a body begins with, and what follows it.

@@ -3,15 +3,15 @@ use Rattle.amqp_types.proofs.Octets.{IsBytes}
 use Rattle.amqp_perform.specs.declared.descriptor.Descriptor.TheVariants as of_type
 use Rattle.amqp_perform.specs.Performatives.{transfer_cells}
 use Rattle.amqp_perform.proofs.BodyLaws.{payload_behind}
-use Rattle.amqp_perform.proofs.reader.read_transfer_body.Goals as goal
+use Rattle.amqp_perform.proofs.reader.read_transfer_into.Goals as goal
 
 pub overflow_sub-result : goal.overflow_sub-result
 overflow_sub-result c =
     let fits : IsBytes c.args.bytes.now = λ i. omega (arith, c.type_inv.bytes i) in
-    (payload_behind c.args.bytes.now of_type.Transfer (transfer_cells c.in_ok-transfer.transfer) c.in_ok-transfer.rest.now fits c.in_ok-transfer.ensures).0
+    (payload_behind c.args.bytes.now of_type.Transfer (transfer_cells c.transfer_at.new.transfer) c.in_ok-rest.rest.now fits c.in_ok-rest.ensures).0
 
 pub returns-clause-exact : goal.returns-clause-exact
 returns-clause-exact c =
     let fits : IsBytes c.args.bytes.now = λ i. omega (arith, c.type_inv.bytes i) in
-    let behind = payload_behind c.args.bytes.now of_type.Transfer (transfer_cells c.in_ok-transfer.transfer) c.in_ok-transfer.rest.now fits c.in_ok-transfer.ensures in
-    c.in_ok-transfer.ensures ∙ ap (λ (rest : List ℕ). Some (of_type.Transfer, transfer_cells c.in_ok-transfer.transfer, rest)) (sym behind.1)
+    let behind = payload_behind c.args.bytes.now of_type.Transfer (transfer_cells c.transfer_at.new.transfer) c.in_ok-rest.rest.now fits c.in_ok-rest.ensures in
+    c.in_ok-rest.ensures ∙ ap (λ (rest : List ℕ). Some (of_type.Transfer, transfer_cells c.transfer_at.new.transfer, rest)) (sym behind.1)
