@@ -104,6 +104,7 @@ impl<A: Allocator + Copy> Output<A> {
     }
 
     /// The same of a flow.
+    #[inline(always)]
     pub fn put_flow(&mut self, channel: u16, flow: &Flow<'_>)
         requires short { length (said_frame channel (said (performative.Flow flow.now)) []) ≤ reply_room }
         requires room { length self.old + length (said_frame channel (said (performative.Flow flow.now)) []) ≤ output_size }
@@ -117,6 +118,7 @@ impl<A: Allocator + Copy> Output<A> {
     }
 
     /// The same of a disposition.
+    #[inline(always)]
     pub fn put_disposition(&mut self, channel: u16, disposition: &Disposition<'_>)
         requires short { length (said_frame channel (said (performative.Disposition disposition.now)) []) ≤ reply_room }
         requires room { length self.old + length (said_frame channel (said (performative.Disposition disposition.now)) []) ≤ output_size }

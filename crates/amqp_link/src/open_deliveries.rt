@@ -324,6 +324,7 @@ impl<A: Allocator + Copy> OpenDeliveries<A> {
     }
 
     /// Whether one that was not handed up has the id, where this is known of those that are ready.
+    #[inline(always)]
     fn is_untaken_by(&self, hint: Hint, id: u32) -> bool
         requires { IsHint hint id id self.now.ready }
         ensures { result ≡ list_any (has_id id) (untaken self.now) }
@@ -332,6 +333,7 @@ impl<A: Allocator + Copy> OpenDeliveries<A> {
     }
 
     /// The first that was handed up and has the id, of which this is known.
+    #[inline(always)]
     fn find_handed_up_by(&self, hint: Hint, id: u32) -> Option<&OpenDelivery<A>>
         requires { IsHint hint id id self.now.awaiting }
         ensures { option_map (λ d. delivery_of d.now) result ≡ find (has_id id) self.now.awaiting }
@@ -340,6 +342,7 @@ impl<A: Allocator + Copy> OpenDeliveries<A> {
     }
 
     /// The first that is ready and has the id, of which this is known.
+    #[inline(always)]
     fn find_ready_by(&self, hint: Hint, id: u32) -> Option<&OpenDelivery<A>>
         requires { IsHint hint id id self.now.ready }
         ensures { option_map (λ d. delivery_of d.now) result ≡ find (has_id id) self.now.ready }

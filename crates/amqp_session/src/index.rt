@@ -54,6 +54,7 @@ impl<A: Allocator + Copy> Index<A> {
     }
 
     /// Where the one with this id is kept.
+    #[inline(always)]
     pub fn get(&self, id: u32) -> Option<Kept>
         ensures { result ≡ found self.now id }
     {
@@ -126,6 +127,7 @@ impl<A: Allocator + Copy> Index<A> {
     }
 
     /// It is open no longer.
+    #[inline(always)]
     pub fn remove(&mut self, id: u32)
         ensures { IsPut self.old self.new id None }
     {
