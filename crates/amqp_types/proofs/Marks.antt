@@ -1,24 +1,16 @@
 -- Keys by their marks.
-use Rattle.std.proofs.Common.{◌≡◌, ℕ, suc, true, false, ◌||◌, ◌+◌, ◌*◌, ◌%◌, ◌^◌, ◌<◌, ◌≤◌, List, [], ◌∷◌, length, drop, map, get_or, refl, sym, ap, ◌∙◌, arith}
-use Rattle.std.specs.List.{All, list_any}
+use Rattle.std.proofs.Common.{◌≡◌, ℕ, suc, Bool, true, false, ◌||◌, ◌+◌, ◌*◌, ◌%◌, ◌^◌, ◌<◌, ◌≤◌, ◌⊎◌, inl, inr, nat_eq, List, [], ◌∷◌, length, drop, get_or, refl, sym, ap, ◌∙◌, arith}
+use Rattle.std.specs.List.{list_any}
 use Rattle.std.specs.Str.{bytes_eq}
-use Rattle.std.specs.Ordering.{is_eq, nat_cmp, ordering_then}
-use Rattle.std.specs.declared.cmp.Ordering.{Ordering}
+use Rattle.std.specs.Ordering.{is_eq, nat_cmp}
 use Rattle.std.specs.declared.cmp.Ordering.TheVariants.{Less, Equal, Greater}
 use Rattle.std.specs.Cmp.{nat_cmp_is}
-use Rattle.std.specs.Cmp.Lexicographic.{slice_cmp}
-use Rattle.std.specs.BTreeSet.{insert_key}
 use Rattle.std.proofs.Math.Seq.{drop-cons}
-use Rattle.std.proofs.lemmas.Bool.{or_parts, or_from, false_from_ne_true}
+use Rattle.std.proofs.lemmas.Bool.{or_parts, or_from, or_right, false_from_ne_true, true≢false, eq-eqb, eqb-true, cases_lt}
 use Rattle.std.proofs.lemmas.List.{drop_all}
-use Rattle.std.proofs.lemmas.List.Elements.{All-tail}
-use Rattle.std.proofs.lemmas.Map.Lookups.{exact_bytes}
-use Rattle.std.proofs.lemmas.Map.Text.{is_eq-slice_cmp}
-use Rattle.std.proofs.lemmas.Map.Views.{All-insert_key}
 use Rattle.std.proofs.lemmas.Slice.Eq.{bytes_eq-Decides}
 use Rattle.amqp_types.specs.Decoding.{is_among}
-use Rattle.amqp_types.specs.ShortKeys.{factor, marked, mark_of}
-use Rattle.amqp_types.proofs.Sets.{inserted_by}
+use Rattle.amqp_types.specs.ShortKeys.{factor, marked, mark_of, is_marked}
 
 -- one byte more
 pub marked_next : (mark : ℕ) (bytes : List ℕ) (i d : ℕ) → i < length bytes → marked mark (drop i bytes) ≡ marked ((mark * factor % 2 ^ 64 + get_or bytes i d) % 2 ^ 64) (drop (i + 1) bytes)
@@ -32,40 +24,34 @@ pub marked_all : (mark : ℕ) (bytes : List ℕ) (i : ℕ) → length bytes ≤ 
 unfolding marked
 marked_all mark bytes i le = rw (drop_all i bytes le) refl
 
-second_Equal : (a b : Ordering) → ordering_then a b ≡ Equal → b ≡ Equal
-second_Equal Less b e = absurd cc
-second_Equal Equal b e = e
-second_Equal Greater b e = absurd cc
+same_mark : (m k : ℕ) → is_eq (nat_cmp m k) ≡ nat_eq k m
+same_mark m k = by (cases_lt m k) (cases_lt k m)
+  where
+    by : (m < k) ⊎ (k ≤ m) → (k < m) ⊎ (m ≤ k) → is_eq (nat_cmp m k) ≡ nat_eq k m
+    by (inl h) b = ap is_eq (sym (nat_cmp_is m k Less h)) ∙ sym (false_from_ne_true _ (λ e. omega (arith, eqb-true k m e, h)))
+    by (inr a) (inl h) = ap is_eq (sym (nat_cmp_is m k Greater h)) ∙ sym (false_from_ne_true _ (λ e. omega (arith, eqb-true k m e, h)))
+    by (inr a) (inr b) = let same : m ≡ k = omega (arith, a, b) in ap is_eq (sym (nat_cmp_is m k Equal same)) ∙ sym (eq-eqb k m (sym same))
 
-module _ {B : Type 0} (now : B → List ℕ) where
-  abbrev pub order : ℕ × B → ℕ × B → Ordering
-  order a b = ordering_then (nat_cmp a.0 b.0) (slice_cmp nat_cmp (now a.1) (now b.1))
+-- a mark that is new is none of them
+pub not_marked : (m : ℕ) (ks : List ℕ) → list_any (λ k. is_eq (nat_cmp m k)) ks ≡ false → is_marked m ks ≡ false
+not_marked m [] h = refl
+not_marked m (k ∷ ks) h =
+    let parts = or_parts _ _ h in
+    or_from (nat_eq k m) (is_marked m ks) (sym (same_mark m k) ∙ parts.0) (not_marked m ks parts.1)
 
-  abbrev pub AreMarked : List (ℕ × B) → Type 0
-  AreMarked ks = All (λ k. k.0 ≡ mark_of (now k.1)) ks
+-- The marks of keys are among others.
+abbrev pub AreMarkedBy : List ℕ → List (List ℕ) → Type 0
+AreMarkedBy marks keys = (octets : List ℕ) → is_among octets keys ≡ true → is_marked (mark_of octets) marks ≡ true
 
-  pub marked_insert : (m : ℕ) (b : B) (ks : List (ℕ × B)) → m ≡ mark_of (now b) → AreMarked ks → AreMarked (insert_key order ks (m, b))
-  marked_insert m b ks e all = All-insert_key order (m, b) (λ k. k.0 ≡ mark_of (now k.1)) ks all e
+-- a key whose mark is new is none of them
+pub not_among : (marks : List ℕ) (keys : List (List ℕ)) (octets : List ℕ) → AreMarkedBy marks keys → is_marked (mark_of octets) marks ≡ false → is_among octets keys ≡ false
+not_among marks keys octets by new = false_from_ne_true _ (λ h. true≢false (sym (by octets h) ∙ new))
 
-  like : (m : ℕ) (o : List ℕ) (k : ℕ × B) → m ≡ mark_of o → k.0 ≡ mark_of (now k.1) → is_eq (ordering_then (nat_cmp m k.0) (slice_cmp nat_cmp o (now k.1))) ≡ false → bytes_eq (now k.1) o ≡ false
-  like m o k e f apart = false_from_ne_true _ (λ h. differ ((bytes_eq-Decides (now k.1) o).0 h))
-    where
-      differ : now k.1 ≡ o → ⊥
-      differ same =
-          let marks : nat_cmp m k.0 ≡ Equal = sym (nat_cmp_is m k.0 Equal (e ∙ ap mark_of (sym same) ∙ sym f)) in
-          let bytes : is_eq (slice_cmp nat_cmp o (now k.1)) ≡ true = is_eq-slice_cmp o (now k.1) ∙ (bytes_eq-Decides o (now k.1)).1 (sym same) in
-          let both : is_eq (ordering_then (nat_cmp m k.0) (slice_cmp nat_cmp o (now k.1))) ≡ true = rw marks bytes in
-          absurd cc
-
-  -- a key that is new has the bytes of none
-  pub not_among : (m : ℕ) (o : List ℕ) (ks : List (ℕ × B)) → m ≡ mark_of o → AreMarked ks
-      → list_any (λ k. is_eq (ordering_then (nat_cmp m k.0) (slice_cmp nat_cmp o (now k.1)))) ks ≡ false → is_among o (map (λ k. now k.1) ks) ≡ false
-  not_among m o [] e all h = refl
-  not_among m o (k ∷ ks) e all h =
-      let parts = or_parts _ _ h in
-      or_from (bytes_eq (now k.1) o) (is_among o (map (λ k. now k.1) ks)) (like m o k e (all 0 k (omega arith)) parts.0)
-      (not_among m o ks e (All-tail (λ k. k.0 ≡ mark_of (now k.1)) k ks all) parts.1)
-
-  -- what is among them then
-  pub among_inserted : (octets : List ℕ) (k : ℕ × B) (ks : List (ℕ × B)) → is_among octets (map (λ k. now k.1) (insert_key order ks k)) ≡ (bytes_eq (now k.1) octets || is_among octets (map (λ k. now k.1) ks))
-  among_inserted = inserted_by (λ k. now k.1) order (λ a b e. exact_bytes (now a.1) (now b.1) (second_Equal _ _ e))
+-- one key more
+pub marked_more : (old new : List ℕ) (keys : List (List ℕ)) (octets : List ℕ) → AreMarkedBy old keys → ((mark : ℕ) → is_marked mark new ≡ (nat_eq (mark_of octets) mark || is_marked mark old))
+    → AreMarkedBy new (octets ∷ keys)
+marked_more old new keys octets by put o among = put (mark_of o) ∙ or_true (bytes_eq octets o) refl among
+  where
+    or_true : (b : Bool) → bytes_eq octets o ≡ b → (b || is_among o keys) ≡ true → (nat_eq (mark_of octets) (mark_of o) || is_marked (mark_of o) old) ≡ true
+    or_true true is h = ap (λ (b : Bool). b || is_marked (mark_of o) old) (eq-eqb (mark_of octets) (mark_of o) (ap mark_of ((bytes_eq-Decides octets o).0 is)))
+    or_true false is h = ap (λ (b : Bool). nat_eq (mark_of octets) (mark_of o) || b) (by o h) ∙ or_right (nat_eq (mark_of octets) (mark_of o)) true refl

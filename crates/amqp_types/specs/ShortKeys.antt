@@ -1,5 +1,6 @@
 -- Keys that are compared while a map's length is found.
-use Rattle.std.specs.Prelude.{ℕ, ◌+◌, ◌*◌, ◌%◌, ◌^◌, List, [], ◌∷◌}
+use Rattle.std.specs.Prelude.{ℕ, ◌+◌, ◌*◌, ◌%◌, ◌^◌, Bool, nat_eq, List, [], ◌∷◌}
+use Rattle.std.specs.List.{list_any}
 use Rattle.amqp_types.specs.declared.kind.Kind.{Kind}
 use Rattle.amqp_types.specs.Trees.{Trees, none, more, Octets}
 
@@ -18,3 +19,7 @@ marked mark (byte ∷ bytes) = marked ((mark * factor % 2 ^ 64 + byte) % 2 ^ 64)
 
 abbrev pub mark_of : List ℕ → ℕ
 mark_of bytes = marked 0 bytes * factor % 2 ^ 64
+
+-- one of the marks is this
+abbrev pub is_marked : ℕ → List ℕ → Bool
+is_marked mark marks = list_any (λ other. nat_eq other mark) marks

@@ -1,9 +1,7 @@
-//! The keys of a map of many, while its length is found. They are lent.
+//! The keys of a map of many, while its length is found.
 
-ghost use Rattle.std.specs.Prelude.{◌≡◌, ℕ, ◌||◌, List, [], true, false, map, IsTrue, IfOk, OnOk};
-ghost use Rattle.std.specs.Str.{bytes_eq};
-ghost use Rattle.amqp_types.specs.Decoding.{is_among};
-ghost use Rattle.amqp_types.specs.ShortKeys.{mark_of};
+ghost use Rattle.std.specs.Prelude.{◌≡◌, ℕ, ◌||◌, nat_eq, [], true, false, IsTrue, IfOk, OnOk};
+ghost use Rattle.amqp_types.specs.ShortKeys.{mark_of, is_marked};
 
 use std::alloc::{AllocError, Global};
 use std::collections::BTreeSet;
@@ -12,39 +10,36 @@ use std::marker::Model;
 /// A large odd number.
 const FACTOR: u64 = 0x9e37_79b9_7f4a_7c15;
 
-/// Keys by their marks, and by their bytes where those are equal: so most are told apart by one number, and whether a key is
-/// there is found in logarithmic time whatever the keys are.
+/// Keys by their marks alone: whether one is there is found in logarithmic time, and by numbers. Keys of two marks are not
+/// equal. Of keys of one mark nothing is said: they are for the reading that keeps them.
 #[derive(Drop)]
-pub struct ManyKeys<'a> {
-    keys: BTreeSet<(u64, &'a [u8])>,
+pub struct ManyKeys {
+    marks: BTreeSet<u64>,
 }
 
-impl<'a> Model for ManyKeys<'a> {
-    ghost use Rattle.std.specs.Prelude.{ℕ, List, All, ◌≡◌, map};
-    ghost use Rattle.amqp_types.specs.ShortKeys.{mark_of};
+impl Model for ManyKeys {
+    ghost use Rattle.std.specs.Prelude.{ℕ, List};
 
-    ghost Value = { List (List ℕ) };
+    ghost Value = { List ℕ };
 
-    ghost view = { λ s. map (λ key. key.1.now) s.keys.keys };
-
-    ghost invariant = { λ s. All (λ key. key.0 ≡ mark_of key.1.now) s.keys.keys };
+    ghost view = { λ s. s.marks.keys };
 }
 
-impl<'a> ManyKeys<'a> {
-    pub fn new(alloc: Global) -> ManyKeys<'a>
+impl ManyKeys {
+    pub fn new(alloc: Global) -> ManyKeys
         ensures { result ≡ [] }
     {
         ManyKeys {
-            keys: BTreeSet::new(alloc),
+            marks: BTreeSet::new(alloc),
         }
     }
 
-    /// Puts a key among them, and says whether it is new there.
-    pub fn insert(&mut self, key: &'a [u8]) -> Result<bool, AllocError>
-        ensures new { IfOk result (λ new. IsTrue new → is_among key.now self.old ≡ false) }
-        ensures ok { OnOk result ((octets : List ℕ) → is_among octets self.new ≡ (bytes_eq key.now octets || is_among octets self.old)) }
+    /// Puts a key among them, and says whether its mark is new there.
+    pub fn insert(&mut self, key: &[u8]) -> Result<bool, AllocError>
+        ensures new { IfOk result (λ new. IsTrue new → is_marked (mark_of key.now) self.old ≡ false) }
+        ensures ok { OnOk result ((mark : ℕ) → is_marked mark self.new ≡ (nat_eq (mark_of key.now) mark || is_marked mark self.old)) }
     {
-        match self.keys.insert((mark_of(key), key)) {
+        match self.marks.insert(mark_of(key)) {
             Ok(new) => Ok(new),
             Err(_) => Err(AllocError),
         }

@@ -8,6 +8,7 @@ use Rattle.amqp_types.specs.ShortKeys.{octets_of}
 use Rattle.amqp_types.specs.Reading.{allowed, inside, level_by, value_by, item_by, number_at, sized_at}
 use Rattle.amqp_types.specs.Trees.{Number, Octets, ListOf, none}
 use Rattle.amqp_types.proofs.Counted.{uncharged_leaves, value_leaves, described_leaves, value_described_leaves, more_leaves, none_leave, list_leaves}
+use Rattle.amqp_types.proofs.Marks.{not_among, marked_more}
 use Rattle.amqp_types.proofs.Shorts.{more_pair_leaves, no_pair_leaves, map_leaves, no_like}
 use Rattle.amqp_types.proofs.quick_check.+counted.Goals as goal
 
@@ -126,19 +127,19 @@ many_pairs_len-loop-preserved t c =
     let value = rw (take_rest c.args.bytes.now on) at c.in_ok-len.ensures in
     let seen = c.loop.invariant.seen in
     let short : length octets < 256 ^ 8 = search rules in
-    let apart : is_among octets c.loop.keys ≡ false = search rules in
+    let apart : is_among octets seen.0 ≡ false = not_among c.loop.keys seen.0 octets seen.2 (search rules) in
     record {
       within = omega (arith, value.within, length-drop on bytes, key.within, length-drop c.loop.at bytes, c.loop.invariant.within);
       seen = (
         octets ∷ seen.0,
         (short, seen.1),
-        (λ o. ap (λ (b : Bool). bytes_eq octets o || b) (seen.2 o) ∙ sym (c.in-Ok-true.ensures.ok o)),
+        marked_more c.loop.keys _ seen.0 octets seen.2 c.in-Ok-true.ensures.ok,
         λ w left rest others.
             let first = rw (drop-drop (2 + length octets) c.loop.at bytes) at (key.read (inside c.args.depth) w c.loop.left) in
             let second = rw (drop-drop c.in_ok-len.len on bytes) at (value.read w) in
             seen.3 w left rest
             (more_pair_leaves level w (octets_of kind seen.0) (Octets kind octets) c.args.count c.loop.counter c.loop.left c.in_ok-len.less left (drop c.loop.at bytes) (drop on bytes)
-            (drop (on + c.in_ok-len.len) bytes) rest c.loop-test.true first (no_like kind octets seen.0 short seen.1 (seen.2 octets ∙ apart)) second others),
+            (drop (on + c.in_ok-len.len) bytes) rest c.loop-test.true first (no_like kind octets seen.0 short seen.1 apart) second others),
       );
     }
 

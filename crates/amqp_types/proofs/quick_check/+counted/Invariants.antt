@@ -2,10 +2,10 @@
 use Rattle.std.proofs.Common.{◌≡◌, ℕ, List, ◌+◌, ◌-◌, ◌*◌, ◌≤◌, length, drop, Some}
 use Rattle.amqp_types.specs.declared.window.Window.{Window}
 use Rattle.amqp_types.specs.Reading.{trees_at, pairs_at, level_by, inside, value_by}
-use Rattle.amqp_types.specs.Decoding.{is_among}
 use Rattle.amqp_types.specs.ShortKeys.{octets_of}
 use Rattle.amqp_types.specs.Skipping.{Leaves}
 use Rattle.amqp_types.specs.Trees.{none}
+use Rattle.amqp_types.proofs.Marks.{AreMarkedBy}
 use Rattle.amqp_types.proofs.Shorts.{AreShort}
 use Rattle.amqp_types.proofs.quick_check.+counted.Given as goal
 
@@ -55,11 +55,11 @@ invariant-few_pairs_len-loop l = record {
 abbrev pub decreases-many_pairs_len : goal.decreases-many_pairs_len
 decreases-many_pairs_len l = 8 * l.depth + 4
 
--- the same, of keys that came in some order
+-- the same, of keys whose marks came
 abbrev pub invariant-many_pairs_len-loop : goal.invariant-many_pairs_len-loop
 invariant-many_pairs_len-loop l = record {
   within : l.at ≤ length l.bytes;
-  seen : (keys : List (List ℕ)) × AreShort keys × ((octets : List ℕ) → is_among octets keys ≡ is_among octets l.keys)
+  seen : (keys : List (List ℕ)) × AreShort keys × AreMarkedBy l.keys keys
       × ((w : Window) (left : ℕ) (rest : List ℕ) → Leaves (pairs_at (level_by (inside l.depth)) (octets_of l.kind keys) (l.count - l.counter) w (Some l.left) (drop l.at l.bytes)) left rest
       → Leaves (pairs_at (level_by (inside l.depth)) none l.count w (Some l.nodes) l.bytes) left rest);
 }
