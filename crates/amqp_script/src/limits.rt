@@ -41,7 +41,7 @@ fn with_rows(alloc: Global, config: Config, lines: &[&[u8]]) -> Result<Config, S
     ensures write { result ≢ Err ScriptFault.Write }
     ensures line { (n : ℕ) → result ≡ Err (ScriptFault.Line n) → 1 ≤ n }
 {
-    let limits = limits_of(alloc, lines, "")?;
+    let limits = limits_of(alloc, lines, &[])?;
     let count = limits.len();
     match config.with_limits(limits) {
         Err((fault, _, _)) => Err(ScriptFault::Line(line_of(fault, 1))),
@@ -54,12 +54,11 @@ fn with_rows(alloc: Global, config: Config, lines: &[&[u8]]) -> Result<Config, S
 pub fn limits_of(
     alloc: Global,
     lines: &[&[u8]],
-    before: &str,
+    before: &[u8],
 ) -> Result<Vec<LinkLimit>, AllocError> {
     let mut limits = Vec::new(alloc);
     for line in lines.iter().take(MAX_LIMITS) {
-        let text = str::from_utf8(line).unwrap_or("");
-        match row_of(alloc, text.strip_prefix(before).unwrap_or(""))? {
+        match row_of(alloc, line.strip_prefix(before).unwrap_or(&[]))? {
             Some(limit) => push(&mut limits, limit)?,
             None => break,
         }

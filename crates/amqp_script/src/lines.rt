@@ -1,4 +1,5 @@
-//! The lines of a script: what they set up and ask for. Words are parted by one space.
+//! The lines of a script: what they set up and ask for. Words are parted by one space. A line is read as bytes: the words that
+//! it may have are ASCII, so that one which is no text has another word.
 
 use crate::digits::is_hex;
 use amqp_endpoint::{Call, Config, LinkLimit};
@@ -8,42 +9,43 @@ use std::alloc::{AllocError, Global};
 /// The words of a line.
 #[derive(Drop)]
 struct Words<'a> {
-    rest: Option<&'a str>,
+    rest: Option<&'a [u8]>,
 }
 
 impl<'a> Words<'a> {
-    fn of(line: &'a str) -> Words<'a> {
+    fn of(line: &'a [u8]) -> Words<'a> {
         Words { rest: Some(line) }
     }
 
     /// The next word, which may be empty; none behind the last.
-    fn word(&mut self) -> Option<&'a str> {
+    fn word(&mut self) -> Option<&'a [u8]> {
         let rest = self.rest.take()?;
-        match rest.bytes().position(|byte| byte == b' ') {
-            Some(end) => {
-                let (word, behind) = rest.split_at_checked(end)?;
+        for (at, byte) in rest.iter().enumerate() {
+            if *byte == b' ' {
+                let (word, behind) = rest.split_at(at);
                 self.rest = behind.get(1..);
-                Some(word)
+                return Some(word);
             }
-            None => Some(rest),
         }
+        Some(rest)
     }
 
     /// A number below 2^32: one digit or more, and nothing else.
     fn number(&mut self) -> Option<u32> {
-        let word = self.word()?;
-        if word.is_empty() {
-            return None;
-        }
+        let rest = self.rest.take()?;
         let mut number: u32 = 0;
-        for byte in word.bytes() {
+        for (at, byte) in rest.iter().enumerate() {
+            if *byte == b' ' {
+                self.rest = rest.split_at(at).1.get(1..);
+                return if at > 0 { Some(number) } else { None };
+            }
             let digit = byte.wrapping_sub(b'0');
             if digit > 9 {
                 return None;
             }
             number = number.checked_mul(10)?.checked_add(digit as u32)?;
         }
-        Some(number)
+        if rest.is_empty() { None } else { Some(number) }
     }
 
     /// A channel, which is below 2^16.
@@ -58,10 +60,10 @@ impl<'a> Words<'a> {
 
     fn outcome(&mut self) -> Option<Outcome> {
         match self.word()? {
-            "accepted" => Some(Outcome::Accepted),
-            "rejected" => Some(Outcome::Rejected),
-            "released" => Some(Outcome::Released),
-            "modified" => Some(Outcome::Modified {
+            b"accepted" => Some(Outcome::Accepted),
+            b"rejected" => Some(Outcome::Rejected),
+            b"released" => Some(Outcome::Released),
+            b"modified" => Some(Outcome::Modified {
                 failed: false,
                 undeliverable: false,
             }),
@@ -80,7 +82,7 @@ impl<'a> Words<'a> {
 
 /// What the first line sets up: `config ID MAX_FRAME CHANNEL_MAX HANDLE_MAX ALLOWED MAX_MESSAGE WINDOW`. None where it is
 /// another, or a setting is outside its range.
-pub fn config_of(alloc: Global, line: &str) -> Result<Option<Config>, AllocError> {
+pub fn config_of(alloc: Global, line: &[u8]) -> Result<Option<Config>, AllocError> {
     match settings_of(line) {
         Some(settings) => settings.checked(alloc),
         None => Ok(None),
@@ -99,12 +101,12 @@ struct Settings<'a> {
     window: u32,
 }
 
-fn settings_of(line: &str) -> Option<Settings<'_>> {
+fn settings_of(line: &[u8]) -> Option<Settings<'_>> {
     let mut words = Words::of(line);
-    if words.word()? != "config" {
+    if words.word()? != b"config".as_slice() {
         return None;
     }
-    let id = words.word()?;
+    let id = printed(words.word()?)?;
     let settings = Settings {
         id,
         max_frame: words.number()?,
@@ -119,9 +121,6 @@ fn settings_of(line: &str) -> Option<Settings<'_>> {
 
 impl Settings<'_> {
     fn checked(&self, alloc: Global) -> Result<Option<Config>, AllocError> {
-        if !is_printed(self.id) {
-            return Ok(None);
-        }
         Ok(Config::checked(
             String::from_str(alloc, self.id)?,
             self.max_frame,
@@ -134,13 +133,17 @@ impl Settings<'_> {
     }
 }
 
-/// Whether a text is printable ASCII without spaces.
-fn is_printed(text: &str) -> bool {
-    text.bytes().all(|byte| byte.is_ascii_graphic())
+/// A word that is printable ASCII without spaces.
+fn printed(word: &[u8]) -> Option<&str> {
+    if word.iter().all(|byte| byte.is_ascii_graphic()) {
+        str::from_utf8(word).ok()
+    } else {
+        None
+    }
 }
 
 /// The limit that a row `PREFIX ALLOWED MAX_MESSAGE` sets. None where it is no such row.
-pub fn row_of(alloc: Global, row: &str) -> Result<Option<LinkLimit>, AllocError> {
+pub fn row_of(alloc: Global, row: &[u8]) -> Result<Option<LinkLimit>, AllocError> {
     match row_words(row) {
         Some(row) => Ok(Some(LinkLimit {
             prefix: Vec::from_slice(alloc, row.prefix.as_bytes())?,
@@ -159,14 +162,10 @@ struct Row<'a> {
     max_message: u32,
 }
 
-fn row_words(row: &str) -> Option<Row<'_>> {
+fn row_words(row: &[u8]) -> Option<Row<'_>> {
     let mut words = Words::of(row);
-    let prefix = words.word()?;
-    if !is_printed(prefix) {
-        return None;
-    }
     let row = Row {
-        prefix,
+        prefix: printed(words.word()?)?,
         allowed: words.number()?,
         max_message: words.number()?,
     };
@@ -174,72 +173,72 @@ fn row_words(row: &str) -> Option<Row<'_>> {
 }
 
 /// The word of a line that feeds bytes, or none.
-const FEED: &str = "feed";
+const FEED: &[u8] = b"feed";
 
-/// The text behind the word of a line that feeds some bytes.
-pub fn fed(line: &str) -> Option<&str> {
-    line.strip_prefix(FEED)?.strip_prefix(' ')
+/// What stands behind the word of a line that feeds some bytes.
+pub fn fed(line: &[u8]) -> Option<&[u8]> {
+    line.strip_prefix(b"feed ".as_slice())
 }
 
 /// Whether a line asks for a call.
-pub fn is_call(line: &str) -> bool {
+pub fn is_call(line: &[u8]) -> bool {
     match fed(line) {
-        Some(hex) => is_hex(hex.as_bytes()),
+        Some(hex) => is_hex(hex),
         None => call_of(line, &[]).is_some(),
     }
 }
 
 /// The call that a line asks for, where these are the bytes that it feeds: what stands behind `feed` is not looked at. None where
 /// it asks for none.
-pub fn call_of<'a>(line: &str, piece: &'a [u8]) -> Option<Call<'a>> {
+pub fn call_of<'a>(line: &[u8], piece: &'a [u8]) -> Option<Call<'a>> {
     if line == FEED || fed(line).is_some() {
         return Some(Call::Feed(piece));
     }
     let mut words = Words::of(line);
     let call = match words.word()? {
-        "close" => Call::Close,
-        "heartbeat" => Call::Heartbeat,
-        "output" => Call::Output(words.number()?),
-        "held" => Call::Held,
-        "finish" => Call::Finish,
+        b"close" => Call::Close,
+        b"heartbeat" => Call::Heartbeat,
+        b"output" => Call::Output(words.number()?),
+        b"held" => Call::Held,
+        b"finish" => Call::Finish,
         name => session_call(name, &mut words)?,
     };
     words.end(call)
 }
 
 /// The same of a call for a session.
-fn session_call<'a>(name: &str, words: &mut Words<'_>) -> Option<Call<'a>> {
+fn session_call<'a>(name: &[u8], words: &mut Words<'_>) -> Option<Call<'a>> {
     let channel = words.channel()?;
     Some(match name {
-        "grant" => Call::Grant {
+        b"grant" => Call::Grant {
             channel,
             handle: words.number()?,
             n: words.number()?,
         },
-        "widen" => Call::Widen {
+        b"widen" => Call::Widen {
             channel,
             n: words.number()?,
         },
-        "drain" => Call::Drain {
+        b"drain" => Call::Drain {
             channel,
             handle: words.number()?,
         },
-        "take" => Call::Take {
+        b"take" => Call::Take {
             channel,
             handle: words.number()?,
         },
-        "settle" => Call::Settle {
+        b"settle" => Call::Settle {
             channel,
             id: words.number()?,
             outcome: words.outcome()?,
         },
-        "settle-range" => Call::SettleRange {
+        b"settle-range" => Call::SettleRange {
             channel,
             first: words.number()?,
             last: words.number()?,
             outcome: words.outcome()?,
         },
-        "detach" => Call::Detach {
+        b"detach" => Call::Detach {
             channel,
             handle: words.number()?,
         },

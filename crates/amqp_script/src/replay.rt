@@ -118,7 +118,7 @@ fn check(alloc: Global, lines: &[&[u8]]) -> Result<Setup, ScriptFault>
     let setup = set_up(alloc, lines)?;
     for (index, line) in lines.iter().enumerate().skip(setup.lines) {
         let number = index.saturating_add(1);
-        if !is_call(text_of(line, number)?) {
+        if !is_call(line) {
             return Err(ScriptFault::Line(number));
         }
     }
@@ -134,23 +134,13 @@ fn set_up(alloc: Global, lines: &[&[u8]]) -> Result<Setup, ScriptFault>
     let Some((first, rest)) = lines.split_first() else {
         return Err(ScriptFault::Line(1));
     };
-    let config = config_of(alloc, text_of(first, 1)?)?.ok_or(ScriptFault::Line(1))?;
-    let limits = limits_of(alloc, rest, "limit ")?;
+    let config = config_of(alloc, first)?.ok_or(ScriptFault::Line(1))?;
+    let limits = limits_of(alloc, rest, b"limit ")?;
     let lines = limits.len().saturating_add(1);
     match config.with_limits(limits) {
         Ok(config) => Ok(Setup { config, lines }),
         Err((fault, _, _)) => Err(ScriptFault::Line(line_of(fault, 2))),
     }
-}
-
-/// The text of the line of this number.
-fn text_of(line: &[u8], number: usize) -> Result<&str, ScriptFault>
-    requires { 1 ≤ number }
-    ensures read { result ≢ Err ScriptFault.Read }
-    ensures write { result ≢ Err ScriptFault.Write }
-    ensures line { (n : ℕ) → result ≡ Err (ScriptFault.Line n) → 1 ≤ n }
-{
-    str::from_utf8(line).or(Err(ScriptFault::Line(number)))
 }
 
 /// Runs the lines, of which the first ones ask for nothing, and writes the line of each answer.
@@ -189,8 +179,7 @@ fn answer_to(
     piece: &mut Vec<u8>,
     answer: &mut Vec<u8>,
 ) -> Result<(), AllocError> {
-    let line = str::from_utf8(line).unwrap_or("");
-    read_hex(piece, fed(line).unwrap_or("").as_bytes())?;
+    read_hex(piece, fed(line).unwrap_or(&[]))?;
     match call_of(line, piece) {
         Some(call) => write_answer(alloc, answer, &endpoint.call(alloc, &call)?),
         None => Ok(()),
