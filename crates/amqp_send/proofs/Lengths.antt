@@ -153,3 +153,10 @@ same_frame f m s begun last n rest es eb el en er = es_step ∙ eb_step ∙ el_s
 
     er_step : said_frame 0 (transfer_said f.delivery_id m.begun (not (is_last f m))) (take (share f m) rest) ≡ next_frame f m
     er_step = ap (λ (x : List ℕ). said_frame 0 (transfer_said f.delivery_id m.begun (not (is_last f m))) (take (share f m) x)) er
+
+-- the same of a frame that goes on with a message and that more follow
+pub same_later : (f : FlowState) (m : Message) (begun last : Bool) (n : ℕ) (rest : List ℕ) → begun ≡ true → not last ≡ true
+    → begun ≡ m.begun → last ≡ is_last f m → n ≡ share f m → rest ≡ m.rest → said_frame 0 (later_said true) (take n rest) ≡ next_frame f m
+same_later f m begun last n rest goes_on more eb el en er =
+    same_frame f m (later_said true) begun last n rest
+    (ap (λ (x : Bool). later_said x) (sym more) ∙ ap (λ (x : Bool). transfer_said f.delivery_id x (not last)) (sym goes_on)) eb el en er

@@ -1,5 +1,5 @@
 //! The message that is being sent, frame by frame [2.6.14].
-ghost use Rattle.std.specs.Prelude.{◌≡◌, ◌≤◌, ◌+◌, ◌++◌, length, min, drop, take, Some, None, IsFalse, true, false};
+ghost use Rattle.std.specs.Prelude.{◌≡◌, ◌≤◌, ◌+◌, ◌++◌, length, min, drop, take, Some, None, if◌then◌else◌, IsFalse, true, false};
 ghost use Rattle.amqp_perform.specs.Said.{said_frame};
 ghost use Rattle.amqp_send.specs.Flows as flows;
 ghost use Rattle.amqp_send.specs.Sendings as spec;
@@ -8,15 +8,12 @@ ghost use Rattle.amqp_send.specs.Sendings.{Message, frame, is_last, next_frame, 
 use crate::flow_state::FlowState;
 use crate::frames::transfer;
 use crate::laws::lengths_of_frames;
-use crate::output::Output;
+use crate::output::{LATER_HEAD, Output};
 use std::alloc::{Allocator, Global};
 use std::marker::Model;
 
 /// No transfer is longer than that without its payload.
 const HEAD_MOST: usize = 64;
-
-/// How long a transfer is without its payload, where it goes on with a message and more follow.
-const LATER_HEAD_LEN: usize = 20;
 
 /// A message, and how much of it stands in frames.
 #[derive(Drop)]
@@ -113,7 +110,7 @@ fn head_len_of<A: Allocator + Copy>(
 {
     let most = flow.most();
     if message.is_begun() {
-        return LATER_HEAD_LEN.min(most);
+        return LATER_HEAD.len().min(most);
     }
     let tag = flow.delivery_id.to_be_bytes();
     let head = transfer(flow.delivery_id, &tag, false, true);
@@ -170,41 +167,46 @@ fn put_part<A: Allocator + Copy>(
     ensures new { output.new ≡ spec.put output.old (next_frame flow message.now) }
 {
     lengths_of_frames();
+    let payload = &message.rest()[..part.len];
+    let begun = message.is_begun();
+    if begun && !part.last {
+        return output.put_later(payload);
+    }
     let tag = flow.delivery_id.to_be_bytes();
-    let frame = transfer(flow.delivery_id, &tag, message.is_begun(), !part.last);
-    output.put(&frame, &message.rest()[..part.len])
+    let frame = transfer(flow.delivery_id, &tag, begun, !part.last);
+    output.put(&frame, payload)
 }
 
 /// Writes the next frame of the message into the output, where credit, for a first frame, a place in the window
-/// and room are there, and answers whether they are, and what is left of the message. Where they are not nothing
-/// changes.
+/// and room are there, and answers whether they are, and whether the whole message stands in frames now. Where
+/// they are not nothing changes.
 pub fn write_frame_of<A: Allocator + Copy>(
-    mut message: Outgoing<A>,
+    message: &mut Outgoing<A>,
     flow: &mut FlowState,
     output: &mut Output<A>,
-) -> (bool, Option<Outgoing<A>>)
+) -> (bool, bool)
     requires { 512 ≤ flow.old.max_frame_size }
-    ensures goes { result.0 ≡ may_go flow.old output.old message }
-    ensures output { output.new ≡ spec.output_behind flow.old output.old message }
-    ensures flow { flow.new ≡ spec.flow_behind flow.old output.old message }
-    ensures left { result.1 ≡ spec.message_behind flow.old output.old message }
+    ensures goes { result.0 ≡ may_go flow.old output.old message.old }
+    ensures output { output.new ≡ spec.output_behind flow.old output.old message.old }
+    ensures flow { flow.new ≡ spec.flow_behind flow.old output.old message.old }
+    ensures left { (if result.1 then None else Some message.new) ≡ spec.message_behind flow.old output.old message.old }
 {
     lengths_of_frames();
     let begun = message.is_begun();
     if !begun && flow.credit() == 0 || flow.window() == 0 {
-        return (false, Some(message));
+        return (false, false);
     }
-    if !may_fit(&message, *flow, output) {
-        return (false, Some(message));
+    if !may_fit(message, *flow, output) {
+        return (false, false);
     }
-    let part = share(&message, *flow, output);
-    if !put_part(&message, *flow, part, output) {
-        return (false, Some(message));
+    let part = share(message, *flow, output);
+    if !put_part(message, *flow, part, output) {
+        return (false, false);
     }
     *flow = flow.transferred(if begun { 0 } else { 1 });
     if part.last {
-        return (true, None);
+        return (true, true);
     }
     message.advance(part.len);
-    (true, Some(message))
+    (true, false)
 }

@@ -1,9 +1,10 @@
 //! What waits to be sent.
-ghost use Rattle.std.specs.Prelude.{◌≡◌, ◌≤◌, ◌+◌, ◌++◌, [], min, length, take, drop, IfOk, IfSome};
+ghost use Rattle.std.specs.Prelude.{◌≡◌, ◌≤◌, ◌+◌, ◌++◌, [], true, min, length, take, drop, IfOk, IfSome};
 ghost use Rattle.std.specs.Option.{SomeIff};
 ghost use Rattle.amqp_perform.specs.Said.{said, said_frame};
 ghost use Rattle.amqp_send.specs.Sendings as spec;
-ghost use Rattle.amqp_send.specs.Sendings.{pipe_size, frame, fits};
+ghost use Rattle.amqp_send.specs.Sendings.{pipe_size, frame, later_said, fits};
+ghost use Rattle.byteorder.specs.Endian.{big_bytes};
 
 use crate::flow_state::MAX_FRAME_SIZE;
 use crate::laws::lengths_of_frames;
@@ -14,6 +15,11 @@ use std::marker::Model;
 
 /// How many bytes may wait.
 const PIPE_SIZE: usize = 8192;
+
+/// The frame of a transfer that goes on with a message and that more follow, without its payload.
+pub const LATER_HEAD: [u8; 20] = [
+    0, 0, 0, 20, 2, 0, 0, 0, 0, 0x53, 0x14, 0xc0, 7, 6, 0x43, 0x40, 0x40, 0x40, 0x40, 0x41,
+];
 
 /// The bytes that wait to be sent, at most 8192, and one frame's room in which a frame is put together up to its
 /// payload. Only `new` takes memory.
@@ -93,6 +99,23 @@ impl<A: Allocator + Copy> Output<A> {
         }
     }
 
+    /// [`Output::put`] of a transfer that goes on with a message and that more follow, as most frames of a long
+    /// message are.
+    pub fn put_later(&mut self, payload: &[u8]) -> bool
+        requires { length (said_frame 0 (later_said true) payload.now) ≤ 4096 }
+        ensures fits { result ≡ fits self.old (said_frame 0 (later_said true) payload.now) }
+        ensures new { self.new ≡ spec.put self.old (said_frame 0 (later_said true) payload.now) }
+    {
+        lengths_of_frames();
+        let size = LATER_HEAD.len() + payload.len();
+        if size > PIPE_SIZE - self.pipe.len() {
+            return false;
+        }
+        self.pipe.put(&later_head(size as u32));
+        self.pipe.put(payload);
+        true
+    }
+
     /// Puts a frame without payload, for which there is room, behind the bytes that wait.
     pub fn append(&mut self, performative: &Performative<'_>)
         requires short { length (frame (said performative.now)) ≤ 4096 }
@@ -110,6 +133,15 @@ impl<A: Allocator + Copy> Output<A> {
     {
         self.pipe.read_into(out)
     }
+}
+
+/// [`LATER_HEAD`] of a frame of so many bytes.
+fn later_head(size: u32) -> [u8; 20]
+    ensures { result ≡ big_bytes 4 size ++ drop 4 (frame (later_said true)) }
+{
+    let mut head = LATER_HEAD;
+    head[..4].copy_from_slice(&size.to_be_bytes());
+    head
 }
 
 /// Writes a frame up to its payload at the front of `out`, and answers how many bytes that are; `None` where the

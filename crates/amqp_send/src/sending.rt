@@ -203,11 +203,13 @@ impl<A: Allocator + Copy> Sending<A> {
             Talk::Talking => {}
             Talk::Silent | Talk::Closing | Talk::Ended(_) => return false,
         }
-        match self.message.take() {
+        match &mut self.message {
             None => false,
             Some(message) => {
-                let (goes, left) = write_frame_of(message, &mut self.flow, &mut self.output);
-                self.message = left;
+                let (goes, ends) = write_frame_of(message, &mut self.flow, &mut self.output);
+                if ends {
+                    self.message = None;
+                }
                 goes
             }
         }
