@@ -1,9 +1,8 @@
 //! Numbers and bytes, as `dump` prints them. Lines that wait stay as they are.
 
-ghost use Rattle.std.specs.Prelude.{◌≡◌, ◌≤◌, length, OnOk};
+ghost use Rattle.std.specs.Prelude.{◌≡◌, ◌≤◌, length};
 
 use crate::page::Page;
-use std::alloc::AllocError;
 use uuid::Uuid;
 
 /// The most bytes of a binary whose digits are put four bytes at a time.
@@ -15,56 +14,66 @@ const RUN: usize = 64;
 /// The digit zero in each of eight bytes.
 const ZEROS: u64 = 0x3030_3030_3030_3030;
 
-/// The digits of numbers below 16.
-const HEX: [u8; 16] = *b"0123456789abcdef";
+/// A one, a space, and the high bit in each of eight bytes.
+const ONES: u64 = 0x0101_0101_0101_0101;
+
+const SPACES: u64 = 0x2020_2020_2020_2020;
+
+const HIGH_BITS: u64 = 0x8080_8080_8080_8080;
 
 /// The numbers below it have eight digits at most.
 const EIGHT_DIGITS: u64 = 100_000_000;
 
+/// The numbers below it have sixteen digits at most.
+const SIXTEEN_DIGITS: u64 = 10_000_000_000_000_000;
+
 /// Appends a number in decimal digits.
 #[inline(always)]
-pub fn put_number(out: &mut Page, number: u64) -> Result<(), AllocError>
-    ensures { OnOk result (out.new.whole ≡ out.old.whole) }
+pub fn put_number(out: &mut Page, number: u64)
+    ensures { out.new.whole ≡ out.old.whole }
 {
     if number < 10 {
-        return out.put_byte(digit(number));
-    }
-    if number < 1000 {
-        return put_three(out, number);
-    }
-    put_digits(out, number)
-}
-
-/// The last digit of a number.
-fn digit(number: u64) -> u8 {
-    b'0' + (number % 10) as u8
-}
-
-/// The same, for numbers of two and of three digits.
-fn put_three(out: &mut Page, number: u64) -> Result<(), AllocError>
-    ensures { OnOk result (out.new.whole ≡ out.old.whole) }
-{
-    let digits = [digit(number / 100), digit(number / 10), digit(number)];
-    if number < 100 {
-        out.put(&digits[1..])
+        out.put_byte(b'0' + (number % 10) as u8);
+    } else if number < EIGHT_DIGITS {
+        put_eight(out, number);
     } else {
-        out.put(&digits)
+        put_digits(out, number);
     }
 }
 
-/// The same, for longer ones.
-fn put_digits(out: &mut Page, number: u64) -> Result<(), AllocError>
-    ensures { OnOk result (out.new.whole ≡ out.old.whole) }
+/// The same, for numbers of at most eight digits and not 0.
+fn put_eight(out: &mut Page, number: u64)
+    ensures { out.new.whole ≡ out.old.whole }
 {
-    if number >= EIGHT_DIGITS {
-        put_digits(out, number / EIGHT_DIGITS)?;
-        let digits = digits_of(number % EIGHT_DIGITS) | ZEROS;
-        return out.put(&digits.to_le_bytes());
-    }
     let digits = digits_of(number);
     let zeros = (digits.trailing_zeros() / 8).min(7);
     let text = (digits | ZEROS) >> (8 * zeros);
-    out.put_short(text.to_le_bytes(), zeros as usize)
+    out.put_front(&text.to_le_bytes(), (8 - zeros) as usize);
+}
+
+/// The same, for longer ones: sixteen digits at most, or more in front of sixteen.
+fn put_digits(out: &mut Page, number: u64)
+    ensures { out.new.whole ≡ out.old.whole }
+{
+    if number >= SIXTEEN_DIGITS {
+        put_eight(out, number / SIXTEEN_DIGITS);
+        out.put(&sixteen_of(number % SIXTEEN_DIGITS, 0).to_le_bytes());
+        return;
+    }
+    let zeros = (digits_of(number / EIGHT_DIGITS).trailing_zeros() / 8).min(7);
+    out.put_front(
+        &sixteen_of(number, zeros).to_le_bytes(),
+        (16 - zeros) as usize,
+    );
+}
+
+/// The text of sixteen digits, its first byte the lowest, behind so many zeros that are left out.
+fn sixteen_of(number: u64, zeros: u32) -> u128
+    requires { zeros ≤ 7 }
+{
+    let front = digits_of(number / EIGHT_DIGITS) | ZEROS;
+    let last = digits_of(number % EIGHT_DIGITS) | ZEROS;
+    (u128::from(front) | u128::from(last) << 64) >> (8 * zeros)
 }
 
 /// The eight digits of a number below [`EIGHT_DIGITS`], one a byte, the first in the lowest: the number is cut
@@ -79,8 +88,8 @@ fn digits_of(number: u64) -> u64 {
 }
 
 /// Appends a number of so many bytes in two's complement.
-pub fn put_signed(out: &mut Page, width: usize, number: u64) -> Result<(), AllocError>
-    ensures { OnOk result (out.new.whole ≡ out.old.whole) }
+pub fn put_signed(out: &mut Page, width: usize, number: u64)
+    ensures { out.new.whole ≡ out.old.whole }
 {
     let half = match width {
         1 => 0x80,
@@ -89,54 +98,54 @@ pub fn put_signed(out: &mut Page, width: usize, number: u64) -> Result<(), Alloc
         _ => 0x8000_0000_0000_0000_u64,
     };
     if number < half {
-        return put_number(out, number);
+        put_number(out, number);
+    } else {
+        out.put_byte(b'-');
+        put_number(out, half.saturating_sub(number - half));
     }
-    out.put_byte(b'-')?;
-    put_number(out, half.saturating_sub(number - half))
 }
 
 /// Appends bytes in lower-case hex.
-pub fn put_hex(out: &mut Page, bytes: &[u8]) -> Result<(), AllocError>
-    ensures { OnOk result (out.new.whole ≡ out.old.whole) }
+pub fn put_hex(out: &mut Page, bytes: &[u8])
+    ensures { out.new.whole ≡ out.old.whole }
 {
     if bytes.len() <= FEW {
-        return put_few(out, bytes);
+        put_few(out, bytes);
+        return;
     }
     for run in bytes.chunks(RUN) {
-        put_run(out, run)?;
+        put_run(out, run);
     }
-    Ok(())
 }
 
 /// Appends two digits for each byte, four bytes at a time.
-fn put_few(out: &mut Page, bytes: &[u8]) -> Result<(), AllocError>
-    ensures { OnOk result (out.new.whole ≡ out.old.whole) }
+fn put_few(out: &mut Page, bytes: &[u8])
+    ensures { out.new.whole ≡ out.old.whole }
 {
     for four in bytes.chunks(4) {
-        put_four(out, four)?;
+        put_four(out, four);
     }
-    Ok(())
 }
 
-/// Appends two digits for each of at most four bytes, those of four at once.
+/// Appends two digits for each of at most four bytes.
 #[inline(always)]
-fn put_four(out: &mut Page, bytes: &[u8]) -> Result<(), AllocError>
-    ensures { OnOk result (out.new.whole ≡ out.old.whole) }
+fn put_four(out: &mut Page, bytes: &[u8])
+    ensures { out.new.whole ≡ out.old.whole }
 {
-    if let [a, b, c, d] = *bytes {
-        let ([a, e], [b, f], [c, g], [d, h]) = (hex_of(a), hex_of(b), hex_of(c), hex_of(d));
-        return out.put(&[a, e, b, f, c, g, d, h]);
-    }
-    for byte in bytes {
-        out.put(&hex_of(*byte))?;
-    }
-    Ok(())
+    let four = match *bytes {
+        [a, b, c, d] => [a, b, c, d],
+        [a, b, c] => [a, b, c, 0],
+        [a, b] => [a, b, 0, 0],
+        [a] => [a, 0, 0, 0],
+        _ => return,
+    };
+    out.put_front(&hex_of(four), bytes.len().saturating_mul(2));
 }
 
 /// Appends two digits for each of at most [`RUN`] bytes.
-fn put_run(out: &mut Page, bytes: &[u8]) -> Result<(), AllocError>
+fn put_run(out: &mut Page, bytes: &[u8])
     requires { length bytes.now ≤ RUN }
-    ensures { OnOk result (out.new.whole ≡ out.old.whole) }
+    ensures { out.new.whole ≡ out.old.whole }
 {
     let mut room = [0u8; 2 * RUN];
     let digits = &mut room[..2 * bytes.len()];
@@ -147,66 +156,102 @@ fn put_run(out: &mut Page, bytes: &[u8]) -> Result<(), AllocError>
 }
 
 /// Appends the hyphenated form of a uuid's 16 bytes, and nothing of any other number of bytes.
-pub fn put_uuid(out: &mut Page, bytes: &[u8]) -> Result<(), AllocError>
-    ensures { OnOk result (out.new.whole ≡ out.old.whole) }
+pub fn put_uuid(out: &mut Page, bytes: &[u8])
+    ensures { out.new.whole ≡ out.old.whole }
 {
     let Ok(id) = Uuid::from_slice(bytes) else {
-        return Ok(());
+        return;
     };
     let mut room = Uuid::encode_buffer();
-    out.put(id.hyphenated().encode_lower(&mut room).as_bytes())
+    out.put(id.hyphenated().encode_lower(&mut room).as_bytes());
 }
 
 /// Appends `"bytes"`. Printable ASCII stands for itself, but a quote, a backslash and every other byte are
 /// written as `\x` and two hex digits.
-pub fn put_quoted(out: &mut Page, bytes: &[u8]) -> Result<(), AllocError>
-    ensures { OnOk result (out.new.whole ≡ out.old.whole) }
+pub fn put_quoted(out: &mut Page, bytes: &[u8])
+    ensures { out.new.whole ≡ out.old.whole }
 {
-    out.put_byte(b'"')?;
-    let mut at = 0;
-    while at < bytes.len() {
-        let plain = plain_len(&bytes[at..]);
-        out.put(&bytes[at..at + plain])?;
-        at += plain;
-        if at < bytes.len() {
-            out.put(&escaped(bytes[at]))?;
-            at += 1;
+    out.put_byte(b'"');
+    if are_plain(bytes) {
+        out.put(bytes);
+    } else {
+        put_escaped(out, bytes);
+    }
+    out.put_byte(b'"');
+}
+
+/// Whether all bytes stand for themselves.
+#[inline(always)]
+fn are_plain(bytes: &[u8]) -> bool {
+    let (words, rest) = bytes.as_chunks::<8>();
+    let mut flags = 0;
+    for word in words {
+        flags |= flags_of(u64::from_le_bytes(*word));
+    }
+    let rest = rest
+        .iter()
+        .fold(SPACES, |word, byte| word << 8 | u64::from(*byte));
+    flags | flags_of(rest) == 0
+}
+
+/// Appends bytes of which some do not stand for themselves.
+#[inline(never)]
+fn put_escaped(out: &mut Page, bytes: &[u8])
+    ensures { out.new.whole ≡ out.old.whole }
+{
+    for eight in bytes.chunks(8) {
+        if are_plain(eight) {
+            out.put(eight);
+        } else {
+            put_each(out, eight);
         }
     }
-    out.put_byte(b'"')
 }
 
-/// How many bytes at the front stand for themselves.
-fn plain_len(bytes: &[u8]) -> usize
-    ensures { result ≤ length bytes.now }
+/// The same, byte by byte.
+fn put_each(out: &mut Page, bytes: &[u8])
+    ensures { out.new.whole ≡ out.old.whole }
 {
-    match bytes.iter().position(|byte| !is_plain(*byte)) {
-        Some(len) => len,
-        None => bytes.len(),
+    for byte in bytes {
+        if flags_of(u64::from(*byte) | SPACES << 8) == 0 {
+            out.put_byte(*byte);
+        } else {
+            let [high, low, ..] = hex_of([*byte, 0, 0, 0]);
+            out.put(&[b'\\', b'x', high, low]);
+        }
     }
 }
 
-/// Whether a byte stands for itself in a quoted text.
-fn is_plain(byte: u8) -> bool {
-    matches!(byte, 0x20..=0x7e) && byte != b'"' && byte != b'\\'
+/// Whether some of eight bytes don't stand for themselves: those that are no printable ASCII, a quote and a backslash. 0 where
+/// all do.
+fn flags_of(word: u64) -> u64 {
+    let controls = word.wrapping_sub(SPACES);
+    let delete = word.wrapping_add(ONES);
+    let quotes = (word ^ (ONES * 0x22)).wrapping_sub(ONES);
+    let backslashes = (word ^ (ONES * 0x5c)).wrapping_sub(ONES);
+    (controls | delete | quotes | backslashes | word) & HIGH_BITS
 }
 
-/// `\x` and the two digits of a byte.
-fn escaped(byte: u8) -> [u8; 4] {
-    let [high, low] = hex_of(byte);
-    [b'\\', b'x', high, low]
-}
-
-/// The two hex digits of a byte.
-fn hex_of(byte: u8) -> [u8; 2] {
-    [HEX[usize::from(byte / 16)], HEX[usize::from(byte % 16)]]
+/// The eight hex digits of four bytes: their halves, the first in the lowest byte, of which those above 9 become letters.
+fn hex_of(bytes: [u8; 4]) -> [u8; 8] {
+    let word = u32::from_le_bytes(bytes) as u64;
+    let pairs = (word | word << 16) & 0x0000_ffff_0000_ffff;
+    let bytes = (pairs | pairs << 8) & 0x00ff_00ff_00ff_00ff;
+    let halves = (bytes >> 4 | bytes << 8) & 0x0f0f_0f0f_0f0f_0f0f;
+    let letters = (halves.wrapping_add(0x0606_0606_0606_0606) >> 4) & 0x0101_0101_0101_0101;
+    let digits = halves | ZEROS;
+    digits
+        .wrapping_add(letters.wrapping_mul(0x27))
+        .to_le_bytes()
 }
 
 /// The number in the bytes, big-endian; of more than eight the last ones count.
 pub fn number_in(bytes: &[u8]) -> u64 {
     match *bytes {
         [a] => u64::from(a),
+        [a, b] => u64::from(u16::from_be_bytes([a, b])),
         [a, b, c, d] => u64::from(u32::from_be_bytes([a, b, c, d])),
+        [a, b, c, d, e, f, g, h] => u64::from_be_bytes([a, b, c, d, e, f, g, h]),
         _ => bytes
             .iter()
             .fold(0u64, |number, byte| (number << 8) | u64::from(*byte)),

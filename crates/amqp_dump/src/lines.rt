@@ -12,86 +12,68 @@ use crate::text::put_value;
 use amqp_perform::Descriptor;
 use std::alloc::AllocError;
 
-/// How many bytes are reserved for a line, the value aside.
-const LINE: usize = 256;
-
-/// How many bytes of a line one byte of a string or of a binary takes at most.
-const BYTES_PER_BYTE: usize = 4;
-
 /// Appends the line of a unit or a fault, with its newline.
 pub fn put_line(out: &mut Page, item: &Scanned<'_>) -> Result<(), AllocError>
     requires { out.old.begun ≡ [] }
     ensures { OnOk result (PutsLine (entry_of item.now) out.old out.new) }
 {
-    out.reserve(room_for(item))?;
     match item {
-        Scanned::Header => out.put(b"header id=0 version=1.0.0")?,
-        Scanned::Frame(frame) => put_frame(out, frame)?,
-        Scanned::Fault(place, fault) => put_fault(out, *place, *fault)?,
+        Scanned::Header => out.put(b"header id=0 version=1.0.0"),
+        Scanned::Frame(frame) => put_frame(out, frame),
+        Scanned::Fault(place, fault) => put_fault(out, *place, *fault),
     }
     out.end_line()
 }
 
-/// The room for a line in which no string or binary makes it grow.
-fn room_for(item: &Scanned<'_>) -> usize {
-    match item {
-        Scanned::Frame(frame) => {
-            let value = frame.body.len().saturating_sub(frame.payload);
-            LINE.saturating_add(value.saturating_mul(BYTES_PER_BYTE))
-        }
-        _ => LINE,
-    }
-}
-
 /// Appends `PLACE size=N channel=C`, and then ` empty` or what the body says.
-fn put_frame(out: &mut Page, frame: &ScannedFrame<'_>) -> Result<(), AllocError>
-    ensures { OnOk result (out.new.whole ≡ out.old.whole) }
+fn put_frame(out: &mut Page, frame: &ScannedFrame<'_>)
+    ensures { out.new.whole ≡ out.old.whole }
 {
-    put_number(out, frame.place as u64)?;
-    out.put(b" size=")?;
-    put_number(out, frame.size as u64)?;
-    out.put(b" channel=")?;
-    put_number(out, u64::from(frame.channel))?;
+    put_number(out, frame.place as u64);
+    out.put(b" size=");
+    put_number(out, frame.size as u64);
+    out.put(b" channel=");
+    put_number(out, u64::from(frame.channel));
     if frame.body.is_empty() {
-        return out.put(b" empty");
+        out.put(b" empty");
+    } else {
+        put_body(out, frame);
     }
-    put_body(out, frame)
 }
 
 /// Appends the value at the front of a body and the length of what follows it: a performative as its name and
 /// its list, with ` invalid` at the end where a field is, any other value behind `value`.
-fn put_body(out: &mut Page, frame: &ScannedFrame<'_>) -> Result<(), AllocError>
-    ensures { OnOk result (out.new.whole ≡ out.old.whole) }
+fn put_body(out: &mut Page, frame: &ScannedFrame<'_>)
+    ensures { out.new.whole ≡ out.old.whole }
 {
     let performative = named_list(frame.body);
     let (name, shown) = performative.unwrap_or(("value", frame.body));
-    out.put_byte(b' ')?;
-    out.put(name.as_bytes())?;
-    out.put_byte(b' ')?;
-    put_value(out, LIMITS.depth, shown)?;
-    put_payload(out, frame.payload)?;
+    out.put_byte(b' ');
+    out.put(name.as_bytes());
+    out.put_byte(b' ');
+    put_value(out, LIMITS.depth, shown);
+    put_payload(out, frame.payload);
     if performative.is_some() && !frame.is_performative {
-        out.put(b" invalid")?;
+        out.put(b" invalid");
     }
-    Ok(())
 }
 
 /// Appends ` payload=N`.
-fn put_payload(out: &mut Page, payload: usize) -> Result<(), AllocError>
-    ensures { OnOk result (out.new.whole ≡ out.old.whole) }
+fn put_payload(out: &mut Page, payload: usize)
+    ensures { out.new.whole ≡ out.old.whole }
 {
-    out.put(b" payload=")?;
-    put_number(out, payload as u64)
+    out.put(b" payload=");
+    put_number(out, payload as u64);
 }
 
 /// Appends `fault: PLACE NAME`.
-fn put_fault(out: &mut Page, place: usize, fault: StreamFault) -> Result<(), AllocError>
-    ensures { OnOk result (out.new.whole ≡ out.old.whole) }
+fn put_fault(out: &mut Page, place: usize, fault: StreamFault)
+    ensures { out.new.whole ≡ out.old.whole }
 {
-    out.put(b"fault: ")?;
-    put_number(out, place as u64)?;
-    out.put_byte(b' ')?;
-    out.put(name_of(fault).as_bytes())
+    out.put(b"fault: ");
+    put_number(out, place as u64);
+    out.put_byte(b' ');
+    out.put(name_of(fault).as_bytes());
 }
 
 /// The name of the performative that describes the value at the front, and the bytes from its list on; none where

@@ -1,14 +1,25 @@
 //! The buffer that lines are put into and written from.
 
+ghost use Rattle.std.specs.Prelude.{◌≡◌, ◌≤◌, ◌+◌, ◌++◌, ℕ, length, take, IsTrue};
+
 use std::alloc::{AllocError, Global};
 use std::marker::Model;
 
-/// Lines that wait to be written, and the beginning of the next one behind them.
+/// How many bytes the buffer is lengthened by at least.
+const STEP: usize = 4096;
+
+/// Lines that wait to be written, and the beginning of the next one behind them. What is put into a line answers nothing: where
+/// memory was refused for some of it the line gets no end.
 #[derive(Drop)]
 pub struct Page {
+    /// What is put stands at its front, and zeros or old bytes behind it.
     bytes: Vec<u8>,
+    /// Where the last thing that was put ends.
+    len: usize,
     /// Where the line begins that has no end yet.
     end: usize,
+    /// Memory was refused for something that was put into that line.
+    lacks: bool,
 }
 
 impl Model for Page {
@@ -17,9 +28,9 @@ impl Model for Page {
 
     ghost Value = { pages.Page };
 
-    ghost view = { λ page. record { whole = take page.end page.bytes.items; begun = drop page.end page.bytes.items } };
+    ghost view = { λ page. record { whole = take page.end page.bytes.items; begun = drop page.end (take page.len page.bytes.items) } };
 
-    ghost invariant = { λ page. page.end ≤ length page.bytes.items };
+    ghost invariant = { λ page. (page.end ≤ page.len) × (page.len ≤ length page.bytes.items) };
 }
 
 impl Page {
@@ -31,43 +42,41 @@ impl Page {
         ensures begun { IfOk result (λ page. page.begun ≡ []) }
     {
         Ok(Page {
-            bytes: Vec::with_capacity(alloc, capacity)?,
+            bytes: Vec::from_elem(alloc, 0, capacity)?,
+            len: 0,
             end: 0,
+            lacks: false,
         })
-    }
-
-    /// Makes room for so many bytes more.
-    pub fn reserve(&mut self, more: usize) -> Result<(), AllocError>
-        ensures { self.new ≡ self.old }
-    {
-        self.bytes.reserve(more)
     }
 
     /// Puts bytes into the line.
     #[inline(always)]
-    pub fn put(&mut self, text: &[u8]) -> Result<(), AllocError>
+    pub fn put(&mut self, text: &[u8])
         ensures { self.new.whole ≡ self.old.whole }
     {
-        self.bytes.extend_from_slice(text)
+        self.put_front(text, text.len());
     }
 
-    /// Puts the bytes of a short text into the line, but for the last ones, which are `spare`.
+    /// Puts the first `len` bytes of a text into the line, or all where they are fewer. The others are copied too, and written
+    /// over: a text whose length the compiler knows is then copied without a loop and a call.
     #[inline(always)]
-    pub fn put_short(&mut self, text: [u8; 8], spare: usize) -> Result<(), AllocError>
+    pub fn put_front(&mut self, text: &[u8], len: usize)
         ensures { self.new.whole ≡ self.old.whole }
     {
-        self.bytes.extend_from_slice(&text)?;
-        self.bytes.truncate(self.bytes.len() - spare.min(8));
-        Ok(())
+        if !has_room(&mut self.bytes, self.len, text.len()) {
+            self.lacks = true;
+            return;
+        }
+        put_at(self.bytes.as_mut_slice(), self.len, text);
+        self.len += len.min(text.len());
     }
 
     /// Puts a byte into the line.
     #[inline(always)]
-    pub fn put_byte(&mut self, byte: u8) -> Result<(), AllocError>
+    pub fn put_byte(&mut self, byte: u8)
         ensures { self.new.whole ≡ self.old.whole }
     {
-        self.bytes.push(byte)?;
-        Ok(())
+        self.put(&[byte]);
     }
 
     /// Puts a newline, which ends the line.
@@ -75,14 +84,18 @@ impl Page {
         ensures whole { OnOk result (self.new.whole ≡ self.old.whole ++ (self.old.begun ++ 10 ∷ [])) }
         ensures begun { OnOk result (self.new.begun ≡ []) }
     {
-        self.bytes.push(b'\n')?;
-        self.end = self.bytes.len();
+        if self.lacks || !has_room(&mut self.bytes, self.len, 1) {
+            return Err(AllocError);
+        }
+        put_at(self.bytes.as_mut_slice(), self.len, b"\n");
+        self.len += 1;
+        self.end = self.len;
         Ok(())
     }
 
     /// How many bytes wait, those of a line without an end among them.
     pub fn len(&self) -> usize {
-        self.bytes.len()
+        self.len
     }
 
     /// The whole lines.
@@ -97,7 +110,44 @@ impl Page {
         ensures whole { self.new.whole ≡ [] }
         ensures begun { self.new.begun ≡ [] }
     {
-        self.bytes.clear();
+        self.len = 0;
         self.end = 0;
     }
+}
+
+/// Whether there is room for so many bytes behind the first `len`, which is made where it is lacking.
+#[inline(always)]
+fn has_room(bytes: &mut Vec<u8>, len: usize, more: usize) -> bool
+    requires { len ≤ length bytes.old.items }
+    ensures kept { (n : ℕ) → n ≤ len → take n bytes.new.items ≡ take n bytes.old.items }
+    ensures within { len ≤ length bytes.new.items }
+    ensures room { IsTrue result → len + more ≤ length bytes.new.items }
+{
+    more <= bytes.len() - len || lengthen(bytes, len, more)
+}
+
+/// Makes room for so many bytes behind the first `len`, and for some more. False where memory was refused.
+#[cold]
+#[inline(never)]
+fn lengthen(bytes: &mut Vec<u8>, len: usize, more: usize) -> bool
+    requires short { len ≤ length bytes.old.items }
+    requires lacking { length bytes.old.items ≤ len + more }
+    ensures kept { (n : ℕ) → n ≤ len → take n bytes.new.items ≡ take n bytes.old.items }
+    ensures within { len ≤ length bytes.new.items }
+    ensures room { IsTrue result → len + more ≤ length bytes.new.items }
+{
+    let Some(room) = len.checked_add(more) else {
+        return false;
+    };
+    bytes.resize(room.saturating_add(STEP), 0).is_ok()
+}
+
+/// Puts bytes at their place.
+#[inline(always)]
+fn put_at(out: &mut [u8], at: usize, bytes: &[u8])
+    requires { at + length bytes.now ≤ length out.old }
+    ensures kept { (n : ℕ) → n ≤ at → take n out.new ≡ take n out.old }
+    ensures put { take (at + length bytes.now) out.new ≡ take at out.old ++ bytes.now }
+{
+    out[at..at + bytes.len()].copy_from_slice(bytes);
 }

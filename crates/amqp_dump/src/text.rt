@@ -3,11 +3,10 @@
 //! A value is printed from its bytes, which are known to spell one: of other bytes nothing is said. What a call
 //! answers are the bytes behind what it printed. Lines that wait stay as they are.
 
-ghost use Rattle.std.specs.Prelude.{◌≡◌, ◌≤◌, length, OnOk};
+ghost use Rattle.std.specs.Prelude.{◌≡◌, ◌≤◌, length};
 
 use crate::digits::{number_in, put_hex, put_number, put_quoted, put_signed, put_uuid};
 use crate::page::Page;
-use std::alloc::AllocError;
 
 /// Appends the text of the value at the front.
 ///
@@ -16,15 +15,13 @@ use std::alloc::AllocError;
 /// form, and strings and symbols stand in quotes. Null, true and false have no name. A list is `[a, b]`, a
 /// map `{k=v, k=v}`, an array `array:KIND[a, b]` with `@D ` before KIND for each descriptor D, outermost
 /// first, and a described value `@D(V)`.
-///
-/// Where memory is refused, a beginning of the text may stand in `out`.
 #[cycle(text)]
 #[inline(always)]
-pub fn put_value<'a>(out: &mut Page, depth: usize, bytes: &'a [u8]) -> Result<&'a [u8], AllocError>
-    ensures { OnOk result (out.new.whole ≡ out.old.whole) }
+pub fn put_value<'a>(out: &mut Page, depth: usize, bytes: &'a [u8]) -> &'a [u8]
+    ensures { out.new.whole ≡ out.old.whole }
 {
     let Some((code, rest)) = bytes.split_first() else {
-        return Ok(bytes);
+        return bytes;
     };
     if *code == 0 {
         return put_described(out, depth, rest);
@@ -34,38 +31,43 @@ pub fn put_value<'a>(out: &mut Page, depth: usize, bytes: &'a [u8]) -> Result<&'
 
 /// Appends `@D(V)`.
 #[cycle(text)]
-fn put_described<'a>(out: &mut Page, depth: usize, bytes: &'a [u8]) -> Result<&'a [u8], AllocError>
-    ensures { OnOk result (out.new.whole ≡ out.old.whole) }
+fn put_described<'a>(out: &mut Page, depth: usize, bytes: &'a [u8]) -> &'a [u8]
+    ensures { out.new.whole ≡ out.old.whole }
 {
     if depth == 0 {
-        return Ok(bytes);
+        return bytes;
     }
-    out.put_byte(b'@')?;
-    let described = put_value(out, depth - 1, bytes)?;
-    out.put_byte(b'(')?;
-    let rest = put_value(out, depth - 1, described)?;
-    out.put_byte(b')')?;
-    Ok(rest)
+    out.put_byte(b'@');
+    let described = put_value(out, depth - 1, bytes);
+    out.put_byte(b'(');
+    let rest = put_value(out, depth - 1, described);
+    out.put_byte(b')');
+    rest
 }
 
 /// Appends the text of the value whose data stand behind the code. [1.6]
 #[cycle(text)]
-fn put_data<'a>(
-    out: &mut Page,
-    depth: usize,
-    code: u8,
-    bytes: &'a [u8],
-) -> Result<&'a [u8], AllocError>
-    ensures { OnOk result (out.new.whole ≡ out.old.whole) }
+#[inline(always)]
+fn put_data<'a>(out: &mut Page, depth: usize, code: u8, bytes: &'a [u8]) -> &'a [u8]
+    ensures { out.new.whole ≡ out.old.whole }
+{
+    match code {
+        0x40..=0xbf => put_plain(out, code, bytes),
+        _ => put_parts(out, depth, code, width_of(code), bytes),
+    }
+}
+
+/// The same of a value that holds no others.
+fn put_plain<'a>(out: &mut Page, code: u8, bytes: &'a [u8]) -> &'a [u8]
+    ensures { out.new.whole ≡ out.old.whole }
 {
     match code {
         0x40..=0x4f => {
-            put_empty(out, code)?;
-            Ok(bytes)
+            put_empty(out, code);
+            bytes
         }
         0x56 => put_boolean(out, bytes),
-        0x50..=0xbf => put_scalar(out, code, width_of(code), bytes),
-        _ => put_parts(out, depth, code, width_of(code), bytes),
+        _ => put_scalar(out, code, bytes),
     }
 }
 
@@ -82,17 +84,11 @@ fn width_of(code: u8) -> usize {
 
 /// Appends the text of a list, a map or an array, whose size and count have that width.
 #[cycle(text)]
-fn put_parts<'a>(
-    out: &mut Page,
-    depth: usize,
-    code: u8,
-    width: usize,
-    bytes: &'a [u8],
-) -> Result<&'a [u8], AllocError>
-    ensures { OnOk result (out.new.whole ≡ out.old.whole) }
+fn put_parts<'a>(out: &mut Page, depth: usize, code: u8, width: usize, bytes: &'a [u8]) -> &'a [u8]
+    ensures { out.new.whole ≡ out.old.whole }
 {
     if depth == 0 {
-        return Ok(bytes);
+        return bytes;
     }
     let (_size, body) = front(bytes, width);
     let (count, parts) = front(body, width);
@@ -106,66 +102,52 @@ fn put_parts<'a>(
 
 /// Appends `{k=v, k=v}`.
 #[cycle(text)]
-fn put_map<'a>(
-    out: &mut Page,
-    depth: usize,
-    count: usize,
-    bytes: &'a [u8],
-) -> Result<&'a [u8], AllocError>
-    ensures { OnOk result (out.new.whole ≡ out.old.whole) }
+fn put_map<'a>(out: &mut Page, depth: usize, count: usize, bytes: &'a [u8]) -> &'a [u8]
+    ensures { out.new.whole ≡ out.old.whole }
 {
-    out.put_byte(b'{')?;
+    out.put_byte(b'{');
     let mut rest = bytes;
     for i in 0..count {
         if i > 0 {
-            out.put(b", ")?;
+            out.put(b", ");
         }
-        let value = put_value(out, depth, rest)?;
-        out.put_byte(b'=')?;
-        rest = put_value(out, depth, value)?;
+        let value = put_value(out, depth, rest);
+        out.put_byte(b'=');
+        rest = put_value(out, depth, value);
     }
-    out.put_byte(b'}')?;
-    Ok(rest)
+    out.put_byte(b'}');
+    rest
 }
 
 /// Appends `array:`, `@D ` for each descriptor, the name of the items' kind and `[a, b]`.
 #[cycle(text)]
-fn put_array<'a>(
-    out: &mut Page,
-    depth: usize,
-    count: usize,
-    bytes: &'a [u8],
-) -> Result<&'a [u8], AllocError>
-    ensures { OnOk result (out.new.whole ≡ out.old.whole) }
+fn put_array<'a>(out: &mut Page, depth: usize, count: usize, bytes: &'a [u8]) -> &'a [u8]
+    ensures { out.new.whole ≡ out.old.whole }
 {
-    out.put(b"array:")?;
-    let element = put_descriptors(out, depth, bytes)?;
+    out.put(b"array:");
+    let element = put_descriptors(out, depth, bytes);
     let Some((code, items)) = element.split_first() else {
-        return Ok(element);
+        return element;
     };
-    put_kind(out, *code)?;
+    put_kind(out, *code);
     put_items(out, depth, Some(*code), count, items)
 }
 
 /// Appends `@D ` for each descriptor in front of an element constructor.
 #[cycle(text)]
-fn put_descriptors<'a>(
-    out: &mut Page,
-    depth: usize,
-    bytes: &'a [u8],
-) -> Result<&'a [u8], AllocError>
-    ensures { OnOk result (out.new.whole ≡ out.old.whole) }
+fn put_descriptors<'a>(out: &mut Page, depth: usize, bytes: &'a [u8]) -> &'a [u8]
+    ensures { out.new.whole ≡ out.old.whole }
 {
     let mut rest = bytes;
     for _ in 0..bytes.len() {
         let Some((0, descriptor)) = rest.split_first() else {
             break;
         };
-        out.put_byte(b'@')?;
-        rest = put_value(out, depth, descriptor)?;
-        out.put_byte(b' ')?;
+        out.put_byte(b'@');
+        rest = put_value(out, depth, descriptor);
+        out.put_byte(b' ');
     }
-    Ok(rest)
+    rest
 }
 
 /// Appends `[a, b]`. The items of an array have no codes of their own, but one for all.
@@ -176,77 +158,73 @@ fn put_items<'a>(
     code: Option<u8>,
     count: usize,
     bytes: &'a [u8],
-) -> Result<&'a [u8], AllocError>
-    ensures { OnOk result (out.new.whole ≡ out.old.whole) }
+) -> &'a [u8]
+    ensures { out.new.whole ≡ out.old.whole }
 {
-    out.put_byte(b'[')?;
+    out.put_byte(b'[');
     let mut rest = bytes;
     for i in 0..count {
         if i > 0 {
-            out.put(b", ")?;
+            out.put(b", ");
         }
         rest = match code {
-            Some(code) => put_data(out, depth, code, rest)?,
-            None => put_value(out, depth, rest)?,
+            Some(code) => put_data(out, depth, code, rest),
+            None => put_value(out, depth, rest),
         };
     }
-    out.put_byte(b']')?;
-    Ok(rest)
+    out.put_byte(b']');
+    rest
 }
 
 /// Appends the text of a value that has no data.
 #[inline(always)]
-fn put_empty(out: &mut Page, code: u8) -> Result<(), AllocError>
-    ensures { OnOk result (out.new.whole ≡ out.old.whole) }
+fn put_empty(out: &mut Page, code: u8)
+    ensures { out.new.whole ≡ out.old.whole }
 {
-    match code {
-        0x41 => out.put(b"true"),
-        0x42 => out.put(b"false"),
-        0x43 => out.put(b"uint:0"),
-        0x44 => out.put(b"ulong:0"),
-        0x45 => out.put(b"[]"),
-        _ => out.put(b"null"),
-    }
+    let (text, len) = match code {
+        0x41 => (b"true    ", 4),
+        0x42 => (b"false   ", 5),
+        0x43 => (b"uint:0  ", 6),
+        0x44 => (b"ulong:0 ", 7),
+        0x45 => (b"[]      ", 2),
+        _ => (b"null    ", 4),
+    };
+    out.put_front(text, len);
 }
 
 /// Appends the text of a boolean in a byte.
-fn put_boolean<'a>(out: &mut Page, bytes: &'a [u8]) -> Result<&'a [u8], AllocError>
-    ensures { OnOk result (out.new.whole ≡ out.old.whole) }
+fn put_boolean<'a>(out: &mut Page, bytes: &'a [u8]) -> &'a [u8]
+    ensures { out.new.whole ≡ out.old.whole }
 {
     let (data, rest) = front(bytes, 1);
-    put_empty(out, if number_in(data) == 1 { 0x41 } else { 0x42 })?;
-    Ok(rest)
+    put_empty(out, if number_in(data) == 1 { 0x41 } else { 0x42 });
+    rest
 }
 
-/// Appends the name of a value's kind, a colon and its content. The data, or their size, have that width.
+/// Appends the name of a value's kind, a colon and its content. Behind the code stand the data, or their size.
 #[inline(always)]
-fn put_scalar<'a>(
-    out: &mut Page,
-    code: u8,
-    width: usize,
-    bytes: &'a [u8],
-) -> Result<&'a [u8], AllocError>
-    ensures { OnOk result (out.new.whole ≡ out.old.whole) }
+fn put_scalar<'a>(out: &mut Page, code: u8, bytes: &'a [u8]) -> &'a [u8]
+    ensures { out.new.whole ≡ out.old.whole }
 {
-    put_kind(out, code)?;
-    out.put_byte(b':')?;
-    let (data, rest) = front(bytes, width);
+    let (name, len) = kind_of(code);
+    out.put_front(name, len.saturating_add(1));
+    let (data, rest) = front(bytes, width_of(code));
     if code < 0xa0 {
-        put_fixed(out, code, data)?;
-        return Ok(rest);
+        put_fixed(out, code, data);
+        return rest;
     }
     let (octets, rest) = front(rest, number_in(data) as usize);
     match code {
-        0xa0 | 0xb0 => put_hex(out, octets)?,
-        _ => put_quoted(out, octets)?,
+        0xa0 | 0xb0 => put_hex(out, octets),
+        _ => put_quoted(out, octets),
     }
-    Ok(rest)
+    rest
 }
 
 /// Appends the content of a value whose data are of fixed width.
 #[inline(always)]
-fn put_fixed(out: &mut Page, code: u8, data: &[u8]) -> Result<(), AllocError>
-    ensures { OnOk result (out.new.whole ≡ out.old.whole) }
+fn put_fixed(out: &mut Page, code: u8, data: &[u8])
+    ensures { out.new.whole ≡ out.old.whole }
 {
     match code {
         0x72 | 0x73 | 0x74 | 0x82 | 0x84 | 0x94 => put_hex(out, data),
@@ -258,36 +236,42 @@ fn put_fixed(out: &mut Page, code: u8, data: &[u8]) -> Result<(), AllocError>
     }
 }
 
-/// Appends the name of the kind that a code makes. [1.6]
-fn put_kind(out: &mut Page, code: u8) -> Result<(), AllocError>
-    ensures { OnOk result (out.new.whole ≡ out.old.whole) }
+/// Appends the name of the kind that a code makes.
+fn put_kind(out: &mut Page, code: u8)
+    ensures { out.new.whole ≡ out.old.whole }
 {
+    let (name, len) = kind_of(code);
+    out.put_front(name, len);
+}
+
+/// The name of the kind that a code makes, with a colon behind it, and how many bytes the name has. [1.6]
+fn kind_of(code: u8) -> (&'static [u8; 16], usize) {
     match code {
-        0x40 => out.put(b"null"),
-        0x41 | 0x42 | 0x56 => out.put(b"boolean"),
-        0x50 => out.put(b"ubyte"),
-        0x60 => out.put(b"ushort"),
-        0x43 | 0x52 | 0x70 => out.put(b"uint"),
-        0x44 | 0x53 | 0x80 => out.put(b"ulong"),
-        0x51 => out.put(b"byte"),
-        0x61 => out.put(b"short"),
-        0x54 | 0x71 => out.put(b"int"),
-        0x55 | 0x81 => out.put(b"long"),
-        0x72 => out.put(b"float"),
-        0x82 => out.put(b"double"),
-        0x74 => out.put(b"decimal32"),
-        0x84 => out.put(b"decimal64"),
-        0x94 => out.put(b"decimal128"),
-        0x73 => out.put(b"char"),
-        0x83 => out.put(b"timestamp"),
-        0x98 => out.put(b"uuid"),
-        0xa0 | 0xb0 => out.put(b"binary"),
-        0xa1 | 0xb1 => out.put(b"string"),
-        0xa3 | 0xb3 => out.put(b"symbol"),
-        0x45 | 0xc0 | 0xd0 => out.put(b"list"),
-        0xc1 | 0xd1 => out.put(b"map"),
-        0xe0 | 0xf0 => out.put(b"array"),
-        _ => Ok(()),
+        0x40 => (b"null:           ", 4),
+        0x41 | 0x42 | 0x56 => (b"boolean:        ", 7),
+        0x50 => (b"ubyte:          ", 5),
+        0x60 => (b"ushort:         ", 6),
+        0x43 | 0x52 | 0x70 => (b"uint:           ", 4),
+        0x44 | 0x53 | 0x80 => (b"ulong:          ", 5),
+        0x51 => (b"byte:           ", 4),
+        0x61 => (b"short:          ", 5),
+        0x54 | 0x71 => (b"int:            ", 3),
+        0x55 | 0x81 => (b"long:           ", 4),
+        0x72 => (b"float:          ", 5),
+        0x82 => (b"double:         ", 6),
+        0x74 => (b"decimal32:      ", 9),
+        0x84 => (b"decimal64:      ", 9),
+        0x94 => (b"decimal128:     ", 10),
+        0x73 => (b"char:           ", 4),
+        0x83 => (b"timestamp:      ", 9),
+        0x98 => (b"uuid:           ", 4),
+        0xa0 | 0xb0 => (b"binary:         ", 6),
+        0xa1 | 0xb1 => (b"string:         ", 6),
+        0xa3 | 0xb3 => (b"symbol:         ", 6),
+        0x45 | 0xc0 | 0xd0 => (b"list:           ", 4),
+        0xc1 | 0xd1 => (b"map:            ", 3),
+        0xe0 | 0xf0 => (b"array:          ", 5),
+        _ => (b":               ", 0),
     }
 }
 

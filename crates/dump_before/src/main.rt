@@ -1,0 +1,98 @@
+//! Made streams, dumped by `amqp_dump` and by its code of before: what is printed of them is the same. `dump_before COUNT SEED`
+//! makes so many from a number of one's own.
+#![tactic(auto)]
+
+mod before;
+mod made;
+mod numbers;
+
+use crate::numbers::Numbers;
+use amqp_dump::{DumpFault, dump};
+use amqp_frame::Device;
+use std::alloc::{AllocError, AllocFailed, Global};
+use std::{env, io};
+
+/// The streams of the gate.
+const COUNT: u64 = 3_000;
+
+const SEED: u64 = 1;
+
+/// Why the streams were not compared.
+#[derive(Debug, Drop)]
+enum Failure {
+    Io(io::Error),
+    Usage,
+    Dump(DumpFault),
+    /// Of the stream of this number another dump is printed.
+    Differs(u64),
+}
+
+impl From<io::Error> for Failure {
+    fn from(error: io::Error) -> Failure {
+        Failure::Io(error)
+    }
+}
+
+impl From<AllocError> for Failure {
+    fn from(error: AllocError) -> Failure {
+        Failure::Io(error.into())
+    }
+}
+
+/// What came of the streams.
+#[derive(Clone, Copy)]
+struct Came {
+    whole: u64,
+    faults: u64,
+    bytes: u64,
+}
+
+fn main(rt: HostRuntime) -> Result<(), Failure> {
+    let words: Vec<String> = env::args(&rt)?.skip(1).collect(rt.alloc())?;
+    let (count, seed) = match words.as_slice() {
+        [] => (COUNT, SEED),
+        [count, seed] => (number(count)?, number(seed)?),
+        _ => return Err(Failure::Usage),
+    };
+    let mut came = Came {
+        whole: 0,
+        faults: 0,
+        bytes: 0,
+    };
+    for index in 0..count {
+        compare(rt.alloc(), seed.wrapping_add(index), &mut came)?;
+    }
+    let Came {
+        whole,
+        faults,
+        bytes,
+    } = came;
+    println!(rt; "{count} streams: the same; {whole} dumped to their end, {faults} with a fault")?;
+    println!(rt; "{bytes} bytes of lines")?;
+    Ok(())
+}
+
+fn number(word: &String) -> Result<u64, Failure> {
+    word.as_str().parse::<u64>().ok().ok_or(Failure::Usage)
+}
+
+/// Dumps the stream of a number both ways.
+fn compare(alloc: Global, number: u64, came: &mut Came) -> Result<(), Failure> {
+    let stream = made::stream(alloc, &mut Numbers::of(number))?;
+    let mut printed = Vec::new(alloc);
+    let mut reader = Device::new(stream.as_slice());
+    let is_whole = match dump(alloc, &mut reader, &mut Device::new(&mut printed)) {
+        Ok(is_whole) => is_whole,
+        Err(fault) => return Err(Failure::Dump(fault)),
+    };
+    if printed != before::dump(alloc, &stream)? {
+        return Err(Failure::Differs(number));
+    }
+    if is_whole {
+        came.whole = came.whole.wrapping_add(1);
+    } else {
+        came.faults = came.faults.wrapping_add(1);
+    }
+    came.bytes = came.bytes.wrapping_add(printed.len() as u64);
+    Ok(())
+}
