@@ -334,6 +334,7 @@ impl<A: Allocator + Copy> Connection<A> {
 
     #[tactic(auto, using(crate::proofs::Lent::went_on, crate::proofs::Lent::stayed))]
     /// Credit for the link at a handle of the session on a channel. Where it is refused nothing has changed.
+    #[inline(always)]
     pub fn grant(&mut self, channel: u16, handle: u32, n: u32) -> Result<Flow<'static>, CallFault>
         ensures { IsAsked credit_said self.old self.new channel (Grant handle n) result }
     {
@@ -348,6 +349,7 @@ impl<A: Allocator + Copy> Connection<A> {
 
     #[tactic(auto, using(crate::proofs::Lent::went_on, crate::proofs::Lent::stayed))]
     /// What became of a delivery of the session on a channel. Where that is refused nothing has changed.
+    #[inline(always)]
     pub fn settle(
         &mut self,
         channel: u16,

@@ -468,6 +468,7 @@ impl<A: Allocator + Copy> Link<A> {
 }
 
 /// Puts an accepted transfer to its delivery.
+#[inline(always)]
 fn apply<A: Allocator + Copy>(
     alloc: A,
     deliveries: &mut OpenDeliveries<A>,

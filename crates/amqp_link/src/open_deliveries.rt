@@ -60,6 +60,7 @@ impl<A: Allocator + Copy> OpenDeliveries<A> {
 
     /// A delivery begins, with a payload. All the memory that it needs is taken before anything changes: that for it, for
     /// its place among the others, and for the payload.
+    #[inline(always)]
     pub fn begin(&mut self, mut delivery: OpenDelivery<A>, payload: &[u8]) -> Result<(), AllocError>
         requires none { self.old.unfinished ≡ None }
         requires fits { set_bytes self.old + delivery_bytes (delivery_of delivery) + length payload.now < 2 ^ 64 }
@@ -379,6 +380,7 @@ impl<A: Allocator + Copy> OpenDeliveries<A> {
     }
 
     /// Settles those that were handed up.
+    #[inline(always)]
     fn settle_handed_up(&mut self, hint: Hint, settling: Settling) -> usize
         requires { IsHint hint settling.ids.first settling.ids.last self.old.awaiting }
         ensures count { result ≡ count_by (counts settling) self.old.awaiting }

@@ -15,6 +15,7 @@ use std::io::Write;
 
 /// Tops up the windows and the credit of all sessions and their links, by rising channel and handle; where only one session
 /// may lack something, its own. Answers whether nothing is lacking then, which is so unless something was refused.
+#[inline(always)]
 pub fn top_up<A: Allocator + Copy, W: Write + HoldsBack + Drop, S: Write + Drop>(
     endpoint: &mut Endpoint<A>,
     writer: &mut Device<W>,

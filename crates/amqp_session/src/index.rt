@@ -89,6 +89,7 @@ impl<A: Allocator + Copy> Index<A> {
 
     /// What was told of a transfer or a flow of a link, which was this one if it ended, and whose unfinished delivery had
     /// this id.
+    #[inline(always)]
     pub fn transferred(
         &mut self,
         report: Report,
@@ -141,6 +142,7 @@ impl<A: Allocator + Copy> Index<A> {
     }
 
     /// The one with this id is open no longer, if it is closed.
+    #[inline(always)]
     pub fn close(&mut self, id: u32, closed: bool)
         ensures { (q : ℕ) → q < 2 ^ 32 → found self.new q ≡ closed_of closed id q (found self.old q) }
     {
