@@ -489,7 +489,7 @@ fn apply<A: Allocator + Copy>(
     if deliveries.has_unfinished() {
         deliveries.extend(judge::is_settled(transfer), payload)?;
     } else {
-        deliveries.begin(begun(alloc, terms, transfer), payload)?;
+        begin(alloc, deliveries, terms, transfer, payload)?;
     }
     if !transfer.more {
         deliveries.finish();
@@ -497,11 +497,36 @@ fn apply<A: Allocator + Copy>(
     Ok(())
 }
 
-/// The delivery that a transfer begins, with no bytes yet.
-fn begun<A: Allocator + Copy>(alloc: A, terms: &Terms, transfer: &Transfer<'_>) -> OpenDelivery<A>
+/// A delivery begins, with the transfer's payload.
+#[inline(always)]
+fn begin<A: Allocator + Copy>(
+    alloc: A,
+    deliveries: &mut OpenDeliveries<A>,
+    terms: &Terms,
+    transfer: &Transfer<'_>,
+    payload: &[u8],
+) -> Result<(), AllocError>
+    requires none { deliveries.old.unfinished ≡ None }
     requires tag { IfSome transfer.now.delivery_tag (λ tag. length tag.now ≤ 32) }
     requires whole { IsFalse transfer.now.aborted }
-    ensures { delivery_of result ≡ spec.begun terms.now (sent_of transfer.now []) }
+    requires fits { set_bytes deliveries.old + 96 + length payload.now < 2 ^ 64 }
+    ensures ok { OnOk result (deliveries.new ≡ record deliveries.old { unfinished = Some (spec.begun terms.now (sent_of transfer.now payload.now)) }) }
+    ensures err { OnErr result (deliveries.new ≡ deliveries.old) }
+{
+    let message = Message::of(alloc, payload)?;
+    deliveries.begin(begun(terms, transfer, message))
+}
+
+/// The delivery that a transfer begins, with these bytes.
+#[inline(always)]
+fn begun<A: Allocator + Copy>(
+    terms: &Terms,
+    transfer: &Transfer<'_>,
+    message: Message<A>,
+) -> OpenDelivery<A>
+    requires tag { IfSome transfer.now.delivery_tag (λ tag. length tag.now ≤ 32) }
+    requires whole { IsFalse transfer.now.aborted }
+    ensures { delivery_of result ≡ spec.begun terms.now (sent_of transfer.now message) }
 {
     let settled = judge::is_settled(transfer);
     let rcv_settle_mode = match transfer.rcv_settle_mode {
@@ -515,7 +540,7 @@ fn begun<A: Allocator + Copy>(alloc: A, terms: &Terms, transfer: &Transfer<'_>) 
         rcv_settle_mode,
         settled,
         told: false,
-        message: Message::new(alloc),
+        message,
         place: 0,
     }
 }

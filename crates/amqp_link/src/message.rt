@@ -45,7 +45,7 @@ impl<A: Allocator + Copy> Message<A> {
     }
 
     /// These bytes.
-    fn of(alloc: A, bytes: &[u8]) -> Result<Self, AllocError>
+    pub(crate) fn of(alloc: A, bytes: &[u8]) -> Result<Self, AllocError>
         ensures { IfOk result (λ message. message ≡ bytes.now) }
     {
         let len = bytes.len();

@@ -58,18 +58,17 @@ impl<A: Allocator + Copy> OpenDeliveries<A> {
         }
     }
 
-    /// A delivery begins, with a payload. All the memory that it needs is taken before anything changes: that for it, for
-    /// its place among the others, and for the payload.
+    /// A delivery begins. All the memory that it needs is taken before anything changes: that for it, and for its place
+    /// among the others.
     #[inline(always)]
-    pub fn begin(&mut self, mut delivery: OpenDelivery<A>, payload: &[u8]) -> Result<(), AllocError>
+    pub fn begin(&mut self, delivery: OpenDelivery<A>) -> Result<(), AllocError>
         requires none { self.old.unfinished ≡ None }
-        requires fits { set_bytes self.old + delivery_bytes (delivery_of delivery) + length payload.now < 2 ^ 64 }
-        ensures ok { OnOk result (self.new ≡ record self.old { unfinished = Some (record (delivery_of delivery) { message = (delivery_of delivery).message ++ payload.now }) }) }
+        requires fits { set_bytes self.old + delivery_bytes (delivery_of delivery) < 2 ^ 64 }
+        ensures ok { OnOk result (self.new ≡ record self.old { unfinished = Some (delivery_of delivery) }) }
         ensures err { OnErr result (self.new ≡ self.old) }
     {
         self.slab.reserve(1)?;
         self.order.reserve(1)?;
-        delivery.message.extend(payload)?;
         self.bytes += delivery.bytes();
         self.unfinished = Some(self.slab.insert_reserved(delivery));
         Ok(())
