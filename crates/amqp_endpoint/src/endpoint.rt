@@ -9,6 +9,8 @@ ghost use Rattle.amqp_endpoint.specs.Connections.{slot_at, is_dead};
 ghost use Rattle.amqp_endpoint.specs.Endpoints.{HasActed, IsLinkAt, accepted_by, dropped_by, named_by, handed_by};
 ghost use Rattle.amqp_endpoint.specs.Held.{held};
 ghost use Rattle.amqp_endpoint.specs.Runs.{IsStart, IsMoved, IsFinished, CallDone, CloseDone, BeatDone, end_of};
+ghost use Rattle.amqp_session.specs.Lacking.{IsFirstLacking};
+ghost use Rattle.amqp_endpoint.specs.Takings.{link_at};
 ghost use Rattle.amqp_endpoint.specs.Steps.{AsksFor, MayRead, Comes, IsFed, TakesAndActs, told_outcome};
 ghost use Rattle.amqp_endpoint.specs.RoomLending.{LendsRoom};
 ghost use Rattle.std.specs.Borrow.{sem};
@@ -288,6 +290,16 @@ impl<A: Allocator + Copy> Endpoint<A> {
         ensures { IsLinkAt (slot_at self.now.connection channel) handle result }
     {
         self.connection.session(channel)?.link(handle)
+    }
+
+    /// The first handle from one on, of the session on a channel, whose link has less credit than that, and is allowed more
+    /// beside its credit and its open deliveries [2.6.7]; `None` where no link does.
+    pub fn first_lacking(&self, channel: u16, from: u32, credit: u32) -> Option<u32>
+        ensures { IsFirstLacking credit from (link_at self.now.connection channel) result }
+    {
+        self.connection
+            .session(channel)?
+            .first_lacking(from, credit)
     }
 
     /// Gives the link at a handle `n` places of credit more, and writes the flow that says so [2.6.7]. The sender is then

@@ -155,6 +155,32 @@ channels_passed p s handles n i j w k few within x =
     (subst (λ (m : ℕ). Serves p (ToppingUp (all_supplies_from handles i (n - i))) s [] (ToppingUp (all_supplies_from handles m (n - m))) s) end
     (channels_serve p s handles n i (j - i) (omega (arith, few, within)) (λ c a b. x c a (omega (arith, few, b)))))
 
+credits_serve : (p : Policy) (rest : List Supply) (s : EndpointState) (channel n i d : ℕ) → i + d ≤ n → ((h : ℕ) → i ≤ h → h < i + d → lack p s.connection (CreditOf channel h) ≡ 0)
+    → Serves p (ToppingUp (tabulate i (n - i) (λ handle. CreditOf channel handle) ++ rest)) s [] (ToppingUp (tabulate (i + d) (n - (i + d)) (λ handle. CreditOf channel handle) ++ rest)) s
+credits_serve p rest s channel n i zero l none =
+    let same : i ≡ i + 0 = omega arith in
+    subst (λ (j : ℕ). Serves p (ToppingUp (tabulate i (n - i) (λ handle. CreditOf channel handle) ++ rest)) s [] (ToppingUp (tabulate j (n - j) (λ handle. CreditOf channel handle) ++ rest)) s) same Rests
+credits_serve p rest s channel n i (suc d) l none =
+    let on : i + 1 + d ≡ i + suc d = omega arith in
+    let credit = λ (h : ℕ). CreditOf channel h in
+    let left = tabulate (i + 1) (n - (i + 1)) credit ++ rest in
+    let others : Serves p (ToppingUp left) s [] (ToppingUp (tabulate (i + suc d) (n - (i + suc d)) credit ++ rest)) s =
+    subst (λ (j : ℕ). Serves p (ToppingUp left) s [] (ToppingUp (tabulate j (n - j) credit ++ rest)) s) on
+    (credits_serve p rest s channel n (i + 1) d (omega (arith, l)) (λ h a b. none h (omega (arith, a)) (omega (arith, b)))) in
+    subst (λ (xs : List Supply). Serves p (ToppingUp (xs ++ rest)) s [] (ToppingUp (tabulate (i + suc d) (n - (i + suc d)) credit ++ rest)) s) (sym (tabulate_step credit i n (omega (arith, l))))
+    (Passes (CreditOf channel i) left (none i (omega arith) (omega arith)) others)
+
+-- the links of handles that lack nothing
+pub links_passed : (p : Policy) (rest : List Supply) (s : EndpointState) (channel n i j : ℕ) (w k : Option (List ℕ)) → i ≤ j → j ≤ n
+    → ((h : ℕ) → i ≤ h → h < j → lack p s.connection (CreditOf channel h) ≡ 0)
+    → Works p (ToppingUp (tabulate i (n - i) (λ handle. CreditOf channel handle) ++ rest)) (ToppingUp (tabulate j (n - j) (λ handle. CreditOf channel handle) ++ rest)) s s w w k k
+links_passed p rest s channel n i j w k few within none =
+    let end : i + (j - i) ≡ j = omega (arith, few) in
+    let credit = λ (h : ℕ). CreditOf channel h in
+    works_silent p _ _ s w k
+    (subst (λ (m : ℕ). Serves p (ToppingUp (tabulate i (n - i) credit ++ rest)) s [] (ToppingUp (tabulate m (n - m) credit ++ rest)) s) end
+    (credits_serve p rest s channel n i (j - i) (omega (arith, few, within)) (λ h a b. none h a (omega (arith, few, b)))))
+
 -- all of them are left at first
 pub tabulate_all : {A : Type 0} (f : ℕ → A) (n : ℕ) → tabulate 0 n f ≡ tabulate 0 (n - 0) f
 tabulate_all f n = let all : n ≡ n - 0 = omega arith in ap (λ (m : ℕ). tabulate 0 m f) all

@@ -1,15 +1,16 @@
 -- What calls and feeds leave lacking nothing.
 use Rattle.std.proofs.Common.{arith, ◌≡◌, ℕ, zero, suc, ◌+◌, ◌-◌, ◌<◌, ◌≤◌, inl, inr, Bool, true, false, List, [], ◌∷◌, Option, Some, None, Result, Ok, Err, refl, sym, ap, subst, ◌∙◌}
-use Rattle.std.specs.Prelude.{◌&&◌, if◌then◌else◌, nat_eq, slice_get, option_map, unwrap_or}
-use Rattle.std.proofs.lemmas.Bool.{eq-eqb, eqb-true, true≢false}
+use Rattle.std.specs.Prelude.{◌&&◌, if◌then◌else◌, nat_eq, nat_lt, slice_get, option_map, unwrap_or}
+use Rattle.std.proofs.lemmas.Bool.{eq-eqb, eqb-true, ltb-true, ltb-false, true≢false}
 use Rattle.amqp_frame.proofs.Fronts.{waits_or_not}
-use Rattle.amqp_link.specs.Links.{Granted}
+use Rattle.amqp_link.specs.Links.{Granted, open_count}
 use Rattle.amqp_session.specs.declared.report.Report.{Report}
 use Rattle.amqp_session.specs.declared.report.Report.TheVariants as report
 use Rattle.amqp_session.specs.declared.slot.Slot.{Slot}
 use Rattle.amqp_session.specs.declared.slot.Slot.TheVariants.{Free, Live, Waits as Awaits}
 use Rattle.amqp_session.specs.Calls as session
 use Rattle.amqp_session.specs.Faults as faults
+use Rattle.amqp_session.specs.Lacking.{lacks_credit}
 use Rattle.amqp_session.specs.Laws.{IsElsewhere}
 use Rattle.amqp_session.specs.Places.{slot_after}
 use Rattle.amqp_session.specs.Sessions as one
@@ -217,6 +218,27 @@ back_at p s t channel i x at = record {
 -- fewer handles
 pub fewer_at : (p : Policy) (t : ConnectionState) (channel a b : ℕ) → a ≤ b → IsSuppliedAt p b channel t → IsSuppliedAt p a channel t
 fewer_at p t channel a b few at = record { window = at.window; credit = λ h l. at.credit h (omega (arith, few, l)) }
+
+-- a link that is not told of as lacking credit lacks none
+pub none_lacking : (credit : ℕ) (x : Slot LiveLink) → lacks_credit credit x ≡ false → credit_lack credit x ≡ 0
+none_lacking credit Free is = refl
+none_lacking credit (Live l) is = by (nat_lt l.link.credit credit) (nat_lt (l.link.credit + open_count l.link) l.link.terms.bounds.allowed) refl refl is
+  where
+    by : (a b : Bool) → nat_lt l.link.credit credit ≡ a → nat_lt (l.link.credit + open_count l.link) l.link.terms.bounds.allowed ≡ b → a && b ≡ false
+        → credit_lack credit (Live l) ≡ 0
+    by true true x y both = absurd (true≢false both)
+    by true false x y both = omega (arith, ltb-false (l.link.credit + open_count l.link) l.link.terms.bounds.allowed y)
+    by false true x y both = omega (arith, ltb-false l.link.credit credit x)
+    by false false x y both = omega (arith, ltb-false l.link.credit credit x)
+none_lacking credit Awaits is = refl
+
+-- handles whose links lack nothing are passed
+pub more_at : (p : Policy) (t : ConnectionState) (channel i j : ℕ) → ((h : ℕ) → i ≤ h → h < j → lack p t (CreditOf channel h) ≡ 0) → IsSuppliedAt p i channel t → IsSuppliedAt p j channel t
+more_at p t channel i j none at = record { window = at.window; credit = λ h l. by h l (nat_lt h i) refl }
+  where
+    by : (h : ℕ) → h < j → (b : Bool) → nat_lt h i ≡ b → lack p t (CreditOf channel h) ≡ 0
+    by h l true is = at.credit h (ltb-true h i is)
+    by h l false is = none h (ltb-false h i is) l
 
 -- what is outside the channels that are gone through lacks nothing
 pub outside : (p : Policy) (s : ConnectionState) (only : Option ℕ) (n first end : ℕ) → n ≡ channels s.config → IsSpan only n first end → IsSuppliedBut only p s → (x : Supply) → IsListed s.config x →

@@ -1,8 +1,8 @@
 //! What is topped up: the windows of sessions and the credit of links.
-ghost use Rattle.std.specs.Prelude.{◌≡◌, ◌≢◌, ◌↔◌, ◌++◌, ◌∷◌, [], ℕ, List, true, Err, IsTrue, OnOk, IfOk, IfErr};
+ghost use Rattle.std.specs.Prelude.{◌≡◌, ◌≢◌, ◌≤◌, ◌<◌, ◌↔◌, ◌++◌, ◌∷◌, [], ℕ, List, true, Err, IsTrue, OnOk, IfOk, IfErr};
 ghost use Rattle.amqp_frame.specs.Devices.{device_inner, has_failed};
 ghost use Rattle.amqp_endpoint.specs.Connections.{slot_at};
-ghost use Rattle.amqp_endpoint.specs.Takings.{link_in};
+ghost use Rattle.amqp_endpoint.specs.Takings.{link_in, link_at};
 ghost use Rattle.amqp_serve.specs.Serving.{Supply, WindowOf, CreditOf, window_lack, credit_lack, lack, session_supplies, all_supplies, ToppingUp, reading, Works, BrokeOff};
 ghost use Rattle.amqp_serve.specs.Supplied.{IsSupplied, IsSuppliedAt, IsSuppliedBut, IsOnlyIn, IsOnlyOf, IsSpan};
 
@@ -81,10 +81,32 @@ fn top_up_session<A: Allocator + Copy, W: Write + HoldsBack + Drop, S: Write + D
         endpoint.new (W.contents (device_inner writer.old)) (W.contents (device_inner writer.new)) (S.contents (device_inner sink.old)) (S.contents (device_inner sink.new))) }
 {
     let mut supplied = top_up_window(endpoint, writer, sink, channel, policy)?;
-    for handle in 0..handles {
+    let mut handle = first_lacking(endpoint, channel, 0, handles, policy.credit);
+    while handle < handles {
         supplied &= top_up_credit(endpoint, writer, sink, channel, handle, policy)?;
+        handle = first_lacking(endpoint, channel, handle + 1, handles, policy.credit);
     }
     Ok(supplied)
+}
+
+/// The first handle from one on, of so many, whose link lacks credit; so many where none does.
+#[inline(always)]
+fn first_lacking<A: Allocator + Copy>(
+    endpoint: &Endpoint<A>,
+    channel: u16,
+    from: u32,
+    handles: u32,
+    credit: u32,
+) -> u32
+    requires { from ≤ handles }
+    ensures from { from ≤ result }
+    ensures within { result ≤ handles }
+    ensures passed { (h : ℕ) → from ≤ h → h < result → credit_lack credit (link_at endpoint.now.connection channel h) ≡ 0 }
+{
+    match endpoint.first_lacking(channel, from, credit) {
+        Some(handle) => handle.min(handles),
+        None => handles,
+    }
 }
 
 /// Widens the window of the session on a channel by what it lacks. Answers whether it lacks nothing then.

@@ -33,3 +33,4 @@ pub mod RangeMays
 pub mod RangeIndexes
 pub mod Recents
 pub mod Olders
+pub mod Lackings

@@ -68,6 +68,10 @@ module _ (terms : SessionTerms) (w n : ℕ) (slots : List (Slot LiveLink)) (s : 
   slot_past h l =
       subst (λ (t : SessionState). slot_at t h ≡ Free) view (padded_get (handles terms) slots h reached.reached ∙ ap (λ (o : Option (Slot LiveLink)). unwrap_or o Free) (slice_get_past slots h l))
 
+  -- what stands at each
+  pub slots_are : (h : ℕ) → slot_at s h ≡ at_place slots h
+  slots_are h = subst (λ (t : SessionState). slot_at t h ≡ at_place slots h) view (padded_get (handles terms) slots h reached.reached)
+
   abbrev parts : ℕ → ℕ → List (Slot LiveLink) → SessionState
   parts a b ls = record { terms = terms; window = a; next_incoming_id = b; links = ls }
 

@@ -16,3 +16,4 @@ pub mod StateLending
 pub mod Coordinators
 pub mod Indexes
 pub mod Surveys
+pub mod Lacking

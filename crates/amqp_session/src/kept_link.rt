@@ -7,6 +7,7 @@ ghost use Rattle.amqp_session.specs.Sessions.{live_begins, live_after, slot_byte
 ghost use Rattle.amqp_session.specs.declared.slot.Slot.{Slot};
 ghost use Rattle.amqp_session.specs.Slots.{came_fault, IsCameFault, IsView};
 ghost use Rattle.amqp_session.specs.Indexes.{link_begins};
+ghost use Rattle.amqp_session.specs.Lacking.{lacks_credit};
 
 use crate::view::LinkView;
 use amqp_link::{Link, LinkFault, Step, Terms, laws};
@@ -142,6 +143,14 @@ impl<A: Allocator + Copy> KeptLink<A> {
         ensures { result ≡ nat_lt self.now.link.terms.bounds.allowed (self.now.link.credit + open_count self.now.link + n) }
     {
         n > self.record.link.room()
+    }
+
+    /// Whether it has less credit than that, and more is allowed.
+    pub fn lacks_credit(&self, credit: u32) -> bool
+        ensures { result ≡ lacks_credit credit (Slot.Live self.now) }
+    {
+        let link = &self.record.link;
+        link.credit() < credit && link.room() > 0
     }
 
     /// The bytes that count as kept. All fields are named, so that a new one is listed here.

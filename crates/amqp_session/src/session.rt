@@ -9,6 +9,7 @@ ghost use Rattle.amqp_session.specs.Calls.{Widen, Grant, Drain, Take, Settle, Se
 ghost use Rattle.amqp_session.specs.Faults.{session_fault, event_of, report_of, answer_of, failure_answer, flow_answer, echo_answer, slot_settled, IsRefusal};
 ghost use Rattle.amqp_perform.specs.Said.{said, said_frame};
 ghost use Rattle.amqp_session.specs.Frames.{Attaches, Flows, Transfers, Disposes, Detaches, attaching, flowing, disposing, frame_of, attach_said};
+ghost use Rattle.amqp_session.specs.Lacking.{IsFirstLacking};
 ghost use Rattle.amqp_session.specs.Sessions.{session_begins, session_after, session_bytes, session_ready, slot_at, slot_ready, SessionMay, IsApart};
 ghost use Rattle.amqp_session.specs.Slots.{HandsUp, IsViewAt};
 ghost use Rattle.amqp_session.specs.Laws.{named_total};
@@ -102,6 +103,14 @@ impl<A: Allocator + Copy> Session<A> {
         ensures { IsViewAt (slot_at self.now handle) result }
     {
         self.state.link(handle)
+    }
+
+    /// The first handle from one on whose link has less credit than that, and is allowed more beside its credit and its
+    /// open deliveries [2.6.7]; `None` where no link does.
+    pub fn first_lacking(&self, from: u32, credit: u32) -> Option<u32>
+        ensures { IsFirstLacking credit from (slot_at self.now) result }
+    {
+        self.state.first_lacking(from, credit)
     }
 
     /// How many deliveries are ready to be handed up, on all links.

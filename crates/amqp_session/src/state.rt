@@ -6,6 +6,7 @@ ghost use Rattle.amqp_perform.specs.Performatives.{is_receiver};
 ghost use Rattle.amqp_session.specs.Calls.{Widen, Grant, Drain, Settle, Detach as DetachCall, call_fault, call_event, slot_standing, standing_fault, settles_at_once};
 ghost use Rattle.std.specs.Option.{option_copied_mut};
 ghost use Rattle.std.specs.Borrow.{sem};
+ghost use Rattle.amqp_session.specs.Lacking.{IsFirstLacking};
 ghost use Rattle.amqp_session.specs.Links.{link_at};
 ghost use Rattle.amqp_session.specs.StateLending.{LendsHandle};
 ghost use Rattle.amqp_session.specs.Faults.{session_fault, event_of, report_of, attach_fault, IsRefusal, session_flow, link_flow, attached, is_settling, settled_report};
@@ -140,6 +141,16 @@ impl<A: Allocator + Copy> State<A> {
             return None;
         }
         slots::view(&self.table[place])
+    }
+
+    /// The first handle from one on whose link has less credit than that, and is allowed more.
+    pub fn first_lacking(&self, from: u32, credit: u32) -> Option<u32>
+        ensures { IsFirstLacking credit from (slot_at self.now) result }
+    {
+        match table::first_lacking(&self.table, from as usize, credit) {
+            Some(place) => Some(place as u32),
+            None => None,
+        }
     }
 
     /// Lends the live link at a handle.

@@ -1,8 +1,9 @@
 //! What stands at the handles that were reached.
-ghost use Rattle.std.specs.Prelude.{◌≡◌, ℕ, ◌<◌, ◌≤◌, ◌+◌, ◌*◌, ◌^◌, ◌++◌, [], length, sum_by, Option, Some, None, OnOk, OnErr, true, false};
+ghost use Rattle.std.specs.Prelude.{◌≡◌, ℕ, ◌<◌, ◌≤◌, ◌+◌, ◌*◌, ◌^◌, ◌++◌, [], length, sum_by, Option, Some, None, OnOk, OnErr, IfSome, true, false};
 ghost use Rattle.std.specs.List.{list_any};
 ghost use Rattle.amqp_session.specs.Slots.{at_place, slot_reused, padded, IsFound};
 ghost use Rattle.amqp_session.specs.Faults.{is_free};
+ghost use Rattle.amqp_session.specs.Lacking.{IsFirstLacking};
 ghost use Rattle.amqp_session.specs.Sessions.{slot_ready, slot_has, slot_bytes};
 
 use crate::kept_link::KeptLink;
@@ -73,6 +74,23 @@ pub fn ready<A: Allocator + Copy>(table: &[Slot<KeptLink<A>>]) -> u32
         ready += slots::ready(slot);
     }
     ready
+}
+
+/// The first place from one on whose link has less credit than that, and is allowed more.
+pub fn first_lacking<A: Allocator + Copy>(
+    table: &[Slot<KeptLink<A>>],
+    from: usize,
+    credit: u32,
+) -> Option<usize>
+    ensures within { IfSome result (λ place. place < length table.now) }
+    ensures first { IsFirstLacking credit from (at_place table.now) result }
+{
+    for place in from..table.len() {
+        if slots::lacks_credit(&table[place], credit) {
+            return Some(place);
+        }
+    }
+    None
 }
 
 /// Makes room up to a place, which is then reached.

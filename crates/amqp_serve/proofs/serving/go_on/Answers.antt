@@ -1,4 +1,4 @@
-use Rattle.std.proofs.Common.{ℕ, List, Err, take, refl, sym, subst, ◌∙◌}
+use Rattle.std.proofs.Common.{take, sym, subst}
 use Rattle.std.proofs.lemmas.Result.{err_from_is_err_and}
 use Rattle.amqp_frame.specs.Devices.{device_inner}
 use Rattle.amqp_frame.specs.Splits.{IsOver}

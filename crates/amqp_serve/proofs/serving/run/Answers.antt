@@ -1,18 +1,14 @@
-use Rattle.std.proofs.Common.{◌≡◌, ℕ, List, [], Err, Bool, refl, ◌⊎◌, inl, inr, true, false, IsTrue, take, ap, sym, ◌∙◌, subst, rules, arith}
+use Rattle.std.proofs.Common.{◌≡◌, ℕ, List, [], ◌⊎◌, inl, inr, true, IsTrue, ap, sym, ◌∙◌, subst, rules, arith}
 use Rattle.std.proofs.lemmas.Bool.{false≢true}
 use Rattle.std.proofs.lemmas.Grind.{common_steps}
 use Rattle.std.proofs.lemmas.Result.{err_from_is_err_and}
 use Rattle.std.proofs.KnownBytes.{Consumes-nil}
 use Rattle.std.specs.Io.KnownBytes.{Consumes}
-use Rattle.amqp_frame.specs.Devices.{device_inner, has_ended, is_flushed}
-use Rattle.amqp_frame.specs.Splits.{IsOver}
-use Rattle.amqp_frame.specs.declared.units.Stage.{Stage}
-use Rattle.amqp_endpoint.specs.Connections.{ConnectionState, is_dead}
+use Rattle.amqp_frame.specs.Devices.{device_inner, has_ended}
+use Rattle.amqp_endpoint.specs.Connections.{is_dead}
 use Rattle.amqp_serve.specs.declared.serving.ServeFault.{ServeFault}
-use Rattle.amqp_serve.specs.declared.serving.ServeFault.TheVariants.{Read}
 use Rattle.amqp_serve.specs.Serving.{reading, BrokeOff, HasBroken}
 use Rattle.amqp_endpoint.specs.Steps.{EndpointState}
-use Rattle.amqp_serve.specs.Supplied.{IsSupplied}
 use Rattle.amqp_serve.proofs.Servings.{if_err, kept_same}
 use Rattle.amqp_serve.proofs.ServingReads.{read_none, read_first, read_broke, read_ended, piece_broke, read_more, broken_more}
 use Rattle.amqp_serve.proofs.serving.run.Goals.{then-not-is_over+in_ok-write_out+in_ok-supplied, else-not-is_over, then-reads-test+else-not-ended, else-reads-test}

@@ -1,6 +1,6 @@
-use Rattle.std.proofs.Common.{ℕ, ◌<◌, List, [], take, slice_index, sym, ◌∙◌, subst, append-nil, arith}
+use Rattle.std.proofs.Common.{ℕ, ◌<◌, List, take, slice_index, sym, ◌∙◌, subst, append-nil}
 use Rattle.std.specs.Io.KnownBytes.{Consumes}
-use Rattle.amqp_frame.specs.Devices.{device_inner, device_hand}
+use Rattle.amqp_frame.specs.Devices.{device_inner}
 use Rattle.amqp_endpoint.specs.declared.event.Outcome.{Outcome}
 use Rattle.amqp_endpoint.specs.Steps.{EndpointState, IsFed}
 use Rattle.amqp_serve.specs.Serving.{reading, Served, BrokeOff, IsStarved}

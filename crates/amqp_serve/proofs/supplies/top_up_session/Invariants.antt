@@ -18,3 +18,6 @@ invariant-loop-handle g l = record {
       (g.W.Write.contents (device_inner l.fn.writer)) (g.W.Write.contents (device_inner l.writer))
       (g.S.Write.contents (device_inner l.fn.sink)) (g.S.Write.contents (device_inner l.sink));
 }
+
+abbrev pub decreases-loop-handle : goal.decreases-loop-handle
+decreases-loop-handle g l = l.handles - l.handle

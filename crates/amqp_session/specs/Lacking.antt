@@ -1,0 +1,18 @@
+-- Which links lack credit (AMQP 1.0, part 2, section 2.6.7).
+use Rattle.std.specs.Prelude.{◌≡◌, ℕ, ◌+◌, ◌<◌, ◌≤◌, Bool, true, false, ◌&&◌, Option, Some, None, nat_lt}
+use Rattle.amqp_link.specs.Links.{open_count}
+use Rattle.amqp_session.specs.declared.slot.Slot.{Slot}
+use Rattle.amqp_session.specs.declared.slot.Slot.TheVariants.{Free, Live, Waits}
+use Rattle.amqp_session.specs.Sessions.{LiveLink}
+
+-- A link has less credit than that, and more is allowed beside its credit and its open deliveries.
+abbrev pub lacks_credit : ℕ → Slot LiveLink → Bool
+lacks_credit credit Free = false
+lacks_credit credit (Live l) = nat_lt l.link.credit credit && nat_lt (l.link.credit + open_count l.link) l.link.terms.bounds.allowed
+lacks_credit credit Waits = false
+
+-- The first handle from one on whose link does; None where none does.
+abbrev pub IsFirstLacking : ℕ → ℕ → (ℕ → Slot LiveLink) → Option ℕ → Type 0
+IsFirstLacking credit from links None = (h : ℕ) → from ≤ h → lacks_credit credit (links h) ≡ false
+IsFirstLacking credit from links (Some handle) =
+    (from ≤ handle) × (lacks_credit credit (links handle) ≡ true) × ((h : ℕ) → from ≤ h → h < handle → lacks_credit credit (links h) ≡ false)
