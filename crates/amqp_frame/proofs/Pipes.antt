@@ -28,10 +28,6 @@ dropped s l n p xs h k m a = by a.1
     by (inl e) = same_lists _ _ (search (rules, places)) (λ i d j. grind (arith, places))
     by (inr e) = same_lists _ _ (search (rules, places)) (λ i d j. grind (arith, places))
 
--- all go
-pub emptied : (s l n : ℕ) (xs : List ℕ) → s < length xs → l ≤ length xs → n ≤ l → l - n ≡ 0 → around 0 (l - n) xs ≡ drop n (around s l xs)
-emptied s l n xs h k m none = same_lists _ _ (search (rules, places)) (λ i d j. grind (arith, places))
-
 -- some are put behind them, and do not pass the end of the block
 pub put_fits : (s l p h : ℕ) (xs bs : List ℕ) → s < length xs → l + length bs ≤ length xs → IsAround s l (length xs) p → h ≡ min (length bs) (length xs - p) → length bs ≤ h →
     around s (l + length bs) (put_over p (take h bs) xs) ≡ around s l xs ++ bs

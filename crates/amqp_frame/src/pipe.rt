@@ -106,19 +106,14 @@ impl<A: Allocator + Copy> Pipe<A> {
         &self.bytes[self.start..self.start + count]
     }
 
-    /// Drops the first `n` of them. Where none is left the next one is put to the front of the block.
+    /// Drops the first `n` of them.
     pub fn drop_front(&mut self, n: usize)
         requires { n ≤ length self.old.waits }
         ensures waits { self.new.waits ≡ drop n self.old.waits }
         ensures size { self.new.size ≡ self.old.size }
     {
-        let left = self.len - n;
-        self.start = if left == 0 {
-            0
-        } else {
-            place_of(self.start, n, self.bytes.len())
-        };
-        self.len = left;
+        self.start = place_of(self.start, n, self.bytes.len());
+        self.len -= n;
     }
 
     /// Moves the first bytes that wait into `out`, as many as it holds, and answers how many.

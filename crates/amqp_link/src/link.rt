@@ -497,7 +497,8 @@ fn apply<A: Allocator + Copy>(
     Ok(())
 }
 
-/// A delivery begins, with the transfer's payload.
+/// A delivery begins, with the transfer's payload. Memory for it and its place is taken before the payload is copied: where it
+/// is refused no work has grown with the payload.
 #[inline(always)]
 fn begin<A: Allocator + Copy>(
     alloc: A,
@@ -513,6 +514,7 @@ fn begin<A: Allocator + Copy>(
     ensures ok { OnOk result (deliveries.new ≡ record deliveries.old { unfinished = Some (spec.begun terms.now (sent_of transfer.now payload.now)) }) }
     ensures err { OnErr result (deliveries.new ≡ deliveries.old) }
 {
+    deliveries.make_room()?;
     let message = Message::of(alloc, payload)?;
     deliveries.begin(begun(terms, transfer, message))
 }

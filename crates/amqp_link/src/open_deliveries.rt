@@ -58,6 +58,15 @@ impl<A: Allocator + Copy> OpenDeliveries<A> {
         }
     }
 
+    /// Makes room for one more and for its place among the others, so that the next one that begins takes no memory here.
+    #[inline(always)]
+    pub fn make_room(&mut self) -> Result<(), AllocError>
+        ensures { self.new ≡ self.old }
+    {
+        self.slab.reserve(1)?;
+        self.order.reserve(1)
+    }
+
     /// A delivery begins. All the memory that it needs is taken before anything changes: that for it, and for its place
     /// among the others.
     #[inline(always)]

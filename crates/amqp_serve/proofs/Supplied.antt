@@ -10,7 +10,7 @@ use Rattle.amqp_session.specs.declared.slot.Slot.{Slot}
 use Rattle.amqp_session.specs.declared.slot.Slot.TheVariants.{Free, Live, Waits as Awaits}
 use Rattle.amqp_session.specs.Calls as session
 use Rattle.amqp_session.specs.Faults as faults
-use Rattle.amqp_session.specs.Lacking.{lacks_credit}
+use Rattle.amqp_session.specs.Lacking.{wants_credit}
 use Rattle.amqp_session.specs.Laws.{IsElsewhere}
 use Rattle.amqp_session.specs.Places.{slot_after}
 use Rattle.amqp_session.specs.Sessions as one
@@ -220,7 +220,7 @@ pub fewer_at : (p : Policy) (t : ConnectionState) (channel a b : ℕ) → a ≤ 
 fewer_at p t channel a b few at = record { window = at.window; credit = λ h l. at.credit h (omega (arith, few, l)) }
 
 -- a link that is not told of as lacking credit lacks none
-pub none_lacking : (credit : ℕ) (x : Slot LiveLink) → lacks_credit credit x ≡ false → credit_lack credit x ≡ 0
+pub none_lacking : (credit : ℕ) (x : Slot LiveLink) → wants_credit credit x ≡ false → credit_lack credit x ≡ 0
 none_lacking credit Free is = refl
 none_lacking credit (Live l) is = by (nat_lt l.link.credit credit) (nat_lt (l.link.credit + open_count l.link) l.link.terms.bounds.allowed) refl refl is
   where

@@ -7,7 +7,7 @@ ghost use Rattle.amqp_session.specs.Sessions.{live_begins, live_after, slot_byte
 ghost use Rattle.amqp_session.specs.declared.slot.Slot.{Slot};
 ghost use Rattle.amqp_session.specs.Slots.{came_fault, IsCameFault, IsView};
 ghost use Rattle.amqp_session.specs.Indexes.{link_begins};
-ghost use Rattle.amqp_session.specs.Lacking.{lacks_credit};
+ghost use Rattle.amqp_session.specs.Lacking.{wants_credit};
 
 use crate::view::LinkView;
 use amqp_link::{Link, LinkFault, Step, Terms, laws};
@@ -146,8 +146,8 @@ impl<A: Allocator + Copy> KeptLink<A> {
     }
 
     /// Whether it has less credit than that, and more is allowed.
-    pub fn lacks_credit(&self, credit: u32) -> bool
-        ensures { result ≡ lacks_credit credit (Slot.Live self.now) }
+    pub fn wants_credit(&self, credit: u32) -> bool
+        ensures { result ≡ wants_credit credit (Slot.Live self.now) }
     {
         let link = &self.record.link;
         link.credit() < credit && link.room() > 0

@@ -12,7 +12,7 @@ ghost use Rattle.amqp_session.specs.Sessions.{slot_ready, slot_bytes};
 ghost use Rattle.amqp_session.specs.Calls.{at_link, slot_standing};
 ghost use Rattle.amqp_session.specs.Frames.{flowing};
 ghost use Rattle.amqp_session.specs.Indexes.{IsOnceAt, IsEndedAt, slot_begins, slot_unfinished};
-ghost use Rattle.amqp_session.specs.Lacking.{lacks_credit};
+ghost use Rattle.amqp_session.specs.Lacking.{wants_credit};
 
 use crate::fault::{CallFault, SessionFault};
 use crate::kept_link::KeptLink;
@@ -108,11 +108,11 @@ pub fn ready<A: Allocator + Copy>(slot: &Slot<KeptLink<A>>) -> u32
 }
 
 /// Whether a live link there has less credit than that, and more is allowed.
-pub fn lacks_credit<A: Allocator + Copy>(slot: &Slot<KeptLink<A>>, credit: u32) -> bool
-    ensures { result ≡ lacks_credit credit slot.now }
+pub fn wants_credit<A: Allocator + Copy>(slot: &Slot<KeptLink<A>>, credit: u32) -> bool
+    ensures { result ≡ wants_credit credit slot.now }
 {
     match slot {
-        Slot::Live(kept) => kept.lacks_credit(credit),
+        Slot::Live(kept) => kept.wants_credit(credit),
         _ => false,
     }
 }

@@ -86,7 +86,7 @@ pub fn first_lacking<A: Allocator + Copy>(
     ensures first { IsFirstLacking credit from (at_place table.now) result }
 {
     for place in from..table.len() {
-        if slots::lacks_credit(&table[place], credit) {
+        if slots::wants_credit(&table[place], credit) {
             return Some(place);
         }
     }
