@@ -1,11 +1,12 @@
 -- The lines that wait in a buffer, and the beginning of the next one behind them.
-use Rattle.std.specs.Prelude.{◌≡◌, ℕ, List, [], ◌∷◌, ◌++◌}
+use Rattle.std.specs.Prelude.{◌≡◌, ℕ, Bool, List, [], ◌∷◌, ◌++◌}
 use Rattle.amqp_dump.specs.Entries.{Entry}
 
--- whole lines, and what was put behind them
+-- whole lines, what was put behind them, and whether memory was refused for some of that
 pub record Page : Type 0 where
   pub whole : List ℕ
   pub begun : List ℕ
+  pub lacks : Bool
 
 -- a line for an entry: text, and then a newline
 pub record IsLineOf (entry : Entry) (line : List ℕ) : Type 0 where

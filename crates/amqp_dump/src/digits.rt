@@ -114,6 +114,9 @@ pub fn put_hex(out: &mut Page, bytes: &[u8])
         return;
     }
     for run in bytes.chunks(RUN) {
+        if out.lacks() {
+            break;
+        }
         put_run(out, run);
     }
 }
@@ -200,6 +203,9 @@ fn put_escaped(out: &mut Page, bytes: &[u8])
     ensures { out.new.whole ≡ out.old.whole }
 {
     for eight in bytes.chunks(8) {
+        if out.lacks() {
+            break;
+        }
         if are_plain(eight) {
             out.put(eight);
         } else {

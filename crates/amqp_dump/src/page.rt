@@ -1,6 +1,6 @@
 //! The buffer that lines are put into and written from.
 
-ghost use Rattle.std.specs.Prelude.{◌≡◌, ◌≤◌, ◌+◌, ◌++◌, ℕ, length, take, IsTrue};
+ghost use Rattle.std.specs.Prelude.{◌≡◌, ◌≤◌, ◌+◌, ◌++◌, ℕ, length, take, false, IsTrue};
 
 use std::alloc::{AllocError, Global};
 use std::marker::Model;
@@ -28,13 +28,13 @@ impl Model for Page {
 
     ghost Value = { pages.Page };
 
-    ghost view = { λ page. record { whole = take page.end page.bytes.items; begun = drop page.end (take page.len page.bytes.items) } };
+    ghost view = { λ page. record { whole = take page.end page.bytes.items; begun = drop page.end (take page.len page.bytes.items); lacks = page.lacks } };
 
     ghost invariant = { λ page. (page.end ≤ page.len) × (page.len ≤ length page.bytes.items) };
 }
 
 impl Page {
-    ghost use Rattle.std.specs.Prelude.{◌≡◌, [], ◌∷◌, ◌++◌, length, IfOk, OnOk};
+    ghost use Rattle.std.specs.Prelude.{◌≡◌, [], ◌∷◌, ◌++◌, length, take, false, IfOk, OnOk};
 
     /// An empty page with room for so many bytes.
     pub fn with_capacity(alloc: Global, capacity: usize) -> Result<Page, AllocError>
@@ -58,12 +58,14 @@ impl Page {
     }
 
     /// Puts the first `len` bytes of a text into the line, or all where they are fewer. The others are copied too, and written
-    /// over: a text whose length the compiler knows is then copied without a loop and a call.
+    /// over: a text whose length the compiler knows is then copied without a loop and a call. Where memory was refused for
+    /// something before, it is not asked for again.
     #[inline(always)]
     pub fn put_front(&mut self, text: &[u8], len: usize)
-        ensures { self.new.whole ≡ self.old.whole }
+        ensures whole { self.new.whole ≡ self.old.whole }
+        ensures put { self.new.lacks ≡ false → (self.old.lacks ≡ false) × (self.new.begun ≡ self.old.begun ++ take len text.now) }
     {
-        if !has_room(&mut self.bytes, self.len, text.len()) {
+        if !has_room(&mut self.bytes, self.len, text.len(), self.lacks) {
             self.lacks = true;
             return;
         }
@@ -79,12 +81,21 @@ impl Page {
         self.put(&[byte]);
     }
 
-    /// Puts a newline, which ends the line.
+    /// Whether memory was refused for something of the line. What is put behind that comes to nothing.
+    #[inline(always)]
+    pub fn lacks(&self) -> bool
+        ensures { result ≡ self.now.lacks }
+    {
+        self.lacks
+    }
+
+    /// Puts a newline, which ends the line. An error where the line lacks something, or memory is refused for the newline.
     pub fn end_line(&mut self) -> Result<(), AllocError>
+        ensures all { OnOk result (self.old.lacks ≡ false) }
         ensures whole { OnOk result (self.new.whole ≡ self.old.whole ++ (self.old.begun ++ 10 ∷ [])) }
         ensures begun { OnOk result (self.new.begun ≡ []) }
     {
-        if self.lacks || !has_room(&mut self.bytes, self.len, 1) {
+        if self.lacks || !has_room(&mut self.bytes, self.len, 1, false) {
             return Err(AllocError);
         }
         put_at(self.bytes.as_mut_slice(), self.len, b"\n");
@@ -109,21 +120,24 @@ impl Page {
     pub fn clear(&mut self)
         ensures whole { self.new.whole ≡ [] }
         ensures begun { self.new.begun ≡ [] }
+        ensures all { self.new.lacks ≡ false }
     {
         self.len = 0;
         self.end = 0;
+        self.lacks = false;
     }
 }
 
-/// Whether there is room for so many bytes behind the first `len`, which is made where it is lacking.
+/// Whether there is room for so many bytes behind the first `len`, which is made where it is lacking, unless it was refused
+/// before.
 #[inline(always)]
-fn has_room(bytes: &mut Vec<u8>, len: usize, more: usize) -> bool
+fn has_room(bytes: &mut Vec<u8>, len: usize, more: usize, refused: bool) -> bool
     requires { len ≤ length bytes.old.items }
     ensures kept { (n : ℕ) → n ≤ len → take n bytes.new.items ≡ take n bytes.old.items }
     ensures within { len ≤ length bytes.new.items }
     ensures room { IsTrue result → len + more ≤ length bytes.new.items }
 {
-    more <= bytes.len() - len || lengthen(bytes, len, more)
+    more <= bytes.len() - len || !refused && lengthen(bytes, len, more)
 }
 
 /// Makes room for so many bytes behind the first `len`, and for some more. False where memory was refused.

@@ -1,7 +1,8 @@
 //! The text of values, as `dump` prints it.
 //!
 //! A value is printed from its bytes, which are known to spell one: of other bytes nothing is said. What a call
-//! answers are the bytes behind what it printed. Lines that wait stay as they are.
+//! answers are the bytes behind what it printed. Lines that wait stay as they are. Where memory was refused for some of
+//! the line, the parts of a value that are left are not gone through.
 
 ghost use Rattle.std.specs.Prelude.{◌≡◌, ◌≤◌, length};
 
@@ -108,6 +109,9 @@ fn put_map<'a>(out: &mut Page, depth: usize, count: usize, bytes: &'a [u8]) -> &
     out.put_byte(b'{');
     let mut rest = bytes;
     for i in 0..count {
+        if out.lacks() {
+            break;
+        }
         if i > 0 {
             out.put(b", ");
         }
@@ -164,6 +168,9 @@ fn put_items<'a>(
     out.put_byte(b'[');
     let mut rest = bytes;
     for i in 0..count {
+        if out.lacks() {
+            break;
+        }
         if i > 0 {
             out.put(b", ");
         }

@@ -70,6 +70,9 @@ pub fn stream(alloc: Global, numbers: &mut Numbers) -> Result<Vec<u8>, AllocErro
         stream.truncate(numbers.below(9) as usize);
     }
     for _ in 0..numbers.below(30) {
+        if numbers.is_one_of(300) {
+            put_long_frame(alloc, &mut stream, numbers)?;
+        }
         put_frame(alloc, &mut stream, numbers)?;
     }
     if numbers.is_one_of(10) {
@@ -106,6 +109,46 @@ fn put_frame(alloc: Global, stream: &mut Vec<u8>, numbers: &mut Numbers) -> Resu
     };
     stream.extend_from_slice(&((channel & 0xffff) as u16).to_be_bytes())?;
     stream.extend_from_slice(&body)
+}
+
+/// Appends a frame with a list whose line is longer than the buffer that lines wait in: of values of one kind, with a few
+/// others in front, so that its end stands anywhere.
+fn put_long_frame(
+    alloc: Global,
+    stream: &mut Vec<u8>,
+    numbers: &mut Numbers,
+) -> Result<(), AllocError> {
+    let mut items = Vec::new(alloc);
+    let few = numbers.below(20);
+    for _ in 0..few {
+        items.push(0x41)?;
+    }
+    let count = numbers.between(3_000, 20_000);
+    match numbers.below(5) {
+        0 => put_each(&mut items, count, &[0x40])?,
+        1 => put_each(&mut items, count, b"\x80\x00\x00\x12\x34\x56\x78\x9a\xbc")?,
+        2 => put_each(&mut items, count, b"\xa1\x05ab\x00\"c")?,
+        3 => put_each(&mut items, count, b"\xa1\x09plaintext")?,
+        _ => put_each(
+            &mut items,
+            count,
+            b"\xa0\x12\xe7\x01\x02\x03\x04\x05\x06\x07\x08\x09\x0a\x0b\x0c\x0d\x0e\x0f\x10\x11",
+        )?,
+    }
+    let size = (items.len() as u64 & 0xffff_ffff) as u32;
+    stream.extend_from_slice(&size.wrapping_add(17).to_be_bytes())?;
+    stream.extend_from_slice(&[2, 0, 0, 1, 0xd0])?;
+    stream.extend_from_slice(&size.wrapping_add(4).to_be_bytes())?;
+    stream.extend_from_slice(&few.wrapping_add(count).to_be_bytes())?;
+    stream.extend_from_slice(&items)
+}
+
+/// Appends a value so many times.
+fn put_each(out: &mut Vec<u8>, count: u32, value: &[u8]) -> Result<(), AllocError> {
+    for _ in 0..count {
+        out.extend_from_slice(value)?;
+    }
+    Ok(())
 }
 
 /// Appends a described list, whose descriptor is a number or a symbol.
