@@ -2,7 +2,7 @@
 //!
 //! [`replay_script`] reads a script whole and checks each of its lines before it runs the first. `docs/COMMANDS.md` has
 //! the lines' format.
-//! The tests stand in `endpoint_rows` and `endpoint_tests`.
+//! The tests stand in `endpoint_rows`, `endpoint_tests` and `script_before`.
 #![tactic(auto)]
 
 mod answers;

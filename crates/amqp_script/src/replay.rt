@@ -16,6 +16,9 @@ use std::alloc::{AllocError, Global};
 use std::io::{Read, Write};
 use thiserror::Error;
 
+/// How many bytes a buffer may have that is kept for the next line.
+const KEPT: usize = 65536;
+
 /// How many bytes are read at once.
 const PIECE: usize = 4096;
 
@@ -163,11 +166,21 @@ fn run<W: Write + Drop>(
     let mut piece = Vec::new(alloc);
     let mut answer = Vec::new(alloc);
     for line in lines.iter().skip(first) {
-        answer.clear();
+        empty(alloc, &mut piece);
+        empty(alloc, &mut answer);
         answer_to(alloc, &mut endpoint, line, &mut piece, &mut answer)?;
         write_out(&answer, writer)?;
     }
     Ok(())
+}
+
+/// Empties a buffer for the next line. One that a long line made large is given back.
+fn empty(alloc: Global, buffer: &mut Vec<u8>) {
+    if buffer.capacity() > KEPT {
+        *buffer = Vec::new(alloc);
+    } else {
+        buffer.clear();
+    }
 }
 
 /// Does what a line asks for, and appends the line of its answer; nothing where it asks for nothing. Its bytes stand in `piece`

@@ -3,7 +3,8 @@
 use crate::numbers::Numbers;
 use amqp_frame::HEADER;
 use amqp_perform::{
-    Attach, Begin, Open, Performative, ReceiverSettleMode, Role, SenderSettleMode, write_frame,
+    Attach, Begin, Close, Detach, Disposition, End, Flow, Open, Performative, ReceiverSettleMode,
+    Role, SenderSettleMode, Transfer, write_frame,
 };
 use std::alloc::{AllocError, Global};
 use std::fmt::Write;
@@ -12,6 +13,9 @@ use std::fmt::Write;
 const LENGTHS: [u32; 22] = [
     0, 1, 2, 3, 7, 8, 9, 15, 16, 17, 31, 32, 33, 63, 64, 65, 100, 4095, 4096, 4097, 8192, 8193,
 ];
+
+/// A payload whose answer, and two of which as one piece, are longer than what is kept for the next line.
+const LARGE: u32 = 40_000;
 
 /// Numbers at the edges of those that may stand in a line.
 const WRITTEN: [&str; 12] = [
@@ -38,6 +42,8 @@ pub struct Script {
     bytes: Vec<u8>,
     line: String,
     id: u32,
+    /// A bit for each link: a delivery has begun there, and more of it is to come.
+    unfinished: u32,
 }
 
 impl Script {
@@ -47,6 +53,7 @@ impl Script {
             bytes: Vec::new(alloc),
             line: String::new(alloc),
             id: 0,
+            unfinished: 0,
         };
         let most = if numbers.is_one_of(2) { 1 } else { 400 };
         script.line.push_str("config r 65536 7 7 100 1048576 1000")?;
@@ -142,6 +149,7 @@ impl Script {
             10 => self.settle(numbers),
             11 if numbers.is_one_of(4) => self.written(numbers),
             12 => self.feed(&[], numbers),
+            19 => self.spoken(numbers, handle),
             13..17 => write!(self.line, "take 0 {handle}"),
             _ => self.transfer(numbers, handle),
         }
@@ -180,26 +188,64 @@ impl Script {
         }
     }
 
+    /// A line that feeds another frame of the peer: it flows, settles, or ends something.
+    fn spoken(&mut self, numbers: &mut Numbers, handle: u32) -> Result<(), AllocError> {
+        let performative = match numbers.below(24) {
+            0 => detach(handle, numbers.is_one_of(2)),
+            1 if numbers.is_one_of(3) => Performative::End(End { error: &[] }),
+            2 if numbers.is_one_of(3) => Performative::Close(Close { error: &[] }),
+            3..12 => settled(numbers.below(9), numbers.below(self.id.saturating_add(2))),
+            _ => flow(handle, numbers.below(60), numbers.is_one_of(4)),
+        };
+        let mut room = [0; 512];
+        let count = write_frame(0, &performative, &[], &mut room).unwrap_or(0);
+        self.feed(room.get(..count).unwrap_or(&[]), numbers)
+    }
+
+    /// The transfer of a delivery, the first one or one that goes on with it; at times the last one gives it up.
+    fn next_transfer(&mut self, numbers: &mut Numbers, handle: u32) -> Transfer<'static> {
+        let mut transfer = Transfer::blank();
+        transfer.handle = handle;
+        let begun = handle < 2 && self.unfinished & 1 << handle != 0;
+        if begun {
+            transfer.aborted = numbers.is_one_of(8);
+        } else {
+            transfer.delivery_id = Some(self.id);
+            transfer.delivery_tag = Some(&[]);
+            transfer.message_format = Some(0);
+            transfer.settled = Some(numbers.is_one_of(3));
+            self.id = self.id.wrapping_add(1);
+        }
+        transfer.more = !transfer.aborted && numbers.is_one_of(6);
+        if handle < 2 && transfer.more {
+            self.unfinished |= 1 << handle;
+        } else if handle < 2 {
+            self.unfinished &= !(1 << handle);
+        }
+        transfer
+    }
+
     /// A line that feeds a transfer, whole or a part of it.
     fn transfer(&mut self, numbers: &mut Numbers, handle: u32) -> Result<(), AllocError> {
         let payload = numbers.of_these(&LENGTHS);
-        let payload = if numbers.is_one_of(3) {
+        let payload = if numbers.is_one_of(100) {
+            LARGE
+        } else if numbers.is_one_of(3) {
             payload
         } else {
             payload.min(100)
         };
-        let [s0, s1, s2, s3] = payload.wrapping_add(25).to_be_bytes();
-        let [i0, i1, i2, i3] = self.id.to_be_bytes();
-        self.id = self.id.wrapping_add(1);
-        let settled = if numbers.is_one_of(3) { 0x41 } else { 0x42 };
-        let handle = (handle & 0xff) as u8;
-        let head = [
-            s0, s1, s2, s3, 2, 0, 0, 0, 0, 0x53, 0x14, 0xc0, 12, 5, 0x52, handle, 0x70, i0, i1, i2,
-            i3, 0xa0, 0, 0x43, settled,
-        ];
-        let mut frame = Vec::from_slice(*self.bytes.allocator(), &head)?;
+        let alloc = *self.bytes.allocator();
+        let transfer = Performative::Transfer(self.next_transfer(numbers, handle));
+        let mut bytes = Vec::new(alloc);
         for _ in 0..payload {
-            frame.push((numbers.next() >> 40 & 0xff) as u8)?;
+            bytes.push((numbers.next() >> 40 & 0xff) as u8)?;
+        }
+        let mut frame = Vec::from_elem(alloc, 0, bytes.len().saturating_add(64))?;
+        let len = write_frame(0, &transfer, &bytes, &mut frame).unwrap_or(0);
+        frame.truncate(len);
+        if payload == LARGE && numbers.is_one_of(2) {
+            frame.extend_from_slice(&bytes)?;
         }
         let count = if numbers.is_one_of(30) {
             numbers.below(25) as usize
@@ -310,6 +356,43 @@ fn attach(handle: u32, name: &'static str) -> Performative<'static> {
         max_message_size: &[],
         offered_capabilities: &[],
         desired_capabilities: &[],
+        properties: &[],
+    })
+}
+
+fn detach(handle: u32, closed: bool) -> Performative<'static> {
+    Performative::Detach(Detach {
+        handle,
+        closed,
+        error: &[],
+    })
+}
+
+/// The sender has settled these.
+fn settled(first: u32, last: u32) -> Performative<'static> {
+    Performative::Disposition(Disposition {
+        role: Role::Sender,
+        first,
+        last: Some(last),
+        settled: true,
+        state: &[],
+        batchable: &[],
+    })
+}
+
+/// The sender of a link is at this count; at times it wants an answer.
+fn flow(handle: u32, delivery_count: u32, echo: bool) -> Performative<'static> {
+    Performative::Flow(Flow {
+        next_incoming_id: None,
+        incoming_window: 100,
+        next_outgoing_id: delivery_count,
+        outgoing_window: 100,
+        handle: Some(handle),
+        delivery_count: Some(delivery_count),
+        link_credit: Some(0),
+        available: None,
+        drain: false,
+        echo,
         properties: &[],
     })
 }
