@@ -190,10 +190,6 @@ impl<A: Allocator + Copy> Endpoint<A> {
         requires { is_dead self.old.connection.phase ≡ false }
         ensures { Comes self.old self.new result }
     {
-        // Most calls that read into the buffer bring less than a frame.
-        if self.input.wants() > 0 {
-            return Outcome::More;
-        }
         match act_on_unit(&self.input, &mut self.connection, &mut self.out) {
             Acted::Done(told) => {
                 self.input.drop_frame();
