@@ -4,7 +4,7 @@ use crate::loopback_tests::{connected, listening};
 use crate::recv_tests::{RECORDS, STREAM};
 use amqp_commands::run::run;
 use amqp_frame::HEADER;
-use std::alloc::{Alloc, Allocator, Global};
+use std::alloc::{Alloc, AllocError, Allocator, Global};
 use std::cell::RefCell;
 use std::env::FillError;
 use std::fmt::Display;
@@ -68,8 +68,8 @@ impl OpenFile for Bytes<'_> {
     }
 }
 
-/// A host with these words, this one file if any, this standard input, a standard output that may be shut, and a listener if
-/// any.
+/// A host with these words, this one file if any, this standard input, a standard output that may be shut or be full at some
+/// time, and a listener if any.
 #[derive(Drop)]
 struct Host<'a> {
     alloc: Global,
@@ -77,6 +77,8 @@ struct Host<'a> {
     file: Option<Bytes<'a>>,
     input: &'a [u8],
     is_shut: bool,
+    /// How many bytes standard output takes.
+    most: usize,
     listener: Option<&'a TcpListener>,
     out: RefCell<String>,
     err: RefCell<String>,
@@ -90,6 +92,16 @@ fn append(stream: &RefCell<String>, text: impl Display + Drop, end: &str) -> io:
             Ok(())
         }
         Err(_) => Err(io::Error::from(ErrorKind::Other)),
+    }
+}
+
+impl Host<'_> {
+    /// Whether standard output takes no so many bytes more.
+    fn is_full(&self, more: usize) -> bool {
+        match self.out.try_borrow() {
+            Ok(out) => out.len().saturating_add(more) > self.most,
+            Err(_) => true,
+        }
     }
 }
 
@@ -111,7 +123,7 @@ impl Print for Host<'_> {
     }
 
     fn write_all(&self, bytes: &[u8]) -> io::Result<()> {
-        if self.is_shut {
+        if self.is_shut || self.is_full(bytes.len()) {
             return Err(io::Error::from(ErrorKind::BrokenPipe));
         }
         match std::str::from_utf8(bytes) {
@@ -244,6 +256,7 @@ fn host_of<'a>(alloc: Global, words: &'a [&'a str], file: Option<Bytes<'a>>) -> 
         file,
         input: &[],
         is_shut: false,
+        most: usize::MAX,
         listener: None,
         out: RefCell::new(String::new(alloc)),
         err: RefCell::new(String::new(alloc)),
@@ -258,6 +271,7 @@ fn host_fed<'a>(alloc: Global, words: &'a [&'a str], input: &'a [u8]) -> Host<'a
         file: None,
         input,
         is_shut: false,
+        most: usize::MAX,
         listener: None,
         out: RefCell::new(String::new(alloc)),
         err: RefCell::new(String::new(alloc)),
@@ -342,6 +356,58 @@ fn runs_a_script(rt: HostRuntime) {
         host.is_shut = is_shut;
         assert_ends(&rt, host, status, out, err);
     }
+}
+
+/// A script with so many calls that ask what is held and so many that feed nothing, of whose answers one has 7 bytes and the
+/// other 12, and the lines that it is answered with.
+fn answered(alloc: Global, held: usize, fed: usize) -> Result<(String, String), AllocError> {
+    let mut script = String::from_str(alloc, "config r 512 0 1 4 10 100\n")?;
+    let mut lines = String::new(alloc);
+    for _ in 0..fed {
+        script.push_str("feed\n")?;
+        lines.push_str("used=0 More\n")?;
+    }
+    for _ in 0..held {
+        script.push_str("held\n")?;
+        lines.push_str("held 0\n")?;
+    }
+    Ok((script, lines))
+}
+
+/// Answers go out whole, however many they are beside what is gathered of them.
+#[test]
+fn sends_out_all_answers_of_a_script(rt: HostRuntime) -> Result<(), Fail> {
+    let words = ["amqp", "replay", "a.amqp"];
+    for (held, fed, len) in [
+        (9357, 3, 65_535),
+        (9352, 6, 65_536),
+        (9359, 2, 65_537),
+        (18_723, 1, 131_073),
+    ] {
+        let (script, lines) = answered(rt.alloc(), held, fed)?;
+        assert_eq!(rt; lines.len(), len);
+        let host = host_of(rt.alloc(), &words, whole(script.as_bytes()));
+        assert_ends(&rt, host, ExitCode::SUCCESS, &lines, "");
+    }
+    Ok(())
+}
+
+/// Where standard output is full what it took begins the answers. They are told of as not written, also where they fit what is
+/// gathered.
+#[test]
+fn says_that_standard_output_is_full(rt: HostRuntime) -> Result<(), Fail> {
+    let words = ["amqp", "replay", "a.amqp"];
+    for (held, most) in [(2, 13), (9400, 65_000), (18_723, 70_000)] {
+        let (script, lines) = answered(rt.alloc(), held, 1)?;
+        let mut host = host_of(rt.alloc(), &words, whole(script.as_bytes()));
+        host.most = most;
+        assert!(rt; run(&host) == ExitCode::FAILURE);
+        let (printed, told) = (host.out.into_inner(), host.err.into_inner());
+        assert_eq!(rt; told.as_str(), "fault: Write\n");
+        assert!(rt; lines.as_str().starts_with(printed.as_str()));
+        assert!(rt; printed.is_empty() == (most < 65_536));
+    }
+    Ok(())
 }
 
 #[test]
