@@ -124,3 +124,11 @@ pub fn dump_bytes(alloc: Global, bytes: &[u8], printed: &mut Digest) -> Result<(
         Err(fault) => Err(Failure::Dump(fault)),
     }
 }
+
+/// The same of bytes with a fault.
+pub fn dump_faulty(alloc: Global, bytes: &[u8], printed: &mut Digest) -> Result<(), Failure> {
+    match dump_bytes(alloc, bytes, printed) {
+        Err(Failure::Fault) => Ok(()),
+        other => other,
+    }
+}

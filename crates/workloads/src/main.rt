@@ -2,6 +2,7 @@
 //!
 //! `workloads NAME SEED ROUNDS` does a job so many times, each time on another input that follows from the seed, and prints a
 //! digest of all that came of it. With no words each job is done once on a small input, so that the same is printed each time.
+//! `workloads texts SEED ROUNDS PART [LENGTH]` makes the capture of one part of that job once, and dumps it so many times.
 #![tactic(auto)]
 
 mod awkward;
@@ -16,9 +17,11 @@ mod peer;
 mod receiving;
 mod replayed;
 mod telemetry;
+mod texts;
 
 use crate::desk::Desk;
 use crate::failure::Failure;
+use crate::texts::part_of;
 use std::alloc::Global;
 use std::env;
 
@@ -50,16 +53,18 @@ enum Job {
     Dump,
     Replay,
     Awkward,
+    Texts,
 }
 
 /// Every job, in the order in which they are done.
-const JOBS: [Job; 6] = [
+const JOBS: [Job; 7] = [
     Job::Telemetry,
     Job::Documents,
     Job::Gateway,
     Job::Dump,
     Job::Replay,
     Job::Awkward,
+    Job::Texts,
 ];
 
 impl Job {
@@ -71,6 +76,7 @@ impl Job {
             Job::Dump => "dump",
             Job::Replay => "replay",
             Job::Awkward => "awkward",
+            Job::Texts => "texts",
         }
     }
 
@@ -86,6 +92,7 @@ impl Job {
                 Job::Dump => dumped::run(&mut desk)?,
                 Job::Replay => replayed::run(&mut desk)?,
                 Job::Awkward => awkward::run(&mut desk)?,
+                Job::Texts => texts::run(&mut desk)?,
             }
         }
         Ok(desk)
@@ -98,12 +105,39 @@ fn main(rt: HostRuntime) -> Result<(), Failure> {
         [] => run_all(&rt, rt.alloc()),
         [name, seed, rounds] => {
             let job = job_of(name.as_str()).ok_or(Failure::NoSuchJob)?;
-            let seed = seed.parse::<u64>().ok().ok_or(Failure::NoSuchJob)?;
-            let rounds = rounds.parse::<u32>().ok().ok_or(Failure::NoSuchJob)?;
+            let (seed, rounds) = numbers_of(seed, rounds)?;
             show(&rt, job, job.run(rt.alloc(), seed, rounds, Size::Full)?)
+        }
+        [name, seed, rounds, part] if name.as_str() == "texts" => {
+            show_part(&rt, rt.alloc(), numbers_of(seed, rounds)?, part, 0)
+        }
+        [name, seed, rounds, part, length] if name.as_str() == "texts" => {
+            let length = length.parse::<u32>().ok().ok_or(Failure::NoSuchJob)?;
+            show_part(&rt, rt.alloc(), numbers_of(seed, rounds)?, part, length)
         }
         _ => Err(Failure::NoSuchJob),
     }
+}
+
+/// A seed and how many rounds.
+fn numbers_of(seed: &String, rounds: &String) -> Result<(u64, u32), Failure> {
+    let seed = seed.parse::<u64>().ok().ok_or(Failure::NoSuchJob)?;
+    let rounds = rounds.parse::<u32>().ok().ok_or(Failure::NoSuchJob)?;
+    Ok((seed, rounds))
+}
+
+/// Does a part of the texts so many times, and prints what came of it.
+fn show_part(
+    rt: &impl Print,
+    alloc: Global,
+    (seed, rounds): (u64, u32),
+    part: &String,
+    length: u32,
+) -> Result<(), Failure> {
+    let part = part_of(part.as_str(), length).ok_or(Failure::NoSuchJob)?;
+    let mut desk = Desk::new(alloc, seed, Size::Full)?;
+    texts::run_part(&mut desk, part, rounds)?;
+    show(rt, Job::Texts, desk)
 }
 
 fn job_of(name: &str) -> Option<Job> {

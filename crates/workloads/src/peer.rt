@@ -102,6 +102,26 @@ impl Peer {
         self.put_long(0, &open, properties.len())
     }
 
+    /// Appends a frame of a performative with so many fields, which are written already.
+    pub fn list(
+        &mut self,
+        channel: u16,
+        descriptor: u8,
+        count: u32,
+        fields: &[u8],
+    ) -> Result<(), Failure> {
+        let size = ((fields.len() as u64).wrapping_add(4) & 0xffff_ffff) as u32;
+        self.bytes
+            .extend_from_slice(&size.wrapping_add(16).to_be_bytes())?;
+        self.bytes.extend_from_slice(&[2, 0])?;
+        self.bytes.extend_from_slice(&channel.to_be_bytes())?;
+        self.bytes.extend_from_slice(&[0, 0x53, descriptor, 0xd0])?;
+        self.bytes.extend_from_slice(&size.to_be_bytes())?;
+        self.bytes.extend_from_slice(&count.to_be_bytes())?;
+        self.bytes.extend_from_slice(fields)?;
+        Ok(())
+    }
+
     pub fn begin(&mut self, channel: u16, next_outgoing_id: u32) -> Result<(), Failure> {
         let begin = Performative::Begin(Begin {
             remote_channel: None,

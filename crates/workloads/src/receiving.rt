@@ -6,7 +6,7 @@ use amqp_endpoint::{Config, End, Endpoint};
 use amqp_frame::Device;
 use amqp_perform::Outcome;
 use amqp_serve::{Policy, serve};
-use std::io::{BufReader, BufWriter};
+use std::io::{self, BufReader, BufWriter, Read};
 
 /// How many bytes of answers and of records are written at once.
 const BUFFER: usize = 65536;
@@ -14,7 +14,7 @@ const BUFFER: usize = 65536;
 /// How a connection is served.
 #[derive(Clone, Copy)]
 pub struct Receiver {
-    /// How many bytes a read brings.
+    /// How many bytes a read brings at most.
     pub at_once: u32,
     /// The credit that each link is kept at, and the deliveries that it may have open.
     pub credit: u32,
@@ -31,7 +31,10 @@ impl Receiver {
             credit: self.credit,
             outcome: Outcome::Accepted,
         };
-        let stream = desk.peer.bytes.as_slice();
+        let stream = Pieces {
+            rest: desk.peer.bytes.as_slice(),
+            at_once: self.at_once as usize,
+        };
         let input = BufReader::with_capacity(alloc, self.at_once as usize, stream)?;
         let mut reader = Device::new(input);
         let mut writer = Device::new(BufWriter::with_capacity(alloc, BUFFER, &mut desk.answers)?);
@@ -41,5 +44,22 @@ impl Receiver {
             Ok(end) => Err(Failure::Ended(end)),
             Err(fault) => Err(Failure::Serve(fault)),
         }
+    }
+}
+
+/// Bytes of which a read brings so many at most.
+#[derive(Drop)]
+struct Pieces<'a> {
+    rest: &'a [u8],
+    at_once: usize,
+}
+
+impl Read for Pieces<'_> {
+    fn read(&mut self, buf: &mut [u8]) -> io::Result<usize> {
+        let count = buf.len().min(self.at_once).min(self.rest.len());
+        let (piece, behind) = self.rest.split_at(count);
+        buf[..count].copy_from_slice(piece);
+        self.rest = behind;
+        Ok(count)
     }
 }
