@@ -31,3 +31,4 @@ pub mod Follows
 pub mod Fills
 pub mod Lent
 pub mod Lents
+pub mod Fronts

@@ -4,15 +4,16 @@ ghost use Rattle.amqp_perform.specs.declared.performative.Performative.TheVarian
 ghost use Rattle.amqp_perform.specs.Said.{said, said_frame};
 ghost use Rattle.amqp_session.specs.Frames.{attaching, attach_said};
 ghost use Rattle.amqp_endpoint.specs.Lengths.{said_most};
+ghost use Rattle.circular_buffer.specs.Buffer.{buffer};
 ghost use Rattle.amqp_endpoint.specs.Calls.{output_size, reply_room, has_room, heartbeat};
 
 use crate::laws::frames_are_as_long;
-use amqp_frame::Pipe;
 use amqp_link::LinkBounds;
 use amqp_perform::{
     Attach, Detach, Disposition, Flow, Performative, write_disposition, write_flow, write_frame,
 };
 use amqp_session::write_attach_reply;
+use circular_buffer::HeapCircularBuffer;
 use std::alloc::{AllocError, Allocator, Global};
 use std::marker::Model;
 
@@ -25,11 +26,11 @@ const REPLY_ROOM: usize = 2560;
 /// An empty frame on channel 0 [2.4.5].
 const HEARTBEAT: [u8; 8] = [0, 0, 0, 8, 2, 0, 0, 0];
 
-/// The bytes that wait to be moved out, at most 8192, and room in which a frame is put together where that behind them in the
-/// pipe's block is too short. Only `new` takes memory.
+/// The bytes that wait to be moved out, at most 8192, and room in which a frame is put together. Only `new` takes
+/// memory.
 #[derive(Drop)]
 pub struct Output<A: Allocator + Copy = Global> {
-    pipe: Pipe<A>,
+    pipe: HeapCircularBuffer<u8, A>,
     scratch: [u8; REPLY_ROOM],
 }
 
@@ -38,9 +39,9 @@ impl<A: Allocator + Copy> Model for Output<A> {
 
     ghost Value = { List ℕ };
 
-    ghost view = { λ a. a.pipe.waits };
+    ghost view = { λ a. a.pipe.items };
 
-    ghost invariant = { λ a. (a.pipe.size ≡ 8192) × (length a.pipe.waits ≤ 8192) };
+    ghost invariant = { λ a. (a.pipe.capacity ≡ 8192) × (length a.pipe.items ≤ 8192) };
 }
 
 impl<A: Allocator + Copy> Output<A> {
@@ -49,7 +50,7 @@ impl<A: Allocator + Copy> Output<A> {
         ensures { IfOk result (λ a. a ≡ []) }
     {
         Ok(Output {
-            pipe: Pipe::new(alloc, OUTPUT_SIZE)?,
+            pipe: HeapCircularBuffer::with_capacity(alloc, OUTPUT_SIZE)?,
             scratch: [0; REPLY_ROOM],
         })
     }
@@ -76,7 +77,7 @@ impl<A: Allocator + Copy> Output<A> {
         requires { length self.old + length bytes.now ≤ output_size }
         ensures { self.new ≡ self.old ++ bytes.now }
     {
-        self.pipe.put(bytes);
+        self.pipe.fill_from_slice(bytes);
     }
 
     /// Puts a frame without payload behind them.
@@ -96,10 +97,8 @@ impl<A: Allocator + Copy> Output<A> {
         requires room { length self.old + length (said_frame channel (said performative.now) []) ≤ output_size }
         ensures { self.new ≡ self.old ++ said_frame channel (said performative.now) [] }
     {
-        if let Some(len) = write_frame(channel, performative, &[], self.pipe.behind()) {
-            self.pipe.came(len);
-        } else if let Some(len) = write_frame(channel, performative, &[], &mut self.scratch) {
-            self.pipe.put(&self.scratch[..len]);
+        if let Some(len) = write_frame(channel, performative, &[], &mut self.scratch) {
+            put_front(&mut self.pipe, &self.scratch, len);
         }
     }
 
@@ -110,10 +109,8 @@ impl<A: Allocator + Copy> Output<A> {
         requires room { length self.old + length (said_frame channel (said (performative.Flow flow.now)) []) ≤ output_size }
         ensures { self.new ≡ self.old ++ said_frame channel (said (performative.Flow flow.now)) [] }
     {
-        if let Some(len) = write_flow(channel, flow, &[], self.pipe.behind()) {
-            self.pipe.came(len);
-        } else if let Some(len) = write_flow(channel, flow, &[], &mut self.scratch) {
-            self.pipe.put(&self.scratch[..len]);
+        if let Some(len) = write_flow(channel, flow, &[], &mut self.scratch) {
+            put_front(&mut self.pipe, &self.scratch, len);
         }
     }
 
@@ -124,10 +121,8 @@ impl<A: Allocator + Copy> Output<A> {
         requires room { length self.old + length (said_frame channel (said (performative.Disposition disposition.now)) []) ≤ output_size }
         ensures { self.new ≡ self.old ++ said_frame channel (said (performative.Disposition disposition.now)) [] }
     {
-        if let Some(len) = write_disposition(channel, disposition, &[], self.pipe.behind()) {
-            self.pipe.came(len);
-        } else if let Some(len) = write_disposition(channel, disposition, &[], &mut self.scratch) {
-            self.pipe.put(&self.scratch[..len]);
+        if let Some(len) = write_disposition(channel, disposition, &[], &mut self.scratch) {
+            put_front(&mut self.pipe, &self.scratch, len);
         }
     }
 
@@ -147,7 +142,7 @@ impl<A: Allocator + Copy> Output<A> {
         ensures { self.new ≡ self.old ++ said_frame channel (attach_said bounds.max_message_size (attaching attach.now bounds)) [] }
     {
         if let Some(len) = write_attach_reply(channel, attach, bounds, &mut self.scratch) {
-            self.pipe.put(&self.scratch[..len]);
+            put_front(&mut self.pipe, &self.scratch, len);
         }
     }
 
@@ -156,7 +151,7 @@ impl<A: Allocator + Copy> Output<A> {
         requires { length self.old + 8 ≤ output_size }
         ensures { self.new ≡ self.old ++ heartbeat }
     {
-        self.pipe.put(HEARTBEAT.as_slice());
+        self.pipe.fill_from_slice(HEARTBEAT.as_slice());
     }
 
     /// The first bytes that wait, as many as lie in one piece: some, where some wait.
@@ -164,7 +159,8 @@ impl<A: Allocator + Copy> Output<A> {
         ensures front { (behind : List ℕ) × (self.now ≡ result.now ++ behind) }
         ensures some { 0 < length self.now → 0 < length result.now }
     {
-        self.pipe.front()
+        let (front, behind) = self.pipe.as_slices();
+        if front.is_empty() { behind } else { front }
     }
 
     /// Drops the first `n` of them.
@@ -172,7 +168,8 @@ impl<A: Allocator + Copy> Output<A> {
         requires { n ≤ length self.old }
         ensures { self.new ≡ drop n self.old }
     {
-        self.pipe.drop_front(n);
+        let left = self.pipe.len() - n;
+        self.pipe.truncate_front(left);
     }
 
     /// Moves the first bytes that wait into `out`, as many as it holds, and answers how many.
@@ -183,4 +180,21 @@ impl<A: Allocator + Copy> Output<A> {
     {
         self.pipe.read_into(out)
     }
+}
+
+/// Puts the first `len` bytes of `scratch` behind those that wait. The ring copies 32 bytes at a time, and a rest in small steps, so
+/// more bytes are put, and dropped again behind.
+fn put_front<A: Allocator>(
+    pipe: &mut HeapCircularBuffer<u8, A>,
+    scratch: &[u8; REPLY_ROOM],
+    len: usize,
+)
+    requires short { len ≤ reply_room }
+    requires room { length pipe.old.items + len ≤ pipe.old.capacity }
+    ensures { pipe.new ≡ buffer (pipe.old.items ++ take len scratch.now) pipe.old.capacity }
+{
+    let end = pipe.len() + len;
+    let rounded = (len + 31) / 32 * 32;
+    pipe.fill_from_slice(&scratch[..rounded]);
+    pipe.truncate_back(end);
 }

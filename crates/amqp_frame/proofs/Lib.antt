@@ -3,5 +3,4 @@ pub mod Histories
 pub mod Readings
 pub mod Results
 pub mod Overs
-pub mod Pipes
 pub mod Lents

@@ -5,7 +5,7 @@ use Rattle.std.proofs.lemmas.List.{places, same_lists}
 use Rattle.amqp_frame.specs.Rooms.{Filled, over, with_spare}
 
 -- a vector of that length, once these were written from a place on
-abbrev pub written : ℕ → ℕ → List ℕ → List ℕ → List ℕ
+abbrev written : ℕ → ℕ → List ℕ → List ℕ → List ℕ
 written long m xs ws = take long ((take m xs ++ (ws ++ drop (length ws) (drop m xs))) ++ drop (length (take m xs ++ (ws ++ drop (length ws) (drop m xs)))) xs)
 
 -- a vector that was lengthened by zeros, if it was shorter
@@ -16,13 +16,13 @@ zeroed end xs = xs ++ replicate (end - length xs) 0
 abbrev kept_in : ℕ → ℕ → List ℕ → Filled
 kept_in whole m xs = record { filled = take m xs; spare = drop m xs ++ replicate (whole - length xs) 0; reach = length xs - m }
 
-pub front : (m : ℕ) (xs ws : List ℕ) → m ≤ length xs → take m (written (length xs) m xs ws) ≡ take m xs
+front : (m : ℕ) (xs ws : List ℕ) → m ≤ length xs → take m (written (length xs) m xs ws) ≡ take m xs
 front m xs ws h = same_lists _ _ (search (rules, places)) (λ k d j. grind (arith, places))
 
-pub behind : (m : ℕ) (xs ws : List ℕ) → m ≤ length xs → drop m (written (length xs) m xs ws) ≡ over ws (drop m xs)
+behind : (m : ℕ) (xs ws : List ℕ) → m ≤ length xs → drop m (written (length xs) m xs ws) ≡ over ws (drop m xs)
 behind m xs ws h = same_lists _ _ (search (rules, places)) (λ k d j. grind (arith, places))
 
-pub as_long : (m : ℕ) (xs ws : List ℕ) → m ≤ length xs → length (written (length xs) m xs ws) ≡ length xs
+as_long : (m : ℕ) (xs ws : List ℕ) → m ≤ length xs → length (written (length xs) m xs ws) ≡ length xs
 as_long m xs ws h = search (rules, places)
 
 -- what is written over the front does not reach what stands behind it

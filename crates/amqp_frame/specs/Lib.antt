@@ -4,5 +4,3 @@ pub mod Devices
 pub mod Rooms
 pub mod RoomLends
 pub mod SplitLends
-pub mod Pipes
-pub mod PipeLends

@@ -14,12 +14,10 @@
 
 mod device;
 pub mod laws;
-mod pipe;
 mod room;
 mod split;
 mod units;
 
 pub use device::{AtHand, Device, Direct, HoldsBack};
-pub use pipe::Pipe;
 pub use split::Splitter;
 pub use units::{Frame, FrameFault, HEADER, Stage};

@@ -2,6 +2,7 @@ pub mod Fields
 pub mod Opens
 pub mod Lengths
 pub mod Heads
+pub mod Filled
 pub mod Writing
 pub mod Histories
 pub mod Runs

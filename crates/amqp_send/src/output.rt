@@ -8,8 +8,8 @@ ghost use Rattle.byteorder.specs.Endian.{big_bytes};
 
 use crate::flow_state::MAX_FRAME_SIZE;
 use crate::laws::lengths_of_frames;
-use amqp_frame::Pipe;
 use amqp_perform::{Performative, write_frame};
+use circular_buffer::HeapCircularBuffer;
 use std::alloc::{AllocError, Allocator, Global};
 use std::marker::Model;
 
@@ -25,7 +25,7 @@ pub const LATER_HEAD: [u8; 20] = [
 /// payload. Only `new` takes memory.
 #[derive(Drop)]
 pub struct Output<A: Allocator + Copy = Global> {
-    pipe: Pipe<A>,
+    pipe: HeapCircularBuffer<u8, A>,
     scratch: Vec<u8, A>,
 }
 
@@ -34,9 +34,9 @@ impl<A: Allocator + Copy> Model for Output<A> {
 
     ghost Value = { List ℕ };
 
-    ghost view = { λ a. a.pipe.waits };
+    ghost view = { λ a. a.pipe.items };
 
-    ghost invariant = { λ a. (a.pipe.size ≡ 8192) × (length a.pipe.waits ≤ 8192) × (length a.scratch.items ≡ 4096) };
+    ghost invariant = { λ a. (a.pipe.capacity ≡ 8192) × (length a.pipe.items ≤ 8192) × (length a.scratch.items ≡ 4096) };
 }
 
 impl<A: Allocator + Copy> Output<A> {
@@ -45,7 +45,7 @@ impl<A: Allocator + Copy> Output<A> {
         ensures { IfOk result (λ a. a ≡ []) }
     {
         Ok(Output {
-            pipe: Pipe::new(alloc, PIPE_SIZE)?,
+            pipe: HeapCircularBuffer::with_capacity(alloc, PIPE_SIZE)?,
             scratch: Vec::from_elem(alloc, 0, MAX_FRAME_SIZE as usize)?,
         })
     }
@@ -62,7 +62,7 @@ impl<A: Allocator + Copy> Output<A> {
         requires { length self.old + length bytes.now ≤ pipe_size }
         ensures { self.new ≡ self.old ++ bytes.now }
     {
-        self.pipe.put(bytes);
+        self.pipe.fill_from_slice(bytes);
     }
 
     /// How long a frame would be, where that is at most `most`.
@@ -91,8 +91,8 @@ impl<A: Allocator + Copy> Output<A> {
         let most = (PIPE_SIZE - self.pipe.len()).min(MAX_FRAME_SIZE as usize);
         match write_head(performative, payload, most, self.scratch.as_mut_slice()) {
             Some(head_len) => {
-                self.pipe.put(&self.scratch[..head_len]);
-                self.pipe.put(payload);
+                self.pipe.fill_from_slice(&self.scratch[..head_len]);
+                self.pipe.fill_from_slice(payload);
                 true
             }
             None => false,
@@ -111,8 +111,8 @@ impl<A: Allocator + Copy> Output<A> {
         if size > PIPE_SIZE - self.pipe.len() {
             return false;
         }
-        self.pipe.put(&later_head(size as u32));
-        self.pipe.put(payload);
+        self.pipe.fill_from_slice(&later_head(size as u32));
+        self.pipe.fill_from_slice(payload);
         true
     }
 
