@@ -82,7 +82,6 @@ impl Page {
     }
 
     /// Whether memory was refused for something of the line. What is put behind that comes to nothing.
-    #[inline(always)]
     pub fn lacks(&self) -> bool
         ensures { result ≡ self.now.lacks }
     {
@@ -157,7 +156,6 @@ fn lengthen(bytes: &mut Vec<u8>, len: usize, more: usize) -> bool
 }
 
 /// Puts bytes at their place.
-#[inline(always)]
 fn put_at(out: &mut [u8], at: usize, bytes: &[u8])
     requires { at + length bytes.now ≤ length out.old }
     ensures kept { (n : ℕ) → n ≤ at → take n out.new ≡ take n out.old }

@@ -48,7 +48,6 @@ fn put_described<'a>(out: &mut Page, depth: usize, bytes: &'a [u8]) -> &'a [u8]
 
 /// Appends the text of the value whose data stand behind the code. [1.6]
 #[cycle(text)]
-#[inline(always)]
 fn put_data<'a>(out: &mut Page, depth: usize, code: u8, bytes: &'a [u8]) -> &'a [u8]
     ensures { out.new.whole ≡ out.old.whole }
 {

@@ -334,7 +334,6 @@ impl<A: Allocator + Copy> Connection<A> {
 
     #[tactic(auto, using(crate::proofs::Lent::went_on, crate::proofs::Lent::stayed))]
     /// Credit for the link at a handle of the session on a channel. Where it is refused nothing has changed.
-    #[inline(always)]
     pub fn grant(&mut self, channel: u16, handle: u32, n: u32) -> Result<Flow<'static>, CallFault>
         ensures { IsAsked credit_said self.old self.new channel (Grant handle n) result }
     {

@@ -112,7 +112,6 @@ impl<A: Allocator + Copy> Endpoint<A> {
 
     /// Acts upon a frame of so many bytes that lies whole at the front of a piece, for whose answer there is room. It is not
     /// copied, unless memory is refused for it, so that it has to wait.
-    #[inline(always)]
     fn act_on_lent(&mut self, frame: Frame<'_>, size: usize, piece: &[u8]) -> Fed
         requires lent { IsLent self.old.input piece.now frame size }
         requires room { length self.old.unsent + reply_room ≤ output_size }

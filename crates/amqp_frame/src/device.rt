@@ -167,7 +167,6 @@ impl<T> Device<T> {
     }
 
     /// An error where it is marked.
-    #[inline(always)]
     fn unmarked(&self) -> io::Result<()>
         ensures { IsErr result ↔ IsTrue (has_failed self.now) }
     {
@@ -178,7 +177,6 @@ impl<T> Device<T> {
     }
 
     /// Marks it.
-    #[inline(always)]
     fn fail<X>(&mut self, error: io::Error) -> io::Result<X>
         ensures err { result ≡ Err error }
         ensures marked { self.new ≡ record self.old { failed = true } }
@@ -284,7 +282,6 @@ impl<W: Write> Device<W> {
     /// Writes bytes from the front of `buf`, and answers how many, at least one of some. The first
     /// error of the writer marks it, and so does a write that takes none of some bytes. Once marked
     /// it answers an error without asking the writer. Nor is the writer asked where `buf` is empty.
-    #[inline(always)]
     pub fn write(&mut self, buf: &[u8]) -> io::Result<usize>
         ensures bound { IfOk result (λ n. n ≤ length buf.now) }
         ensures marked { IsErr result ↔ IsTrue (has_failed self.new) }
@@ -315,7 +312,6 @@ impl<W: Write> Device<W> {
     /// Writes all of `buf`, in as many writes as that takes. The first of them that fails marks it, as
     /// does one that takes nothing; none is asked behind that, and what was written is a front of `buf`.
     /// Once marked it answers an error without asking the writer.
-    #[inline(always)]
     pub fn write_all(&mut self, buf: &[u8]) -> io::Result<()>
         ensures marked { IsErr result ↔ IsTrue (has_failed self.new) }
         ensures written { OnOk result (Appends (W.contents (device_inner self.old)) (W.contents (device_inner self.new)) buf.now) }

@@ -84,7 +84,6 @@ impl<A: Allocator + Copy> Message<A> {
 
     /// A payload more. All the memory that it needs is taken before anything changes: new pieces, the list of pieces,
     /// the last piece.
-    #[inline(always)]
     pub(crate) fn extend(&mut self, payload: &[u8]) -> Result<(), AllocError>
         ensures ok { OnOk result (self.new ≡ self.old ++ payload.now) }
         ensures err { OnErr result (self.new ≡ self.old) }

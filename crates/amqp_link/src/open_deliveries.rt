@@ -59,7 +59,6 @@ impl<A: Allocator + Copy> OpenDeliveries<A> {
     }
 
     /// Makes room for one more and for its place among the others, so that the next one that begins takes no memory here.
-    #[inline(always)]
     pub fn make_room(&mut self) -> Result<(), AllocError>
         ensures { self.new ≡ self.old }
     {
@@ -333,7 +332,6 @@ impl<A: Allocator + Copy> OpenDeliveries<A> {
     }
 
     /// Whether one that was not handed up has the id, where this is known of those that are ready.
-    #[inline(always)]
     fn is_untaken_by(&self, hint: Hint, id: u32) -> bool
         requires { IsHint hint id id self.now.ready }
         ensures { result ≡ list_any (has_id id) (untaken self.now) }
@@ -351,7 +349,6 @@ impl<A: Allocator + Copy> OpenDeliveries<A> {
     }
 
     /// The first that is ready and has the id, of which this is known.
-    #[inline(always)]
     fn find_ready_by(&self, hint: Hint, id: u32) -> Option<&OpenDelivery<A>>
         requires { IsHint hint id id self.now.ready }
         ensures { option_map (λ d. delivery_of d.now) result ≡ find (has_id id) self.now.ready }

@@ -322,7 +322,6 @@ fn transfer_at<'a>(bytes: &'a [u8], transfer: &mut Transfer<'a>) -> Option<&'a [
 
 /// Reads the transfer that a frame's body begins with into `transfer`, and answers how many bytes it takes, as [`read_body`]
 /// reads it; `None` where the body begins with none, and what stands in `transfer` then says nothing. [2.7.5]
-#[inline(always)]
 pub fn read_transfer_into<'a>(bytes: &'a [u8], transfer: &mut Transfer<'a>) -> Option<usize>
     ensures within { IfSome result (λ n. n ≤ length bytes.now) }
     ensures exact { IfSome result (λ n. IsRead bytes.now (Ok (performative.Transfer transfer.new, n))) }

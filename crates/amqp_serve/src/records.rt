@@ -35,7 +35,6 @@ pub fn write_record<A: Allocator + Copy, S: Write + Drop>(
 }
 
 /// Writes all of a piece.
-#[inline(always)]
 fn put_out<S: Write + Drop>(sink: &mut Device<S>, piece: &[u8]) -> Result<(), ServeFault>
     requires { ¬ (IsTrue (has_failed sink.old)) }
     ensures fault { OnErr result (result ≡ Err ServeFault.Sink) }

@@ -15,7 +15,6 @@ use std::io::Write;
 
 /// Tops up the windows and the credit of all sessions and their links, by rising channel and handle; where only one session
 /// may lack something, its own. Answers whether nothing is lacking then, which is so unless something was refused.
-#[inline(always)]
 pub fn top_up<A: Allocator + Copy, W: Write + HoldsBack + Drop, S: Write + Drop>(
     endpoint: &mut Endpoint<A>,
     writer: &mut Device<W>,
@@ -90,7 +89,6 @@ fn top_up_session<A: Allocator + Copy, W: Write + HoldsBack + Drop, S: Write + D
 }
 
 /// The first handle from one on, of so many, whose link lacks credit; so many where none does.
-#[inline(always)]
 fn first_lacking<A: Allocator + Copy>(
     endpoint: &Endpoint<A>,
     channel: u16,

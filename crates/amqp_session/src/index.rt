@@ -142,7 +142,6 @@ impl<A: Allocator + Copy> Index<A> {
     }
 
     /// The one with this id is open no longer, if it is closed.
-    #[inline(always)]
     pub fn close(&mut self, id: u32, closed: bool)
         ensures { (q : ℕ) → q < 2 ^ 32 → found self.new q ≡ closed_of closed id q (found self.old q) }
     {
