@@ -175,61 +175,93 @@ pub fn put_quoted(out: &mut Page, bytes: &[u8])
     ensures { out.new.whole ≡ out.old.whole }
 {
     out.put_byte(b'"');
-    if are_plain(bytes) {
+    let plain = plain_len(bytes);
+    if plain == bytes.len() {
         out.put(bytes);
     } else {
-        put_escaped(out, bytes);
+        put_escaped(out, bytes, plain);
     }
     out.put_byte(b'"');
 }
 
-/// Whether all bytes stand for themselves.
-#[inline(always)]
-fn are_plain(bytes: &[u8]) -> bool {
-    let (words, rest) = bytes.as_chunks::<8>();
-    let mut flags = 0;
-    for word in words {
-        flags |= flags_of(u64::from_le_bytes(*word));
-    }
-    let rest = rest
-        .iter()
-        .fold(SPACES, |word, byte| word << 8 | u64::from(*byte));
-    flags | flags_of(rest) == 0
-}
-
-/// Appends bytes of which some do not stand for themselves.
+/// Appends bytes of which the first `plain` stand for themselves, by runs of such and of others.
 #[inline(never)]
-fn put_escaped(out: &mut Page, bytes: &[u8])
+fn put_escaped(out: &mut Page, bytes: &[u8], plain: usize)
+    requires { plain ≤ length bytes.now }
     ensures { out.new.whole ≡ out.old.whole }
 {
-    for eight in bytes.chunks(8) {
-        if out.lacks() {
-            break;
-        }
-        if are_plain(eight) {
-            out.put(eight);
-        } else {
-            put_each(out, eight);
-        }
+    put_plain(out, bytes, plain);
+    let mut at = plain;
+    while at < bytes.len() && !out.lacks() {
+        at += put_escapes(out, &bytes[at..]);
+        let rest = &bytes[at..];
+        let plain = plain_len(rest);
+        put_plain(out, rest, plain);
+        at += plain;
     }
 }
 
-/// The same, byte by byte.
-fn put_each(out: &mut Page, bytes: &[u8])
+/// Appends the first `len` bytes, which stand for themselves.
+#[inline(always)]
+fn put_plain(out: &mut Page, bytes: &[u8], len: usize)
+    requires { len ≤ length bytes.now }
     ensures { out.new.whole ≡ out.old.whole }
 {
-    for byte in bytes {
-        if flags_of(u64::from(*byte) | SPACES << 8) == 0 {
-            out.put_byte(*byte);
-        } else {
-            let [high, low, ..] = hex_of([*byte, 0, 0, 0]);
-            out.put(&[b'\\', b'x', high, low]);
-        }
+    // Eight bytes are copied without a call.
+    match bytes.first_chunk::<8>() {
+        Some(eight) if len <= 8 => out.put_front(eight, len),
+        _ => out.put(&bytes[..len]),
     }
 }
 
-/// Whether some of eight bytes don't stand for themselves: those that are no printable ASCII, a quote and a backslash. 0 where
-/// all do.
+/// Appends the bytes in front that don't stand for themselves, the first of which is one. Answers how many these are.
+fn put_escapes(out: &mut Page, bytes: &[u8]) -> usize
+    ensures within { result ≤ length bytes.now }
+    ensures some { 1 ≤ length bytes.now → 1 ≤ result }
+    ensures whole { out.new.whole ≡ out.old.whole }
+{
+    for (index, byte) in bytes.iter().enumerate() {
+        if index > 0 && is_plain(*byte) {
+            return index;
+        }
+        out.put(&escaped(*byte));
+    }
+    bytes.len()
+}
+
+/// How many bytes in front stand for themselves.
+fn plain_len(bytes: &[u8]) -> usize
+    ensures { result ≤ length bytes.now }
+{
+    let (words, rest) = bytes.as_chunks::<8>();
+    for (index, word) in words.iter().enumerate() {
+        let flags = flags_of(u64::from_le_bytes(*word));
+        if flags != 0 {
+            return (8 * index + flags.trailing_zeros() as usize / 8).min(bytes.len());
+        }
+    }
+    let word = rest
+        .iter()
+        .rev()
+        .fold(SPACES, |word, byte| word << 8 | u64::from(*byte));
+    let plain = flags_of(word).trailing_zeros() as usize / 8;
+    8 * words.len() + plain.min(rest.len())
+}
+
+/// Whether a byte stands for itself.
+fn is_plain(byte: u8) -> bool {
+    flags_of(u64::from(byte) | SPACES << 8) == 0
+}
+
+/// A byte that doesn't.
+fn escaped(byte: u8) -> [u8; 4] {
+    let [high, low, ..] = hex_of([byte, 0, 0, 0]);
+    [b'\\', b'x', high, low]
+}
+
+/// Which of eight bytes don't stand for themselves: those that are no printable ASCII, a quote and a backslash. 0 where all do. The
+/// lowest bit is the high bit of the first such byte; those above it may tell others too, since what is taken from one byte is
+/// borrowed from the next.
 fn flags_of(word: u64) -> u64 {
     let controls = word.wrapping_sub(SPACES);
     let delete = word.wrapping_add(ONES);
