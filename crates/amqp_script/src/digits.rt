@@ -1,27 +1,46 @@
 //! Bytes as pairs of hexadecimal digits. Each byte and each pair is done by arithmetic alone, so that several are done at once.
 
+ghost use Rattle.std.specs.Prelude.{◌≡◌, ◌≤◌, ◌<◌, ◌++◌, ◌*◌, ◌↔◌, ℕ, length, slice_index, IsTrue, IsOk, OnOk, OnErr, Some};
+ghost use Rattle.std.specs.List.{list_all};
+ghost use Rattle.hex.specs.Hex.{decode_of, encode_lower, hex_digit_value, is_hex_digit, lower_digits};
+
 use std::alloc::AllocError;
 
 /// Whether a text is some pairs of digits, large or small ones.
-pub fn is_hex(text: &[u8]) -> bool {
-    let mut all = !text.is_empty() && text.len() % 2 == 0;
+pub fn is_hex(text: &[u8]) -> bool
+    ensures { IsTrue result ↔ (1 ≤ length text.now) × IsOk (decode_of text.now) }
+{
+    !text.is_empty() && text.len() % 2 == 0 && are_digits(text)
+}
+
+/// All bytes are gone through, without a way out at the first that is none.
+fn are_digits(text: &[u8]) -> bool
+    ensures { result ≡ list_all is_hex_digit text.now }
+{
+    let mut all = true;
     for byte in text {
         all &= is_digit(*byte);
     }
     all
 }
 
-fn is_digit(byte: u8) -> bool {
+fn is_digit(byte: u8) -> bool
+    ensures { result ≡ is_hex_digit byte }
+{
     (byte.wrapping_sub(b'0') < 10) | ((byte | 0x20).wrapping_sub(b'a') < 6)
 }
 
 /// The number of a digit.
-fn value_of(digit: u8) -> u8 {
+fn value_of(digit: u8) -> u8
+    ensures { (v : ℕ) → hex_digit_value digit ≡ Some v → result ≡ v }
+{
     (digit & 0xf).wrapping_add((digit >> 6).wrapping_mul(9)) & 0xf
 }
 
 /// The small digit of a number below 16.
-fn digit_of(number: u8) -> u8 {
+fn digit_of(number: u8) -> u8
+    ensures { number < 16 → result ≡ slice_index lower_digits number }
+{
     let behind = if number > 9 { b'a' - b'0' - 10 } else { 0 };
     number.wrapping_add(b'0').wrapping_add(behind)
 }
@@ -38,14 +57,24 @@ pub fn read_hex(out: &mut Vec<u8>, text: &[u8]) -> Result<(), AllocError> {
     Ok(())
 }
 
-/// Appends the digits of bytes.
-pub fn put_hex(out: &mut Vec<u8>, bytes: &[u8]) -> Result<(), AllocError> {
+/// Appends the digits of bytes. Where memory is refused nothing is appended.
+pub fn put_hex(out: &mut Vec<u8>, bytes: &[u8]) -> Result<(), AllocError>
+    ensures put { OnOk result (out.new.items ≡ out.old.items ++ encode_lower bytes.now) }
+    ensures kept { OnErr result (out.new.items ≡ out.old.items) }
+{
     let start = out.len();
     out.resize(start.saturating_add(bytes.len().saturating_mul(2)), 0)?;
-    let (_, room) = out.as_mut_slice().split_at_mut(start);
-    let (pairs, _) = room.as_chunks_mut::<2>();
-    for (pair, byte) in pairs.iter_mut().zip(bytes) {
-        *pair = [digit_of(*byte >> 4), digit_of(*byte & 0xf)];
-    }
+    put_pairs(&mut out[start..], bytes);
     Ok(())
+}
+
+/// Writes a pair of digits for each byte.
+fn put_pairs(out: &mut [u8], bytes: &[u8])
+    requires { length out.old ≡ 2 * length bytes.now }
+    ensures { out.new ≡ encode_lower bytes.now }
+{
+    for index in 0..bytes.len() {
+        out[2 * index] = digit_of(bytes[index] >> 4);
+        out[2 * index + 1] = digit_of(bytes[index] & 0xf);
+    }
 }
