@@ -1,5 +1,5 @@
 //! Made streams, dumped by `amqp_dump` and by its code of before: what is printed of them is the same. `dump_before COUNT SEED`
-//! makes so many from a number of one's own.
+//! makes so many from a number of one's own, beside those that don't follow from numbers.
 #![tactic(auto)]
 
 mod before;
@@ -25,6 +25,8 @@ enum Failure {
     Dump(DumpFault),
     /// Of the stream of this number another dump is printed.
     Differs(u64),
+    /// Of a stream at the edges too: the first line of it that was another one before, or the last line of one with a fault.
+    LineDiffers(String),
 }
 
 impl From<io::Error> for Failure {
@@ -69,6 +71,10 @@ fn main(rt: HostRuntime) -> Result<(), Failure> {
     } = came;
     println!(rt; "{count} streams: the same; {whole} dumped to their end, {faults} with a fault")?;
     println!(rt; "{bytes} bytes of lines")?;
+    let edges = compare_edges(rt.alloc())?;
+    println!(rt;
+        "{edges} values with each byte at each place, and at the edges of lengths and numbers: the same"
+    )?;
     Ok(())
 }
 
@@ -79,12 +85,7 @@ fn number(word: &String) -> Result<u64, Failure> {
 /// Dumps the stream of a number both ways.
 fn compare(alloc: Global, number: u64, came: &mut Came) -> Result<(), Failure> {
     let stream = made::stream(alloc, &mut Numbers::of(number))?;
-    let mut printed = Vec::new(alloc);
-    let mut reader = Device::new(stream.as_slice());
-    let is_whole = match dump(alloc, &mut reader, &mut Device::new(&mut printed)) {
-        Ok(is_whole) => is_whole,
-        Err(fault) => return Err(Failure::Dump(fault)),
-    };
+    let (is_whole, printed) = dump_now(alloc, &stream)?;
     if printed != before::dump(alloc, &stream)? {
         return Err(Failure::Differs(number));
     }
@@ -95,4 +96,43 @@ fn compare(alloc: Global, number: u64, came: &mut Came) -> Result<(), Failure> {
     }
     came.bytes = came.bytes.wrapping_add(printed.len() as u64);
     Ok(())
+}
+
+/// Whether a stream is whole, and its dump.
+fn dump_now(alloc: Global, stream: &[u8]) -> Result<(bool, Vec<u8>), Failure> {
+    let mut printed = Vec::new(alloc);
+    let mut reader = Device::new(stream);
+    match dump(alloc, &mut reader, &mut Device::new(&mut printed)) {
+        Ok(is_whole) => Ok((is_whole, printed)),
+        Err(fault) => Err(Failure::Dump(fault)),
+    }
+}
+
+/// Dumps the streams of values at edges both ways: all are whole. How many values there are.
+fn compare_edges(alloc: Global) -> Result<u64, Failure> {
+    let mut count: u64 = 0;
+    for frames in made::edges(alloc)?.iter() {
+        let (is_whole, now) = dump_now(alloc, &frames.bytes)?;
+        let then = before::dump(alloc, &frames.bytes)?;
+        if !is_whole || now != then {
+            return Err(Failure::LineDiffers(first_other(alloc, &now, &then)?));
+        }
+        count = count.wrapping_add(frames.count);
+    }
+    Ok(count)
+}
+
+/// The first line that was another one before, or the last one.
+fn first_other(alloc: Global, now: &[u8], then: &[u8]) -> Result<String, AllocError> {
+    let mut last: &[u8] = &[];
+    let lines = now.split(|byte| *byte == b'\n');
+    for (line, before) in lines.zip(then.split(|byte| *byte == b'\n')) {
+        if line != before {
+            return String::from_utf8_lossy(alloc, line);
+        }
+        if !line.is_empty() {
+            last = line;
+        }
+    }
+    String::from_utf8_lossy(alloc, last)
 }

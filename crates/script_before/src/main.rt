@@ -1,12 +1,12 @@
 //! Made scripts, run by `amqp_script` and by its code of before: what is answered, what is written and what is refused is the
-//! same. `script_before COUNT SEED` makes so many from a number of one's own.
+//! same. `script_before COUNT SEED` makes so many from a number of one's own, beside those that don't follow from numbers.
 #![tactic(auto)]
 
 mod before;
 mod made;
 mod numbers;
 
-use crate::made::{Script, Table};
+use crate::made::{Kind, NO_DIGITS, Sample, Script, TELLING, Table};
 use crate::numbers::Numbers;
 use amqp_endpoint::Config;
 use amqp_frame::Device;
@@ -26,6 +26,8 @@ enum Failure {
     Usage,
     /// The script of this number has another outcome, or other answers.
     Differs(u64),
+    /// So has a script with this line, or other limits a table with this row.
+    LineDiffers(String),
 }
 
 impl From<io::Error> for Failure {
@@ -75,6 +77,10 @@ fn main(rt: HostRuntime) -> Result<(), Failure> {
     } = came;
     println!(rt; "{count} scripts: the same; {whole} run to their end, {refused} with a bad line")?;
     println!(rt; "{answered} bytes of answers; {tables} tables of limits read")?;
+    let edited = compare_edited(rt.alloc())?;
+    println!(rt; "{edited} lines with a byte more, less or another one: the same")?;
+    let edges = compare_edges(rt.alloc())?;
+    println!(rt; "{edges} scripts and tables at the edges of numbers and lengths: the same")?;
     Ok(())
 }
 
@@ -85,17 +91,25 @@ fn number(word: &String) -> Result<u64, Failure> {
 /// Runs the script of a number both ways.
 fn compare_scripts(alloc: Global, number: u64, came: &mut Came) -> Result<(), Failure> {
     let script = Script::made(alloc, &mut Numbers::of(number))?;
-    let (told, answers) = run_now(alloc, &script)?;
-    let (told_before, answers_before) = run_before(alloc, &script)?;
-    if told != told_before || answers != answers_before {
+    let Some((told, answers)) = run(alloc, &script)? else {
         return Err(Failure::Differs(number));
-    }
+    };
     match told {
         Ok(()) => came.whole = came.whole.wrapping_add(1),
         Err(_) => came.refused = came.refused.wrapping_add(1),
     }
     came.answered = came.answered.wrapping_add(answers.len() as u64);
     Ok(())
+}
+
+/// What comes of a script, and the answers. None where it differs from what came of it before.
+fn run(
+    alloc: Global,
+    script: &[u8],
+) -> Result<Option<(Result<(), ScriptFault>, Vec<u8>)>, AllocError> {
+    let now = run_now(alloc, script)?;
+    let is_same = now == run_before(alloc, script)?;
+    Ok(if is_same { Some(now) } else { None })
 }
 
 fn run_now(alloc: Global, script: &[u8]) -> Result<(Result<(), ScriptFault>, Vec<u8>), AllocError> {
@@ -124,31 +138,92 @@ fn run_before(
 /// Reads the table of a number both ways.
 fn compare_tables(alloc: Global, number: u64, came: &mut Came) -> Result<(), Failure> {
     let table = Table::made(alloc, &mut Numbers::of(number))?;
-    let now = read_limits(alloc, config(alloc)?, &mut Device::new(table.as_slice()));
-    let then = before::read_limits(alloc, config(alloc)?, &mut Device::new(table.as_slice()));
-    let now = match now {
-        Ok(now) => now,
-        Err(fault) => return same_fault(number, fault, then.err()),
-    };
-    let Ok(then) = then else {
-        return Err(Failure::Differs(number));
-    };
-    for name in [b"a".as_slice(), b"ab", b"abc", b"b", b"x", b""] {
-        let (now, then) = (now.bounds_for(name), then.bounds_for(name));
-        if now.allowed() != then.allowed() || now.max_message_size() != then.max_message_size() {
-            return Err(Failure::Differs(number));
-        }
+    match read(alloc, &table)? {
+        Some(Ok(())) => came.tables = came.tables.wrapping_add(1),
+        Some(Err(_)) => {}
+        None => return Err(Failure::Differs(number)),
     }
-    came.tables = came.tables.wrapping_add(1);
     Ok(())
 }
 
-/// Whether a table was refused as before.
-fn same_fault(number: u64, now: ScriptFault, then: Option<ScriptFault>) -> Result<(), Failure> {
-    if then == Some(now) {
+/// What comes of a table. None where it differs from what came of it before, or sets other limits.
+fn read(alloc: Global, table: &[u8]) -> Result<Option<Result<(), ScriptFault>>, Failure> {
+    let now = read_limits(alloc, config(alloc)?, &mut Device::new(table));
+    let then = before::read_limits(alloc, config(alloc)?, &mut Device::new(table));
+    Ok(match (now, then) {
+        (Ok(now), Ok(then)) if sets_the_same(&now, &then) => Some(Ok(())),
+        (Err(now), Err(then)) if now == then => Some(Err(now)),
+        _ => None,
+    })
+}
+
+/// Whether links of some names have the same bounds.
+fn sets_the_same(now: &Config, then: &Config) -> bool {
+    let names: [&[u8]; 10] = [
+        b"a", b"ab", b"abc", b"b", b"x", b"7", b"p0", b"p9", b"p15", b"",
+    ];
+    names.iter().all(|name| {
+        let (now, then) = (now.bounds_for(name), then.bounds_for(name));
+        now.allowed() == then.allowed() && now.max_message_size() == then.max_message_size()
+    })
+}
+
+/// Compares scripts and tables of which a line has a byte more at each of its places, one less, or another one. How many there are.
+fn compare_edited(alloc: Global) -> Result<u64, Failure> {
+    let mut count: u64 = 0;
+    for sample in made::samples(alloc)?.iter() {
+        let len = sample.line.len();
+        for at in 0..=len {
+            for byte in TELLING {
+                compare_line(alloc, sample, &sample.edited(alloc, at, 0, &[*byte])?)?;
+            }
+        }
+        for at in 0..len {
+            compare_line(alloc, sample, &sample.edited(alloc, at, 1, &[])?)?;
+            for byte in 0..=255 {
+                compare_line(alloc, sample, &sample.edited(alloc, at, 1, &[byte])?)?;
+            }
+        }
+        let places = (len as u64).saturating_mul(257);
+        let more = (len as u64)
+            .saturating_add(1)
+            .saturating_mul(TELLING.len() as u64);
+        count = count.saturating_add(places).saturating_add(more);
+    }
+    Ok(count)
+}
+
+/// Compares scripts and tables at the edges of numbers and lengths. How many there are.
+fn compare_edges(alloc: Global) -> Result<u64, Failure> {
+    let mut count: u64 = 0;
+    for sample in made::digits(alloc)?.iter() {
+        compare_line(alloc, sample, &sample.line)?;
+        count = count.saturating_add(1);
+        for at in 0..sample.line.len() {
+            for byte in NO_DIGITS {
+                compare_line(alloc, sample, &sample.edited(alloc, at, 1, &[*byte])?)?;
+                count = count.saturating_add(1);
+            }
+        }
+    }
+    for sample in made::edges(alloc)?.iter() {
+        compare_line(alloc, sample, &sample.line)?;
+        count = count.saturating_add(1);
+    }
+    Ok(count)
+}
+
+/// Compares a script or table with this line.
+fn compare_line(alloc: Global, sample: &Sample, line: &[u8]) -> Result<(), Failure> {
+    let text = sample.with(alloc, line)?;
+    let is_same = match sample.kind {
+        Kind::Script => run(alloc, &text)?.is_some(),
+        Kind::Table => read(alloc, &text)?.is_some(),
+    };
+    if is_same {
         Ok(())
     } else {
-        Err(Failure::Differs(number))
+        Err(Failure::LineDiffers(String::from_utf8_lossy(alloc, line)?))
     }
 }
 
