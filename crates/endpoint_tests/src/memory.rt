@@ -42,6 +42,34 @@ fn fed(endpoint: &mut Refused<'_>, unit: &[u8]) -> Result<Outcome, Fail> {
     Ok(endpoint.feed(&[]).outcome)
 }
 
+/// The first transfer of a delivery, which another follows, with so many bytes.
+fn first_of(alloc: Global, count: u32) -> Result<Vec<u8>, Fail> {
+    let (head, _) = FIRST.split_at(22);
+    let mut unit = Vec::from_slice(alloc, &count.saturating_add(22).to_be_bytes())?;
+    unit.extend_from_slice(head.get(4..).unwrap_or(&[]))?;
+    for _ in 0..count {
+        unit.push(b'x')?;
+    }
+    Ok(unit)
+}
+
+/// How many bytes were granted for the first transfer of a link when its request of this number was refused. None where it makes
+/// no such request.
+fn granted_before(alloc: Global, number: u64, unit: &[u8]) -> Result<Option<u64>, Fail> {
+    let heap = TestHeap::new(alloc, 0);
+    let mut endpoint = endpoint(&heap).ok_or("no endpoint")?;
+    for unit in OPENING {
+        let _ = fed(&mut endpoint, unit)?;
+    }
+    let _ = endpoint.grant(0, 0, 1);
+    heap.restart(number);
+    match endpoint.feed(unit).outcome {
+        Outcome::NoMemory => Ok(Some(heap.requested())),
+        outcome if outcome == UNFINISHED => Ok(None),
+        _ => Err(Fail::from("another outcome")),
+    }
+}
+
 /// Receives a message of 5,000 transfers, where there is memory for an endpoint.
 fn receive(rt: &impl Abort, heap: &TestHeap<Global>) -> Result<(), Fail> {
     let Some(mut endpoint) = endpoint(heap) else {
@@ -82,5 +110,19 @@ fn each_growth_of_a_long_message_is_refused_in_turn(rt: HostRuntime) -> Result<(
         refused = number;
     }
     assert_eq!(rt; refused, 4 + 1 + 5 + 2 + 13 + 2 + 1);
+    Ok(())
+}
+
+/// The delivery and its place are asked for, and its payload last: what was granted before does not depend on the payload.
+#[test]
+fn a_delivery_has_its_place_before_its_payload_is_copied(rt: HostRuntime) -> Result<(), Fail> {
+    let alloc = rt.alloc();
+    let [short, long] = [first_of(alloc, 1)?, first_of(alloc, 4000)?];
+    for number in 1..4 {
+        let granted = granted_before(alloc, number, &short)?;
+        assert!(rt; granted.is_some(), "{number}");
+        assert_eq!(rt; granted_before(alloc, number, &long)?, granted, "{number}");
+    }
+    assert_eq!(rt; granted_before(alloc, 4, &long)?, None);
     Ok(())
 }

@@ -2,13 +2,19 @@
 
 use amqp_endpoint::{Answer, Call, Config, Endpoint, Event, Outcome, replay};
 use amqp_session::LinkView;
-use std::alloc::Allocator;
+use std::alloc::{Allocator, Global};
 use std::process::Abort;
 use std::test::Fail;
 
 /// The peer's header, open, begin and attach.
 const STREAM: &[u8] =
     b"AMQP\x00\x01\x00\x00\x00\x00\x00\x11\x02\x00\x00\x00\x00\x53\x10\xc0\x04\x01\xa1\x01a\x00\x00\x00\x14\x02\x00\x00\x00\x00\x53\x11\xc0\x07\x04\x40\x43\x52\x64\x52\x64\x00\x00\x00\x20\x02\x00\x00\x00\x00\x53\x12\xc0\x13\x0a\xa1\x01l\x43\x42\x40\x40\x00\x53\x28\x45\x00\x53\x29\x45\x40\x40\x43";
+
+/// How many bytes may wait for the peer, in one block.
+const BLOCK: usize = 8192;
+
+/// An empty frame on channel 0.
+const HEARTBEAT: &[u8] = b"\x00\x00\x00\x08\x02\x00\x00\x00";
 
 /// A delivery with the id 0 in three transfers.
 const PARTS: [&[u8]; 3] = [
@@ -120,4 +126,48 @@ fn a_replay_has_an_answer_for_each_call(rt: HostRuntime) -> Result<(), Fail> {
         }
         _ => Err(Fail::from("another answer")),
     }
+}
+
+/// Writes empty frames until there is no room for more, and appends them to what was written.
+fn fill(endpoint: &mut Endpoint, written: &mut Vec<u8>) -> Result<(), Fail> {
+    for _ in 0..BLOCK {
+        if endpoint.heartbeat().is_err() {
+            break;
+        }
+        written.extend_from_slice(HEARTBEAT)?;
+    }
+    Ok(())
+}
+
+/// Moves out so many bytes of those that wait, or all where they are fewer.
+fn move_out(alloc: Global, endpoint: &mut Endpoint, count: usize) -> Result<(), Fail> {
+    let mut room = Vec::from_elem(alloc, 0, count)?;
+    endpoint.output(room.as_mut_slice());
+    Ok(())
+}
+
+/// Asserts that what waits is lent from one place of all that was written to another.
+fn assert_lent(rt: &impl Abort, endpoint: &Endpoint, written: &[u8], from: usize, to: usize) {
+    let lent = endpoint.unsent_front();
+    assert_eq!(rt; lent.len(), to.saturating_sub(from));
+    assert!(rt; written.get(from..to) == Some(lent));
+}
+
+#[test]
+fn what_waits_is_lent_up_to_the_end_of_its_block(rt: HostRuntime) -> Result<(), Fail> {
+    let alloc = rt.alloc();
+    let mut endpoint = Endpoint::new(alloc, config(alloc)?)?;
+    let _ = feed_all(&mut endpoint, STREAM);
+    let mut written = Vec::from_slice(alloc, endpoint.unsent_front())?;
+    fill(&mut endpoint, &mut written)?;
+    assert_lent(&rt, &endpoint, &written, 0, written.len());
+    move_out(alloc, &mut endpoint, 5000)?;
+    assert_lent(&rt, &endpoint, &written, 5000, written.len());
+    fill(&mut endpoint, &mut written)?;
+    assert_lent(&rt, &endpoint, &written, 5000, BLOCK);
+    move_out(alloc, &mut endpoint, 1000)?;
+    assert_lent(&rt, &endpoint, &written, 6000, BLOCK);
+    move_out(alloc, &mut endpoint, BLOCK - 6000)?;
+    assert_lent(&rt, &endpoint, &written, BLOCK, written.len());
+    Ok(())
 }
