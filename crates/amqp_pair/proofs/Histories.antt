@@ -139,15 +139,18 @@ parts s last (t ∷ turns) (a ∷ answers) range r = one s r.0 last t a range.0 
 pub histories : ((config : Configured) (calls : List of_endpoint.Call) (answers : List of_endpoint.Answer) (start last : EndpointState) → IsConfigured config.container_id config.max_frame config.window → AreInRange calls
     → of_endpoint.IsStart config start → of_endpoint.Run start calls answers last → IsWholeRun config calls answers last)
     → ((terms : SendTerms) (calls : List of_sender.Call) (answers : List of_sender.Answer) (start last : SenderState) → of_sender.IsStart terms start → of_sender.Run start calls answers last → of_sender.HasHistory terms calls answers last)
+    → ((terms : SendTerms) (calls : List of_sender.Call) (answers : List of_sender.Answer) (start last : SenderState) (n : ℕ) → of_sender.IsStart terms start → of_sender.Run start calls answers last
+    → of_sender.HasMoment terms start calls answers last n)
     → (config : Configured) (terms : SendTerms) (turns : List Turn) (answers : List TurnAnswer) (last : Ends) → IsConfigured config.container_id config.max_frame config.window → AllInRange turns
     → IsJoined config terms turns answers last → HasHistories config terms last
-histories of_end of_send config terms turns answers last is range j =
+histories of_end of_send of_moment config terms turns answers last is range j =
     let p = parts j.start last turns answers range j.run in
     record {
       start = j.start;
       parts = p;
       endpoint = of_end config p.asked p.told j.start.endpoint last.endpoint is p.in_range j.new.endpoint p.endpoint;
       sender = of_send terms p.sent p.heard j.start.sender last.sender j.new.sender p.sender;
+      sender_moments = λ n. of_moment terms p.sent p.heard j.start.sender last.sender n j.new.sender p.sender;
       to_endpoint = ap (λ (x : List ℕ). x ++ flat_map of_sender.moved_by p.heard) (sym j.new.to_endpoint) ∙ p.to_endpoint;
       to_sender = ap (λ (x : List ℕ). x ++ flat_map trace.moved_by p.told) (sym j.new.to_sender) ∙ p.to_sender;
       taken = p.taken ∙ ap (λ (x : List Handed). x ++ flat_map handed_by p.told) j.new.taken;

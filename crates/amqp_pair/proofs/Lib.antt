@@ -15,3 +15,11 @@ pub mod Called
 pub mod Histories
 pub mod Attached
 pub mod WordUnits
+pub mod Below
+pub mod Items
+pub mod Stepped
+pub mod Hearing
+pub mod Becoming
+pub mod Calling
+pub mod Turned
+pub mod Served

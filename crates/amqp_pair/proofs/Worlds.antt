@@ -8,7 +8,7 @@ use Rattle.amqp_perform.specs.declared.modes.ReceiverSettleMode.{ReceiverSettleM
 use Rattle.amqp_perform.specs.declared.modes.ReceiverSettleMode.TheVariants as mode
 use Rattle.amqp_link.specs.Links.{Delivery, LinkState, deliveries, open_count, has_id, fault_of, advance_by, link_after, delivery_after, Granted, DrainAsked, Transferred, ReceiverSettled, receiver_settles, told_by, is_first}
 use Rattle.amqp_serial.specs.Numbers.{sum_of}
-use Rattle.amqp_pair.specs.World.{Flow, Frame, First, Later, Told, Sender, ahead, credit_of, window_of, World, frame_of, charge, sent, puts, cuts, writes, answers, drained, answered, told, comes, offers, first_sent, later_sent, fails, judged, takes_in, id_open, counts, acts, flow_of, flows, takes, Turn, Offer, Write, To_end, To_sender, Grant, Widen, Drain, Take, Settle, happens, text, grown, done, wholes, tail, IsBegun, BegunAs, Walk, Tells, Climb, part_text, messages, waits_first, Plain, Inv, IsFair, start, StepLaw, BeginLaw, run, AreFair, heads_of, transfers_of, IsServed, WorldLaw}
+use Rattle.amqp_pair.specs.World.{Flow, Frame, First, Later, Told, Sender, ahead, credit_of, window_of, World, frame_of, charge, sent, puts, cuts, writes, answers, drained, answered, told, comes, offers, first_sent, later_sent, fails, judged, takes_in, id_open, counts, acts, flow_of, flows, takes, Turn, Offer, Write, To_end, To_sender, Grant, Widen, Drain, Take, Settle, happens, text, grown, done, wholes, tail, IsBegun, BegunAs, Walk, Tells, Climb, part_text, messages, waits_first, Plain, Inv, IsWithin, IsFair, start, StepLaw, BeginLaw, run, AreFair, heads_of, transfers_of, IsServed, WorldLaw}
 use Rattle.amqp_pair.proofs.Climbs.{walk_le, walk_first, walk_later, walk_told, climb_le, climb_up, climb_link, climb_session, ahead_is}
 use Rattle.amqp_pair.proofs.Wholes.{wholes_first, wholes_later, wholes_told, Small, small_back, small_more, next_fits}
 
@@ -36,6 +36,9 @@ module _ (w : World) (x : Plain) (i : Inv w x) where
 
   pub window_within : window_of w.sender + (x.ns - x.ue) ≤ w.places
   window_within = omega (arith, window_is, ends, tops, i.used)
+
+pub within : (w : World) (x : Plain) → Inv w x → IsWithin w x
+within w x i = record { credit = credit_within w x i; window = window_within w x i }
 
 -- ---- the sender
 

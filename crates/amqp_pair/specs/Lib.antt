@@ -13,3 +13,5 @@ pub mod Called
 pub mod Histories
 pub mod Attached
 pub mod WordUnits
+pub mod Items
+pub mod Paired

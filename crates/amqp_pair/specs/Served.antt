@@ -48,6 +48,17 @@ abbrev pub AreFair : Configured → SendTerms → List Turn → Type 0
 AreFair config terms [] = Unit {0}
 AreFair config terms (turn ∷ turns) = IsFair config terms turn × AreFair config terms turns
 
+-- Of turns in hand this alone is asked: that each message that is offered is short. Their calls are for the one link, and their ids have 32 bits.
+abbrev pub IsShort : Configured → SendTerms → Turn → Type 0
+IsShort config terms (Offer message) = length message ≤ (bounds_for config terms.name).max_message_size
+IsShort config terms (ToEndpoint n) = Unit {0}
+IsShort config terms (ToSender n) = Unit {0}
+IsShort config terms (Ask call) = Unit {0}
+
+abbrev pub AreShort : Configured → SendTerms → List Turn → Type 0
+AreShort config terms [] = Unit {0}
+AreShort config terms (turn ∷ turns) = IsShort config terms turn × AreShort config terms turns
+
 -- What it says. ---------------------------------------------------------------------------------------------------------
 
 -- the endpoint tells no failure

@@ -1,4 +1,4 @@
--- A sender and a receiving link, and what is on its way between them.
+-- A sender and a receiving link, and the frames and flows on their way between them, in place of bytes (AMQP 1.0, part 2, sections 2.5.6, 2.6.7 and 2.6.14).
 use Rattle.std.specs.Prelude.{◌≡◌, ℕ, ◌+◌, ◌-◌, ◌%◌, ◌^◌, ◌<◌, ◌≤◌, ◌&&◌, Bool, true, false, List, [], ◌∷◌, ◌++◌, length, map, take, drop, Option, Some, None, is_none, option_map, option_to_list, if◌then◌else◌, nat_lt, nat_le, nat_eq}
 use Rattle.std.specs.List.{AllByRecursion, list_any}
 use Rattle.byteorder.specs.Endian.{big_bytes}
@@ -10,9 +10,9 @@ use Rattle.amqp_link.specs.declared.terms.Terms.{Terms}
 -- from the endpoint: a flow, of the link or of the session alone
 pub record Flow : Type 0 where
   pub of_link : Bool
-  pub count : ℕ
+  pub count : ℕ  -- delivery-count and link-credit [2.6.7]
   pub credit : ℕ
-  pub next : ℕ
+  pub next : ℕ  -- next-incoming-id and incoming-window [2.5.6]
   pub window : ℕ
   pub drain : Bool
   pub echo : Bool
@@ -21,7 +21,7 @@ pub record Flow : Type 0 where
 pub data Frame : Type 0 where
   First : (id : ℕ) → (payload : List ℕ) → (more : Bool) → Frame
   Later : (payload : List ℕ) → (more : Bool) → Frame
-  Told : (count next : ℕ) → Frame
+  Told : (count next : ℕ) → Frame  -- its delivery-count and its next-outgoing-id
 
 -- the sender: what of its message is not written, whether some of it is; its numbers, modulo 2 ^ 32; the limits it was told
 pub record Sender : Type 0 where
@@ -43,26 +43,32 @@ credit_of s = ahead s.credit_limit s.count
 abbrev pub window_of : Sender → ℕ
 window_of s = ahead s.window_limit s.next
 
+-- Both sides, and what is on its way to each, the oldest first.
 pub record World : Type 0 where
   pub sender : Sender
   pub to_end : List Frame
   pub to_sender : List Flow
+  -- the receiving link, and the window of its session: the places that are left, and the next-incoming-id [2.5.6]
   pub link : LinkState
   pub places : ℕ
   pub next : ℕ
+  -- the messages that were taken, and those that were taken over, in order
   pub given : List (List ℕ)
   pub offered : List (List ℕ)
+  -- the receiver found a fault
   pub failed : Bool
 
--- ---- the sender
+-- The sender. -----------------------------------------------------------------------------------------------------------
 
 -- a frame of the message with these bytes
 abbrev pub frame_of : Sender → List ℕ → Bool → Frame
 frame_of s payload more = if s.begun then Later payload more else First s.id payload more
 
+-- what the next frame of the message takes of the credit: one at its first, and nothing later [2.6.7]
 abbrev pub charge : Sender → ℕ
 charge s = if s.begun then 0 else 1
 
+-- a frame of the message was written, and this of it is left
 abbrev pub sent : Sender → Option (List ℕ) → Bool → Sender
 sent s rest begun = record s { waiting = rest; begun = begun; id = (s.id + charge s) % 2 ^ 32; count = (s.count + charge s) % 2 ^ 32; next = (s.next + 1) % 2 ^ 32 }
 
@@ -74,10 +80,12 @@ abbrev pub cuts : World → List ℕ → ℕ → Bool → World
 cuts w rest n true = puts w (sent w.sender (Some (drop n rest)) true) (take n rest) true
 cuts w rest n false = puts w (sent w.sender None false) rest false
 
+-- A frame is written where the window has a place and there is credit; else nothing happens [2.5.6, 2.6.7].
 abbrev pub writes : World → Option (List ℕ) → ℕ → Bool → World
 writes w None n more = w
 writes w (Some rest) n more = if nat_lt 0 (window_of w.sender) then (if nat_le (charge w.sender) (credit_of w.sender) then cuts w rest n more else w) else w
 
+-- The sender writes a flow; it used its credit up; it answers a flow that asks for either [2.6.7].
 abbrev pub answers : World → World
 answers w = record w { to_end = w.to_end ++ Told w.sender.count w.sender.next ∷ [] }
 
@@ -89,19 +97,23 @@ answered w true echo = answers (record w { sender = drained w.sender })
 answered w false true = answers w
 answered w false false = w
 
+-- what a flow tells it: where the credit ends, if it is of the link, and where the window does
 abbrev pub told : Sender → Flow → Sender
 told s f = record s { credit_limit = if f.of_link then sum_of f.count f.credit else s.credit_limit; window_limit = sum_of f.next f.window }
 
+-- the first flow on its way comes
 abbrev pub comes : World → List Flow → World
 comes w [] = w
 comes w (f ∷ fs) = answered (record w { sender = told w.sender f; to_sender = fs }) (f.of_link && f.drain && is_none w.sender.waiting) f.echo
 
+-- A message is taken over where none waits.
 abbrev pub offers : World → Option (List ℕ) → List ℕ → World
 offers w None m = record w { offered = w.offered ++ m ∷ []; sender = record w.sender { waiting = Some m; begun = false } }
 offers w (Some rest) m = w
 
--- ---- the endpoint
+-- The endpoint. ---------------------------------------------------------------------------------------------------------
 
+-- a first frame and a later one as the link sees them [2.6.14]
 abbrev pub first_sent : ℕ → List ℕ → Bool → Sent
 first_sent id payload more = record { delivery_id = Some id; delivery_tag = Some (big_bytes 4 id); message_format = Some 0; settled = false; more = more; rcv_settle_mode = None; resume = false; aborted = false; payload = payload }
 
@@ -111,35 +123,44 @@ later_sent payload more = record { delivery_id = None; delivery_tag = None; mess
 abbrev pub fails : World → World
 fails w = record w { failed = true }
 
+-- A transfer ends the link where that has a fault for it. Else it takes a place, and the link goes on with it [2.5.6, 2.6.14].
 abbrev pub judged : World → List Frame → Sent → Option LinkFault → World
 judged w q t (Some f) = fails w
 judged w q t None = record w { to_end = q; link = link_after w.link (Transferred t); places = w.places - 1; next = (w.next + 1) % 2 ^ 32 }
 
+-- It is a fault too where no place is left, or where the id of its delivery is open.
 abbrev pub takes_in : World → List Frame → Sent → Bool → World
 takes_in w q t used = if nat_eq w.places 0 then fails w else (if used then fails w else judged w q t (fault_of w.link t))
 
 abbrev pub id_open : LinkState → ℕ → Bool
 id_open s id = is_none s.unfinished && list_any (has_id id) (deliveries s)
 
+-- A flow of the sender raises the delivery-count, and is a fault where it goes beyond the credit [2.6.7].
 abbrev pub counts : World → List Frame → ℕ → ℕ → World
 counts w q count next = if is_beyond w.link.delivery_count w.link.credit (Some count) then fails w else record w { to_end = q; link = link_after w.link (FlowStated (Some count)); next = next }
 
+-- the first frame on its way is acted upon
 abbrev pub acts : World → List Frame → World
 acts w [] = w
 acts w (First id payload more ∷ q) = takes_in w q (first_sent id payload more) (id_open w.link id)
 acts w (Later payload more ∷ q) = takes_in w q (later_sent payload more) false
 acts w (Told count next ∷ q) = counts w q count next
 
+-- the flow that states how link and session stand
 abbrev pub flow_of : World → Bool → Flow
 flow_of w of_link = record { of_link = of_link; count = w.link.delivery_count; credit = w.link.credit; next = w.next; window = w.places; drain = w.link.draining; echo = false }
 
 abbrev pub flows : World → Bool → World
 flows w of_link = record w { to_sender = w.to_sender ++ flow_of w of_link ∷ [] }
 
+-- the first ready message is taken
 abbrev pub takes : World → List Delivery → World
 takes w [] = w
 takes w (d ∷ ds) = record w { link = link_after w.link (HandedUp d); given = w.given ++ d.message ∷ [] }
 
+-- Turns. ----------------------------------------------------------------------------------------------------------------
+
+-- an offer, a frame that is written, the first of what is on its way to either side, and the calls of the endpoint
 pub data Turn : Type 0 where
   Offer : (m : List ℕ) → Turn
   Write : (n : ℕ) → (more : Bool) → Turn
@@ -162,7 +183,7 @@ happens w Drain = flows (record w { link = link_after w.link DrainAsked }) true
 happens w Take = takes w w.link.ready
 happens w (Settle id) = record w { link = link_after w.link (ReceiverSettled id id) }
 
--- ---- what holds
+-- What holds behind each turn. ------------------------------------------------------------------------------------------
 
 -- how far a message has come
 abbrev pub text : Option (List ℕ) → List ℕ
@@ -223,19 +244,24 @@ messages ds = map (λ d. d.message) ds
 abbrev pub waits_first : Sender → ℕ
 waits_first s = if is_none s.waiting then 0 else charge s
 
+-- The numbers that go round at 2 ^ 32, plain: those that the endpoint has acted upon, and those of the sender.
 pub record Plain : Type 0 where
   pub ce : ℕ  -- heads and advances at the endpoint
   pub ue : ℕ  -- transfers at the endpoint
   pub ke : ℕ  -- heads at the endpoint
-  pub cs : ℕ
-  pub ns : ℕ
-  pub ks : ℕ
-  pub ls : ℕ  -- the limits that the sender was told
+  pub cs : ℕ  -- heads and advances of the sender
+  pub ns : ℕ  -- its transfers
+  pub ks : ℕ  -- its heads
+  pub ls : ℕ  -- the limits that the sender was told: how far heads and advances may come, and how far transfers
   pub ws : ℕ
   pub last : Option (List ℕ)  -- what is written of the message that waits
 
+-- Nothing has failed. What is on its way leads from the numbers of the endpoint to those of the sender, and the limits lead from those
+-- that the sender was told to the endpoint's. The messages that were taken, those that are ready, those on their way and the one that
+-- waits are those that were taken over, in order.
 pub record Inv (w : World) (x : Plain) : Type 0 where
   pub fine : w.failed ≡ false
+  -- the sender's numbers
   pub id : w.sender.id ≡ x.ks % 2 ^ 32
   pub count : w.sender.count ≡ x.cs % 2 ^ 32
   pub next : w.sender.next ≡ x.ns % 2 ^ 32
@@ -245,13 +271,16 @@ pub record Inv (w : World) (x : Plain) : Type 0 where
   pub told_window : w.sender.window_limit % 2 ^ 32 ≡ x.ws % 2 ^ 32
   pub spent : x.cs ≤ x.ls
   pub used : x.ns ≤ x.ws
+  -- what is on its way
   pub climb : Climb w.to_sender x.ls x.ws (x.ce + w.link.credit) (x.ue + w.places)
   pub walk : Walk w.to_end (part_text w.link) x.ce x.ue x.ke x.last x.cs x.ns x.ks
+  -- the endpoint's
   pub end_count : w.link.delivery_count ≡ x.ce % 2 ^ 32
   pub end_next : w.next ≡ x.ue % 2 ^ 32
   pub narrow : w.places < 2 ^ 31
   pub within : w.link.credit ≤ w.link.terms.bounds.allowed
   pub few : w.link.terms.bounds.allowed < 2 ^ 31
+  -- the messages
   pub stream : w.given ++ (messages w.link.ready ++ (wholes (part_text w.link) w.to_end ++ tail x.last w.sender.waiting)) ≡ w.offered
   pub small : AllByRecursion (λ m. length m ≤ w.link.terms.bounds.max_message_size) w.offered
   pub ids_taken : AllByRecursion (λ d. d.delivery_id < x.ke) w.link.awaiting
@@ -260,11 +289,17 @@ pub record Inv (w : World) (x : Plain) : Type 0 where
   pub numbered : x.ks + waits_first w.sender ≡ length w.offered
   pub messages : length w.offered ≤ 2 ^ 32
 
+-- The sender's credit, with the heads and advances on their way, is at most the endpoint's; its window, with the transfers on their way, is at most the places that are left [2.5.6, 2.6.7].
+pub record IsWithin (w : World) (x : Plain) : Type 0 where
+  pub credit : credit_of w.sender + (x.cs - x.ce) ≤ w.link.credit
+  pub window : window_of w.sender + (x.ns - x.ue) ≤ w.places
+
 -- each message that is offered fits, and there are no more than 2 ^ 32
 abbrev pub IsFair : World → Turn → Type 0
 IsFair w (Offer m) = (length m ≤ w.link.terms.bounds.max_message_size) × (length w.offered < 2 ^ 32)
 IsFair w turn = Unit {0}
 
+-- a new sender and a new link, in a session with these places
 abbrev pub start : Terms → ℕ → World
 start terms window = record {
   sender = record { waiting = None; begun = false; id = 0; count = 0; next = 0; credit_limit = 0; window_limit = 0 };
@@ -277,6 +312,8 @@ start terms window = record {
   offered = [];
   failed = false;
 }
+
+-- Laws. -----------------------------------------------------------------------------------------------------------------
 
 abbrev pub StepLaw : Type 0
 StepLaw = (w : World) (x : Plain) (turn : Turn) → IsFair w turn → Inv w x → (y : Plain) × Inv (happens w turn) y
@@ -292,6 +329,7 @@ abbrev pub AreFair : List Turn → World → Type 0
 AreFair [] w = Unit {0}
 AreFair (turn ∷ turns) w = IsFair w turn × AreFair turns (happens w turn)
 
+-- what is on its way: first frames, and transfers
 abbrev pub heads_of : List Frame → ℕ
 heads_of [] = 0
 heads_of (First id payload more ∷ q) = heads_of q + 1

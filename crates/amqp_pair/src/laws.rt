@@ -12,6 +12,8 @@ ghost use Rattle.amqp_endpoint.specs.Configs.{Configured, IsConfigured};
 ghost use Rattle.amqp_pair.specs.declared.turn.TurnAnswer.{TurnAnswer};
 ghost use Rattle.amqp_pair.specs.Histories.{AllInRange, HasHistories};
 ghost use Rattle.amqp_pair.specs.Turns.{Turn, Ends, IsJoined};
+ghost use Rattle.amqp_pair.specs.Paired.{TurnLaw};
+ghost use Rattle.amqp_pair.specs.Served.{PairLaw};
 ghost use Rattle.amqp_pair.specs.Attached.{AttachedLaw};
 ghost use Rattle.amqp_pair.specs.WordUnits.{WordUnitsLaw};
 ghost use Rattle.amqp_pair.specs.Heard.{BeginHeardLaw, FlowHeardLaw, OfferedLaw};
@@ -23,10 +25,13 @@ ghost use Rattle.amqp_pair.specs.Spoken.{spoken, FrontLaw, IsOnWay};
 ghost use Rattle.amqp_send.specs.Histories.{Deed, written};
 ghost use Rattle.amqp_send.specs.Sendings.{SendTerms};
 
-use amqp_endpoint::laws::runs_have_a_history as endpoint_runs;
+use amqp_endpoint::laws::{frames_are_as_long, runs_have_a_history as endpoint_runs};
 use amqp_frame::laws::{each_unit_has_bytes, no_unit_begins_another};
 use amqp_perform::laws::{outcomes_are_found, said_is_a_frame, said_is_read};
-use amqp_send::laws::{frames_are_within, frames_may_be_said, runs_have_a_history as sender_runs};
+use amqp_send::laws::{
+    each_call_has_its_history, frames_are_within, frames_may_be_said,
+    runs_have_a_history as sender_runs,
+};
 use amqp_types::laws::{canonical_spells, reading_is_exact};
 
 /// What a sender wrote is units: its header, the frames of its opening, its answers to flows, its transfers, its close
@@ -167,6 +172,7 @@ pub fn each_end_has_its_history()
 {
     endpoint_runs();
     sender_runs();
+    each_call_has_its_history();
 }
 
 /// The sender's attach, in a session that has begun and has no link, is answered, and its link stands, where the answer is
@@ -183,4 +189,35 @@ pub fn words_are_units()
     ensures { WordUnitsLaw }
 {
     said_is_a_frame();
+}
+
+/// Each turn keeps how both ends, and what is on its way between them, stand as on the message level. It is answered well: no
+/// feed of the endpoint tells a failure, and no offer that its sender has ended. The sender's credit, with the heads and advances
+/// on their way, is at most the endpoint's, and its window, with the transfers on their way, at most the endpoint's places [2.2 to 2.7].
+pub fn each_turn_keeps_the_pair()
+    ensures { TurnLaw }
+{
+    no_unit_begins_another();
+    each_unit_has_bytes();
+    said_is_a_frame();
+    frames_are_within();
+    frames_are_as_long();
+    words_are_units();
+    a_sender_makes_turns();
+    replies_tell_what_they_say();
+    frames_of_a_sender_are_accepted();
+    the_attach_is_accepted();
+    words_are_acted_upon();
+    calls_are_turns();
+    the_message_level_is_sound();
+}
+
+/// Under every list of turns no feed of the endpoint tells a failure, no offer is answered that the sender has ended, and what
+/// was taken is a beginning of what was offered and taken over, where each message is as long as the link's may be and there are
+/// no more than 2^32 of them [2.5.6, 2.6.7, 2.6.14].
+pub fn the_pair_is_served()
+    ensures { PairLaw }
+{
+    each_turn_keeps_the_pair();
+    the_message_level_is_sound();
 }

@@ -6,6 +6,7 @@ use Rattle.amqp_send.specs.Keeping.{terms_of}
 use Rattle.amqp_pair.specs.Histories.{AllInRange}
 use Rattle.amqp_pair.proofs.Histories.{ranges_on}
 use Rattle.amqp_pair.proofs.Joining.{joined_on}
+use Rattle.amqp_pair.proofs.Served.{all_fair}
 use Rattle.amqp_pair.proofs.runs.joined.Goals as goal
 
 pub loop-turn-preserved : goal.loop-turn-preserved
@@ -25,4 +26,5 @@ returns g c =
     record {
       run = run;
       histories = c.each_end_has_its_history.ensures c.args.config (terms_of c.args.send_config) (map turn_of c.args.turns.now) c.loop-turn.answers.items c.loop-turn.pair c.is_within.ensures range run;
+      served = λ short few. c.the_pair_is_served.ensures c.args.config (terms_of c.args.send_config) (map turn_of c.args.turns.now) c.loop-turn.answers.items c.loop-turn.pair c.are_terms.ensures (all_fair c.args.config (terms_of c.args.send_config) c.args.turns.now short range) few run;
     }
