@@ -150,11 +150,24 @@ fn compare_tables(alloc: Global, number: u64, came: &mut Came) -> Result<(), Fai
 fn read(alloc: Global, table: &[u8]) -> Result<Option<Result<(), ScriptFault>>, Failure> {
     let now = read_limits(alloc, config(alloc)?, &mut Device::new(table));
     let then = before::read_limits(alloc, config(alloc)?, &mut Device::new(table));
-    Ok(match (now, then) {
-        (Ok(now), Ok(then)) if sets_the_same(&now, &then) => Some(Ok(())),
-        (Err(now), Err(then)) if now == then => Some(Err(now)),
-        _ => None,
-    })
+    let now = match now {
+        Ok(now) => now,
+        Err(fault) => return Ok(same_fault(fault, then.err())),
+    };
+    let Ok(then) = then else {
+        return Ok(None);
+    };
+    let is_same = sets_the_same(&now, &then);
+    Ok(if is_same { Some(Ok(())) } else { None })
+}
+
+/// The fault of a table that is refused as before.
+fn same_fault(now: ScriptFault, then: Option<ScriptFault>) -> Option<Result<(), ScriptFault>> {
+    if then == Some(now) {
+        Some(Err(now))
+    } else {
+        None
+    }
 }
 
 /// Whether links of some names have the same bounds.
