@@ -7,7 +7,9 @@ use Rattle.amqp_types.specs.Reading.{Part, Level, after, inside, described_at, v
 use Rattle.amqp_types.specs.declared.fault.ReadFault.{ReadFault}
 use Rattle.amqp_types.specs.declared.window.Window.{Window}
 use Rattle.amqp_types.specs.Trees.{Tree}
+use Rattle.amqp_types.specs.Skipping.{rest_of, passed}
 use Rattle.amqp_types.proofs.Octets.{IsBytes}
+use Rattle.amqp_types.proofs.Passes.{leaves}
 use Rattle.amqp_types.proofs.Compounds.{value_sound}
 
 -- the rest behind a front
@@ -48,3 +50,10 @@ skipped_is depth bytes rest fits e =
     let r = value_sound depth (outermost bytes) 0 None bytes a.0 fits a.1 in
     let parts : bytes ≡ r.text ++ rest = r.takes.parts ∙ ap (λ (b : List ℕ). r.text ++ b) a.2 in
     ap after (due_free (inside depth) (outermost bytes) bytes) ∙ e ∙ ap (λ (b : List ℕ). Ok b) (sym (without_front bytes r.text rest parts))
+
+-- what is passed by the level of a depth, its nodes counted
+pub checked_is : (depth nodes left : ℕ) (bytes rest : List ℕ) → IsBytes bytes → passed (value_by (inside depth) (outermost bytes) 1 (Some nodes) bytes) ≡ Ok (Some left, rest)
+    → rest_of (decoded depth nodes bytes) ≡ Ok (drop (length bytes - length rest) bytes)
+checked_is depth nodes left bytes rest fits e =
+    let x = leaves (value_by (inside depth) (outermost bytes) 1 (Some nodes) bytes) left rest e in
+    ap rest_of (decoded_is depth nodes bytes x.0 (Some left) rest fits x.1)

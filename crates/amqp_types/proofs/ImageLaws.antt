@@ -30,7 +30,8 @@ unfolding kinds
 kind_back kind.Null = refl
 kind_back _ = refl
 
-same_kind : (j k : Kind) → kind_number j ≡ kind_number k → j ≡ k
+-- kinds of one number are the same
+pub same_kind : (j k : Kind) → kind_number j ≡ kind_number k → j ≡ k
 same_kind j k e = some (sym (kind_back j) ∙ ap (slice_get kinds) e ∙ kind_back k)
   where
     some : Some j ≡ Some k → j ≡ k

@@ -7,6 +7,9 @@ pub mod Walks
 pub mod Reaches
 pub mod Counted
 pub mod Keeps
+pub mod Passes
+pub mod LentKeys
+pub mod MarkLaws
 pub mod Sets
 pub mod Sound
 pub mod Joined
@@ -29,5 +32,3 @@ pub mod Agreeing
 pub mod Depths
 pub mod Peeks
 pub mod Puts
-pub mod Shorts
-pub mod Marks

@@ -23,6 +23,7 @@ use Rattle.amqp_types.specs.declared.fault.ReadFault.TheVariants.{Truncated, Unk
 use Rattle.amqp_types.specs.declared.window.Window.{Window}
 use Rattle.amqp_types.specs.Codes.{find_code, kind_of}
 use Rattle.amqp_types.specs.Decoding.{decoded}
+use Rattle.amqp_types.specs.Skipping.{rest_of}
 use Rattle.amqp_types.specs.Images.{has_key}
 use Rattle.amqp_types.specs.Kinds.{width, is_container}
 use Rattle.amqp_types.specs.Places.{place_of, IsPlain}
@@ -357,6 +358,20 @@ decode_placed view depth nodes bytes (Err e) (inr is) =
     let all : Fares (λ _. Unit {0}) (Bounds ⊥ (length bytes)) (decoded depth nodes bytes) = then_fares _ _ _ (value_of depth (Some nodes) bytes) (λ x. Ok (x.0, x.2)) read (λ x _. tt) in
     let fault : Bounds ⊥ (length bytes) e = subst (λ (d : Read Tree). Fares (λ _. Unit {0}) (Bounds ⊥ (length bytes)) d) is all in
     fault.within
+
+unread : {A : Type 0} (read : Read A) (e : ReadFault) → rest_of read ≡ Err e → read ≡ Err e
+unread (Ok x) e is = absurd cc
+unread (Err d) e is = ap (λ (f : ReadFault). Err f) (same d e is)
+  where
+    same : (a b : ReadFault) → ◌≡◌ {A = Result (List ℕ) ReadFault} (Err a) (Err b) → a ≡ b
+    same a b h = cc
+
+-- so does one where the value is of no interest
+pub check_placed : {V : Type 0} (view : V → List ℕ) (depth nodes : ℕ) (bytes : List ℕ) (r : Result V ReadFault) → Gives view r (rest_of (decoded depth nodes bytes)) →
+    IfErr r (λ e. place_of e ≤ length bytes)
+check_placed view depth nodes bytes (Ok x) is = tt
+check_placed view depth nodes bytes (Err e) (inl memory) = subst (λ (d : ReadFault). place_of d ≤ length bytes) (sym memory) (omega arith)
+check_placed view depth nodes bytes (Err e) (inr is) = decode_placed {V = Tree × List ℕ} (λ x. x) depth nodes bytes (Err e) (inr (unread (decoded depth nodes bytes) e is))
 
 abbrev Uncounted : Type 0
 Uncounted = Unit {0}

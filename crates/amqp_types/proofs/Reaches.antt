@@ -71,17 +71,16 @@ unfolding number_at form_at
 char_rest w bytes le is = rw (at_big w 4 bytes le, is) refl
 
 -- so are bytes behind their size
-pub sized_rest : (w : Window) (k : Kind) (s : SizeWidth) (bytes : List ℕ) (n : ℕ) → n ≡ big_number (size_len s) bytes → size_len s + n ≤ length bytes
+pub sized_is : (w : Window) (k : Kind) (s : SizeWidth) (bytes : List ℕ) (n : ℕ) → n ≡ big_number (size_len s) bytes → size_len s + n ≤ length bytes
     → ((at : ℕ) → octets_fault k at (take n (drop (size_len s) bytes)) ≡ None)
-    → rest_of (sized_at w k s bytes) ≡ Ok (drop (size_len s + n) bytes)
+    → sized_at w k s bytes ≡ Ok (take n (drop (size_len s) bytes), drop n (drop (size_len s) bytes))
 unfolding sized_at
-sized_rest w k s bytes n is le fine =
+sized_is w k s bytes n is le fine =
     rw (
       at_big w (size_len s) bytes (omega arith),
       sym is,
       at_octets w n (drop (size_len s) bytes) (omega (arith, length-drop (size_len s) bytes)),
       fine (place w (drop (size_len s) bytes)),
-      drop-drop n (size_len s) bytes,
     ) refl
 
 -- ---- the constructor in front

@@ -15,4 +15,5 @@ pub mod Shapes
 pub mod Parts
 pub mod Lawful
 pub mod Peeks
-pub mod ShortKeys
+pub mod Keys
+pub mod Marks

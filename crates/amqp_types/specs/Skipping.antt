@@ -7,6 +7,7 @@ use Rattle.amqp_types.specs.declared.code.SizeWidth.{SizeWidth}
 use Rattle.amqp_types.specs.Kinds.{width, is_partial, is_container}
 use Rattle.amqp_types.specs.Spelling.{form_len, size_len}
 use Rattle.amqp_types.specs.declared.fault.ReadFault.{ReadFault}
+use Rattle.amqp_types.specs.InHand.{Budget}
 use Rattle.amqp_types.specs.Reading.{Read, Part, Head, ◌>>=◌}
 
 -- what is left behind a part that holds no others
@@ -42,3 +43,11 @@ pub record IsBody (s : SizeWidth) (bytes : List ℕ) (count : ℕ) (parts : List
 -- something is read there, which leaves so many nodes and these bytes
 abbrev pub Leaves : {A : Type 0} → Part A → ℕ → List ℕ → Type 0
 Leaves {A = A} read left rest = (x : A) × (read ≡ Ok (x, Some left, rest))
+
+-- the nodes left and what is left of the bytes, where the value itself is of no interest
+abbrev pub passed : {A : Type 0} → Part A → Read Budget
+passed read = read >>= λ x. Ok (x.1, x.2)
+
+-- an array's element constructor, with the nodes and the bytes that are left behind it
+abbrev pub constructor_passed : Part Head → Part Constructor
+constructor_passed read = read >>= λ x. Ok (x.0.constructor, x.1, x.2)

@@ -42,7 +42,7 @@ fn array_value(head: ArrayHead, items: Vec<Value>) -> Value
 }
 
 /// The nodes that are left where so many are charged at the place.
-fn charge(nodes: usize, count: usize, at: usize) -> Result<usize, ReadFault>
+pub fn charge(nodes: usize, count: usize, at: usize) -> Result<usize, ReadFault>
     ensures { Is (λ left. Some left) result (charge (Some nodes) count at) }
 {
     if nodes < count {
@@ -54,7 +54,7 @@ fn charge(nodes: usize, count: usize, at: usize) -> Result<usize, ReadFault>
 /// The value at the front, whose node is charged already, the nodes left and the bytes behind it.
 #[cycle(read)]
 #[inline(always)]
-fn read_value(
+pub fn read_value(
     alloc: Global,
     depth: usize,
     w: Window,

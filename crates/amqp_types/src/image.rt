@@ -4,9 +4,11 @@ ghost use Rattle.std.specs.Prelude.{◌≡◌, ◌++◌, ◌∷◌, ◌<◌, ◌
 ghost use Rattle.byteorder.specs.Endian.{big_bytes};
 ghost use Rattle.amqp_types.specs.Canonical.{IsRanged, AllRanged, PairsRanged};
 ghost use Rattle.amqp_types.specs.Images.{kind_number, image, images, pair_images};
+ghost use Rattle.amqp_types.specs.Keys.{key_image};
 ghost use Rattle.amqp_types.specs.Trees.{Number, Octets};
 ghost use Rattle.amqp_types.specs.Values.{view, views, pair_views};
 
+use crate::key::Key;
 use crate::kind::Kind;
 use crate::shape::{Shape, shape_of};
 use crate::value::Value;
@@ -65,6 +67,16 @@ fn put_octets(kind: Kind, octets: &[u8], out: &mut Vec<u8>) -> Result<(), AllocE
     out.extend_from_slice(&(octets.len() as u64).to_be_bytes())?;
     out.extend_from_slice(octets)?;
     Ok(())
+}
+
+/// Appends the image of a key that holds no others.
+pub(crate) fn put_key(key: &Key<'_>, out: &mut Vec<u8>) -> Result<(), AllocError>
+    ensures { OnOk result (out.new.items ≡ out.old.items ++ key_image key.now) }
+{
+    match *key {
+        Key::Number(kind, number) => put_number(kind, number, out),
+        Key::Octets(kind, octets) => put_octets(kind, octets, out),
+    }
 }
 
 /// Appends the image of a value, which is ranged. What is appended before memory is refused means nothing.

@@ -1,13 +1,15 @@
 //! Keys of a map, among which equal ones are found.
 
-ghost use Rattle.std.specs.Prelude.{◌≡◌, ℕ, ◌<◌, ◌^◌, [], not, ◌||◌, List, length, map, IfOk, OnOk, OnErr};
+ghost use Rattle.std.specs.Prelude.{◌≡◌, ℕ, ◌<◌, ◌^◌, [], not, ◌||◌, ◌++◌, List, length, map, IfOk, OnOk, OnErr};
 ghost use Rattle.std.specs.Str.{bytes_eq};
 ghost use Rattle.amqp_types.specs.Canonical.{IsRanged};
 ghost use Rattle.amqp_types.specs.Decoding.{is_among};
 ghost use Rattle.amqp_types.specs.Images.{image};
+ghost use Rattle.amqp_types.specs.Keys.{key_image, IsWith};
 ghost use Rattle.amqp_types.specs.Values.{view};
 
-use crate::image::put_image;
+use crate::image::{put_image, put_key};
+use crate::key::Key;
 use crate::value::Value;
 use std::alloc::{AllocError, Global};
 use std::collections::BTreeSet;
@@ -45,5 +47,26 @@ impl Keys {
         let mut octets = Vec::new(alloc);
         put_image(key, &mut octets)?;
         Ok(self.images.insert(octets)?)
+    }
+
+    /// The same of a key that holds no others.
+    pub(crate) fn insert_key(&mut self, alloc: Global, key: &Key<'_>) -> Result<bool, AllocError>
+        ensures new { IfOk result (λ new. new ≡ not (is_among (key_image key.now) self.old)) }
+        ensures ok { OnOk result (IsWith (key_image key.now) self.old self.new) }
+        ensures err { OnErr result (self.new ≡ self.old) }
+    {
+        let mut octets = Vec::new(alloc);
+        put_key(key, &mut octets)?;
+        Ok(self.images.insert(octets)?)
+    }
+
+    /// Puts keys that hold no others among them, which may be there.
+    pub(crate) fn insert_all(&mut self, alloc: Global, keys: &[Key<'_>]) -> Result<(), AllocError>
+        ensures ok { OnOk result ((octets : List ℕ) → is_among octets self.new ≡ is_among octets (map key_image keys.now ++ self.old)) }
+    {
+        for key in keys {
+            self.insert_key(alloc, key)?;
+        }
+        Ok(())
     }
 }

@@ -1,58 +1,86 @@
-//! The keys of a map of many, while its length is found.
+//! Many keys of a map that hold no others, lent.
 
-ghost use Rattle.std.specs.Prelude.{◌≡◌, ℕ, ◌||◌, nat_eq, [], true, false, IsTrue, IfOk, OnOk};
-ghost use Rattle.amqp_types.specs.ShortKeys.{mark_of, is_marked};
+ghost use Rattle.std.specs.Prelude.{◌≡◌, [], map, false, IsTrue, IsFalse, IfOk};
+ghost use Rattle.amqp_types.specs.Decoding.{is_among};
+ghost use Rattle.amqp_types.specs.Images.{image};
+ghost use Rattle.amqp_types.specs.Keys.{key_image, IsWith};
+ghost use Rattle.amqp_types.specs.Marks.{image_mark};
+ghost use Rattle.amqp_types.specs.Trees.{Number};
+ghost use Rattle.amqp_types.specs.declared.kind.Kind.{Kind};
 
+use crate::key::Key;
+use crate::marks::{Marks, mark_of};
 use std::alloc::{AllocError, Global};
-use std::collections::BTreeSet;
 use std::marker::Model;
 
-/// A large odd number.
-const FACTOR: u64 = 0x9e37_79b9_7f4a_7c15;
-
-/// Keys by their marks alone: whether one is there is found in logarithmic time, and by numbers. Keys of two marks are not
-/// equal. Of keys of one mark nothing is said: they are for the reading that keeps them.
+/// Keys, and the marks of all of them. Whether a mark is there is found in logarithmic time, and by numbers: keys of two marks
+/// are not equal. Of keys of one mark nothing is known.
 #[derive(Drop)]
-pub struct ManyKeys {
-    marks: BTreeSet<u64>,
+pub struct ManyKeys<'a> {
+    keys: Vec<Key<'a>>,
+    marks: Marks,
 }
 
-impl Model for ManyKeys {
-    ghost use Rattle.std.specs.Prelude.{ℕ, List};
+impl<'a> Model for ManyKeys<'a> {
+    ghost use Rattle.std.specs.Prelude.{ℕ, List, map};
+    ghost use Rattle.amqp_types.specs.Keys.{key_image};
+    ghost use Rattle.amqp_types.specs.Marks.{AreMarkedBy};
 
-    ghost Value = { List ℕ };
+    ghost Value = { List (List ℕ) };
 
-    ghost view = { λ s. s.marks.keys };
+    // Their images.
+    ghost view = { λ s. map key_image s.keys.items };
+
+    ghost invariant = { λ s. AreMarkedBy s.marks (map key_image s.keys.items) };
 }
 
-impl ManyKeys {
-    pub fn new(alloc: Global) -> ManyKeys
+impl<'a> ManyKeys<'a> {
+    /// None yet.
+    pub fn new(alloc: Global) -> ManyKeys<'a>
         ensures { result ≡ [] }
     {
         ManyKeys {
-            marks: BTreeSet::new(alloc),
+            keys: Vec::new(alloc),
+            marks: Marks::new(alloc),
         }
     }
 
-    /// Puts a key among them, and says whether its mark is new there.
-    pub fn insert(&mut self, key: &[u8]) -> Result<bool, AllocError>
-        ensures new { IfOk result (λ new. IsTrue new → is_marked (mark_of key.now) self.old ≡ false) }
-        ensures ok { OnOk result ((mark : ℕ) → is_marked mark self.new ≡ (nat_eq (mark_of key.now) mark || is_marked mark self.old)) }
+    /// All of them.
+    pub fn lent(&self) -> &[Key<'a>]
+        ensures { map key_image result.now ≡ self.now }
     {
-        match self.marks.insert(mark_of(key)) {
-            Ok(new) => Ok(new),
-            Err(_) => Err(AllocError),
+        &self.keys
+    }
+
+    /// Puts a key among them where its mark is new, and says so.
+    pub fn insert(&mut self, key: Key<'a>) -> Result<bool, AllocError>
+        ensures new { IfOk result (λ new. IsTrue new → is_among (key_image key.entry) self.old ≡ false) }
+        ensures with { IfOk result (λ new. IsTrue new → IsWith (key_image key.entry) self.old self.new) }
+        ensures same { IfOk result (λ new. IsFalse new → self.new ≡ self.old) }
+    {
+        if !self.marks.insert(mark_of_key(&key))? {
+            return Ok(false);
         }
+        self.keys.push(key)?;
+        Ok(true)
     }
 }
 
-/// A number that follows from the bytes.
-fn mark_of(key: &[u8]) -> u64
-    ensures { result ≡ mark_of key.now }
+/// The mark of a key: that of its bytes, or of the last eight of a number.
+fn mark_of_key(key: &Key<'_>) -> u64
+    ensures { result ≡ image_mark (key_image key.now) }
 {
-    let mut mark = 0_u64;
-    for byte in key {
-        mark = mark.wrapping_mul(FACTOR).wrapping_add(u64::from(*byte));
+    match *key {
+        Key::Number(_, number) => number_mark(number),
+        Key::Octets(_, octets) => mark_of(octets),
     }
-    mark.wrapping_mul(FACTOR)
+}
+
+/// The mark of the last eight bytes of a number.
+fn number_mark(number: u128) -> u64
+    ensures { (kind : Kind) → result ≡ image_mark (image (Number kind number)) }
+{
+    let bytes = number.to_be_bytes();
+    let (_, last) = bytes.split_at(8);
+    mark_of(last)
 }

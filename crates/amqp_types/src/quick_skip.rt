@@ -2,12 +2,13 @@
 //!
 //! `None` says nothing of the value: it is for the pass with places to find what is wrong, and where.
 
-ghost use Rattle.std.specs.Prelude.{◌≡◌, ℕ, ◌+◌, ◌≤◌, length, drop, if◌then◌else◌, None, IfSome, IsTrue, Option, Ok};
+ghost use Rattle.std.specs.Prelude.{◌≡◌, ℕ, ◌+◌, ◌≤◌, length, drop, if◌then◌else◌, None, IfSome, IsTrue, Option, Some, Ok, false};
 ghost use Rattle.byteorder.specs.Endian.{big_number};
 ghost use Rattle.amqp_types.specs.Codes.{FitsItsKind, find_code};
 ghost use Rattle.amqp_types.specs.Spelling.{size_len};
-ghost use Rattle.amqp_types.specs.Reading.{Level, after, octets_fault, number_at, sized_at, trees_at, list_at, map_at, array_at, item_by, described_at, value_by, level_by, inside};
+ghost use Rattle.amqp_types.specs.Reading.{Level, after, octets_fault, number_at, sized_at, allowed, trees_at, list_at, map_at, array_at, item_by, described_at, value_by, level_by, inside};
 ghost use Rattle.amqp_types.specs.Skipping.{rest_of, plain_width, IsBody, Leaves};
+ghost use Rattle.amqp_types.specs.Trees.{Octets};
 ghost use Rattle.amqp_types.specs.declared.window.Window.{Window};
 
 use crate::code::{Constructor, Form, SizeWidth};
@@ -103,17 +104,54 @@ pub fn are_octets(kind: Kind, octets: &[u8]) -> bool
     }
 }
 
-/// The length of a size and the bytes that it counts.
-pub fn octets_len(kind: Kind, size: SizeWidth, bytes: &[u8]) -> Option<usize>
-    ensures within { IfSome result (λ n. n ≤ length bytes.now) }
-    ensures read { IfSome result (λ n. (w : Window) → rest_of (sized_at w kind size bytes.now) ≡ Ok (drop n bytes.now)) }
+/// The bytes that a size in front counts, and those behind them, where nothing is wrong with them.
+// Without the mark `dump` takes 0.8 in 100 more instructions.
+#[inline(always)]
+pub fn octets_in(kind: Kind, size: SizeWidth, bytes: &[u8]) -> Option<(&[u8], &[u8])>
+    ensures within { IfSome result (λ x. size_len size + length x.0.now + length x.1.now ≡ length bytes.now) }
+    ensures behind { IfSome result (λ x. x.1.now ≡ drop (size_len size + length x.0.now) bytes.now) }
+    ensures read { IfSome result (λ x. (w : Window) → sized_at w kind size bytes.now ≡ Ok (x.0.now, x.1.now)) }
 {
     let len = number_in(size, bytes)?;
     let rest = &bytes[size_len(size)..];
     if rest.len() < len || !are_octets(kind, &rest[..len]) {
         return None;
     }
-    Some(size_len(size) + len)
+    Some(rest.split_at(len))
+}
+
+/// The kind of a code whose size has one byte.
+fn short_kind(code: u8) -> Option<Kind>
+    ensures { IfSome result (λ kind. allowed 0 false (find_code code) ≡ Ok (Constructor.Variable kind SizeWidth.One)) }
+{
+    match code {
+        0xa0 => Some(Kind::Binary),
+        0xa1 => Some(Kind::String),
+        0xa3 => Some(Kind::Symbol),
+        _ => None,
+    }
+}
+
+/// The kind and the bytes of the value in front, and the bytes behind it, where its size has one byte and nothing is wrong with it.
+// Without the mark `dump` takes 1.8 in 100 more instructions, `texts` 2.1.
+#[inline(always)]
+pub fn short_octets(bytes: &[u8]) -> Option<(Kind, &[u8], &[u8])>
+    ensures rest { IfSome result (λ x. length x.2.now ≤ length bytes.now) }
+    ensures read { IfSome result (λ x. (inner : Option Level) (w : Window) (nodes : ℕ) → value_by inner w 0 (Some nodes) bytes.now ≡ Ok (Octets x.0 x.1.now, Some nodes, x.2.now)) }
+{
+    let (code, data) = bytes.split_first()?;
+    let kind = short_kind(*code)?;
+    let (octets, rest) = octets_in(kind, SizeWidth::One, data)?;
+    Some((kind, octets, rest))
+}
+
+/// The length of a size and the bytes that it counts.
+fn octets_len(kind: Kind, size: SizeWidth, bytes: &[u8]) -> Option<usize>
+    ensures within { IfSome result (λ n. n ≤ length bytes.now) }
+    ensures read { IfSome result (λ n. (w : Window) → rest_of (sized_at w kind size bytes.now) ≡ Ok (drop n bytes.now)) }
+{
+    let (octets, _rest) = octets_in(kind, size, bytes)?;
+    Some(size_len(size) + octets.len())
 }
 
 /// The length of so many sizes, each with the bytes that it counts.

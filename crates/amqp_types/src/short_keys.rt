@@ -1,109 +1,121 @@
-//! The keys of a map, while its length is found: few and short ones of one kind, which are lent.
+//! The keys of a map of few, as long as they are short and all of one kind.
 
-ghost use Rattle.std.specs.Prelude.{◌≡◌, ℕ, ◌+◌, ◌≤◌, List, [], ◌∷◌, length, map, drop, IfSome, IsTrue, IsFalse, Bool, Option, Some, Ok, true, false};
-ghost use Rattle.amqp_types.specs.declared.window.Window.{Window};
-ghost use Rattle.amqp_types.specs.declared.kind.Kind.{Kind};
-ghost use Rattle.std.specs.Str.{bytes_eq};
-ghost use Rattle.amqp_types.specs.Images.{image, has_key};
-ghost use Rattle.amqp_types.specs.Codes.{find_code};
-ghost use Rattle.amqp_types.specs.declared.code.Constructor.{Constructor};
-ghost use Rattle.amqp_types.specs.declared.code.SizeWidth.{SizeWidth};
-ghost use Rattle.amqp_types.specs.Reading.{Level, allowed, value_by};
-ghost use Rattle.amqp_types.specs.ShortKeys.{octets_of};
+ghost use Rattle.std.specs.Prelude.{◌≡◌, ℕ, [], ◌++◌, ◌≤◌, List, length, map, Option, Some, None, IfOk, IfErr, IfSome, OnOk};
+ghost use Rattle.amqp_types.specs.Decoding.{is_among};
+ghost use Rattle.amqp_types.specs.Images.{image};
+ghost use Rattle.amqp_types.specs.InHand.{place};
+ghost use Rattle.amqp_types.specs.Keys.{Takes, TakesNone};
+ghost use Rattle.amqp_types.specs.Reading.{Level, value_by};
 ghost use Rattle.amqp_types.specs.Trees.{Octets};
+ghost use Rattle.amqp_types.specs.declared.kind.Kind.{Kind};
 
+use crate::fault::ReadFault;
+use crate::few_keys::FEW;
+use crate::key::{Key, are_same};
 use crate::kind::Kind;
-use crate::quick_skip::are_octets;
+use crate::quick_skip::short_octets;
+use crate::seen_keys::SeenKeys;
+use crate::window::Window;
+use std::alloc::{AllocError, Global};
 use std::marker::Model;
 
-/// So many keys are compared with each other at most.
-pub const FEW: usize = 32;
-
-/// The code of a string or a symbol whose size has one byte.
-fn short_code(kind: Kind) -> Option<u8>
-    ensures { IfSome result (λ code. (holds : Bool) → allowed 0 holds (find_code code) ≡ Ok (Constructor.Variable kind SizeWidth.One)) }
-{
-    match kind {
-        Kind::String => Some(0xa1),
-        Kind::Symbol => Some(0xa3),
-        _ => None,
-    }
-}
-
-/// The bytes of the value of a kind in front, where it is a string or a symbol whose size has one byte.
-pub fn short_octets(kind: Kind, bytes: &[u8]) -> Option<&[u8]>
-    ensures within { IfSome result (λ octets. 2 + length octets.now ≤ length bytes.now) }
-    ensures read { IfSome result (λ octets. (inner : Option Level) (w : Window) (nodes : ℕ) → value_by inner w 0 (Some nodes) bytes.now ≡ Ok (Octets kind octets.now, Some nodes, drop (2 + length octets.now) bytes.now)) }
-{
-    let wanted = short_code(kind)?;
-    let (code, rest) = bytes.split_first()?;
-    let (size, data) = rest.split_first()?;
-    let len = usize::from(*size);
-    if *code != wanted || data.len() < len || !are_octets(kind, &data[..len]) {
-        return None;
-    }
-    Some(&data[..len])
-}
-
-/// Keys of one kind, the last one first.
+/// Keys of one kind whose sizes have one byte, lent, the last one first.
 #[derive(Drop)]
 pub struct ShortKeys<'a> {
+    kind: Kind,
     keys: [&'a [u8]; FEW],
     /// So many places in front are free.
     free: usize,
 }
 
 impl<'a> Model for ShortKeys<'a> {
-    ghost use Rattle.std.specs.Prelude.{ℕ, List, ◌≤◌, drop, map};
+    ghost use Rattle.std.specs.Prelude.{◌≡◌, ℕ, List, ◌≤◌, length, drop, map};
+    ghost use Rattle.amqp_types.specs.Images.{image};
+    ghost use Rattle.amqp_types.specs.Trees.{Octets};
 
     ghost Value = { List (List ℕ) };
 
-    ghost view = { λ s. map (λ key. key.now) (drop s.free s.keys) };
+    // Their images.
+    ghost view = { λ s. map (λ key. image (Octets s.kind key.now)) (drop s.free s.keys) };
 
-    ghost invariant = { λ s. s.free ≤ 32 };
+    ghost invariant = { λ s. (s.free ≤ 32) × (length s.keys ≡ 32) };
 }
 
 impl<'a> ShortKeys<'a> {
-    /// None yet.
-    pub fn new() -> ShortKeys<'a>
+    /// None yet. The first one stands in front.
+    pub fn new(bytes: &[u8]) -> ShortKeys<'a>
         ensures { result ≡ [] }
     {
         let none: &[u8] = &[];
         ShortKeys {
+            kind: first_kind(bytes),
             keys: [none; FEW],
             free: FEW,
         }
     }
 
-    /// Puts a key in front of the others, and says that it is none of them and that there was room for it.
-    pub fn insert(&mut self, key: &'a [u8]) -> bool
-        ensures apart { IsTrue result → (kind : Kind) → has_key (Octets kind key.now) (octets_of kind self.old) ≡ false }
-        ensures new { IsTrue result → self.new ≡ key.now ∷ self.old }
+    /// The bytes behind the key in front, which is none of those before it and is put among them. `None` where it isn't such a
+    /// key, or there is no room.
+    pub fn take(&mut self, w: Window, bytes: &'a [u8]) -> Result<Option<&'a [u8]>, ReadFault>
+        requires { length bytes.now ≤ w.end }
+        ensures new { IfOk result (λ x. IfSome x (λ rest. (inner : Option Level) (nodes : ℕ) → Takes (value_by inner w 0 (Some nodes) bytes.now) self.old self.new nodes rest.now)) }
+        ensures same { IfOk result (λ x. x ≡ None → self.new ≡ self.old) }
+        ensures none { IfErr result (λ e. (inner : Option Level) (nodes : ℕ) → TakesNone (value_by inner w 0 (Some nodes) bytes.now) self.old (ReadFault.DuplicateKey (place w bytes.now)) e) }
+        ensures rest { IfOk result (λ x. IfSome x (λ rest. length rest.now ≤ length bytes.now)) }
     {
-        if self.free == 0 || has(&self.keys[self.free..], key) {
-            return false;
+        let Some((kind, octets, rest)) = short_octets(bytes) else {
+            return Ok(None);
+        };
+        if kind != self.kind || self.free == 0 {
+            return Ok(None);
+        }
+        if has(&self.keys[self.free..], octets) {
+            return Err(ReadFault::DuplicateKey(w.place(bytes)));
         }
         self.free -= 1;
-        self.keys[self.free] = key;
-        true
+        self.keys[self.free] = octets;
+        Ok(Some(rest))
+    }
+
+    /// Puts them among others.
+    pub fn put_into(&self, alloc: Global, seen: &mut SeenKeys<'a>) -> Result<(), AllocError>
+        ensures { OnOk result ((octets : List ℕ) → is_among octets seen.new ≡ is_among octets (self.now ++ seen.old)) }
+    {
+        put_all(alloc, self.kind, &self.keys[self.free..], seen)
     }
 }
 
-/// Whether one of the keys has these bytes.
-fn has(keys: &[&[u8]], key: &[u8]) -> bool
-    ensures { IsFalse result → (kind : Kind) → has_key (Octets kind key.now) (octets_of kind (map (λ k. k.now) keys.now)) ≡ false }
+/// Puts keys of a kind among others.
+fn put_all<'a>(
+    alloc: Global,
+    kind: Kind,
+    keys: &[&'a [u8]],
+    seen: &mut SeenKeys<'a>,
+) -> Result<(), AllocError>
+    ensures { OnOk result ((octets : List ℕ) → is_among octets seen.new ≡ is_among octets (map (λ key. image (Octets kind key.now)) keys.now ++ seen.old)) }
+{
+    for octets in keys {
+        seen.insert(alloc, Key::Octets(kind, octets))?;
+    }
+    Ok(())
+}
+
+/// The kind of the value in front, where its size has one byte.
+fn first_kind(bytes: &[u8]) -> Kind {
+    match short_octets(bytes) {
+        Some((kind, _, _)) => kind,
+        None => Kind::Symbol,
+    }
+}
+
+/// Whether one of the keys of a kind has these bytes.
+fn has(keys: &[&[u8]], octets: &[u8]) -> bool
+    ensures { (kind : Kind) → result ≡ is_among (image (Octets kind octets.now)) (map (λ key. image (Octets kind key.now)) keys.now) }
 {
     for other in keys {
-        if are_same(other, key) {
+        if are_same(other, octets) {
             return true;
         }
     }
     false
-}
-
-/// Whether two keys of a kind are equal.
-fn are_same(a: &[u8], b: &[u8]) -> bool
-    ensures { IsFalse result → (kind : Kind) → bytes_eq (image (Octets kind a.now)) (image (Octets kind b.now)) ≡ false }
-{
-    a == b
 }

@@ -31,7 +31,7 @@ pub fn form_len(kind: Kind, form: Form) -> usize
     }
 }
 
-fn skip_number(w: Window, kind: Kind, form: Form, bytes: &[u8]) -> Result<&[u8], ReadFault>
+pub fn skip_number(w: Window, kind: Kind, form: Form, bytes: &[u8]) -> Result<&[u8], ReadFault>
     requires within { length bytes.now ≤ w.end }
     requires sound { FitsItsKind (Constructor.Fixed kind form) }
     ensures read { Is (λ r. r.now) result (rest_of (number_at w kind form bytes.now)) }
@@ -46,7 +46,7 @@ fn skip_number(w: Window, kind: Kind, form: Form, bytes: &[u8]) -> Result<&[u8],
 }
 
 /// Whether the constructor has no data behind it.
-fn is_still(constructor: Constructor) -> bool
+pub fn is_still(constructor: Constructor) -> bool
     ensures { result ≡ is_still constructor }
 {
     match constructor {

@@ -1,5 +1,8 @@
 //! The bytes in hand, with what it means that they end.
 
+ghost use Rattle.std.specs.Prelude.{◌≡◌, ◌≤◌, length};
+ghost use Rattle.byteorder.specs.Endian.{big_number};
+
 use crate::fault::ReadFault;
 use byteorder::{BigEndian, ByteOrder};
 
@@ -54,6 +57,20 @@ impl Window {
         if bytes.len() < n {
             return Err(self.short);
         }
-        Ok((BigEndian::read_uint(bytes, n), &bytes[n..]))
+        Ok((front_number(n, bytes), &bytes[n..]))
+    }
+}
+
+/// The number in the first `n` bytes, big-endian. Most are sizes and counts, of one byte or four.
+fn front_number(n: usize, bytes: &[u8]) -> u64
+    requires some { 1 ≤ n }
+    requires eight { n ≤ 8 }
+    requires within { n ≤ length bytes.now }
+    ensures { result ≡ big_number n bytes.now }
+{
+    match n {
+        1 => u64::from(bytes[0]),
+        4 => u64::from(BigEndian::read_u32(bytes)),
+        _ => BigEndian::read_uint(bytes, n),
     }
 }

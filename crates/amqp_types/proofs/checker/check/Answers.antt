@@ -1,7 +1,6 @@
 use Rattle.std.proofs.Common.{drop}
-use Rattle.amqp_types.proofs.Counted.{checked_is}
+use Rattle.amqp_types.proofs.Places.{check_placed}
 use Rattle.amqp_types.proofs.checker.check.Goals as goal
 
-pub returns-in-Some-clause-exact : goal.returns-in-Some-clause-exact
-returns-in-Some-clause-exact c =
-    checked_is c.args.limits.depth c.args.limits.nodes c.in-Some.ensures.read.0 c.args.bytes.now (drop c.in-Some.len c.args.bytes.now) c.in-Some.ensures.read.1
+pub returns-clause-placed : goal.returns-clause-placed
+returns-clause-placed c = check_placed (λ n. drop n c.args.bytes.now) c.args.limits.depth c.args.limits.nodes c.args.bytes.now c.check_front.result c.check_front.ensures.exact

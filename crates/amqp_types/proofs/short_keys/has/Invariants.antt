@@ -1,12 +1,12 @@
-use Rattle.std.proofs.Common.{◌≡◌, false, drop, map}
+use Rattle.std.proofs.Common.{◌≡◌, drop, map}
 use Rattle.amqp_types.specs.declared.kind.Kind.{Kind}
-use Rattle.amqp_types.specs.Images.{has_key}
-use Rattle.amqp_types.specs.ShortKeys.{octets_of}
+use Rattle.amqp_types.specs.Decoding.{is_among}
+use Rattle.amqp_types.specs.Images.{image}
 use Rattle.amqp_types.specs.Trees.{Octets}
 use Rattle.amqp_types.proofs.short_keys.has.Given as goal
 
 abbrev pub invariant-loop-other : goal.invariant-loop-other
 invariant-loop-other l = record {
-  all : (kind : Kind) → has_key (Octets kind l.key) (octets_of kind (map (λ k. k.now) (drop l.other-index l.keys))) ≡ false
-      → has_key (Octets kind l.key) (octets_of kind (map (λ k. k.now) l.keys)) ≡ false;
+  all : (kind : Kind) → is_among (image (Octets kind l.octets)) (map (λ key. image (Octets kind key.now)) (drop l.other-index l.keys))
+      ≡ is_among (image (Octets kind l.octets)) (map (λ key. image (Octets kind key.now)) l.keys);
 }

@@ -3,4 +3,4 @@ use Rattle.byteorder.specs.Numbers.{big_from-lt}
 use Rattle.amqp_types.proofs.window.Window.big.Goals as goal
 
 pub returns-clause-fits : goal.returns-clause-fits
-returns-clause-fits c = rw c.read_uint.ensures (big_from-lt 0 c.args.n c.args.bytes.now (λ k. omega (arith, c.type_inv.bytes k)))
+returns-clause-fits c = rw c.front_number.ensures (big_from-lt 0 c.args.n c.args.bytes.now (λ k. omega (arith, c.type_inv.bytes k)))

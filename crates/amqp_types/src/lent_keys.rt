@@ -1,0 +1,73 @@
+//! The keys of a map that hold no others, while it is checked.
+
+ghost use Rattle.std.specs.Prelude.{◌≡◌, ◌≢◌, [], map, not, true, Some, IfOk, IfSome};
+ghost use Rattle.amqp_types.specs.Decoding.{is_among};
+ghost use Rattle.amqp_types.specs.Keys.{key_image, IsWith};
+
+use crate::few_keys::{FEW, FewKeys};
+use crate::key::Key;
+use crate::many_keys::ManyKeys;
+use std::alloc::{AllocError, Global};
+use std::marker::Model;
+
+/// Keys that are lent: few, each of which is compared with all before it, or many, by their marks.
+#[derive(Drop)]
+pub struct LentKeys<'a> {
+    few: FewKeys<'a>,
+    many: ManyKeys<'a>,
+    is_many: bool,
+}
+
+impl<'a> Model for LentKeys<'a> {
+    ghost use Rattle.std.specs.Prelude.{ℕ, List, if◌then◌else◌};
+
+    ghost Value = { List (List ℕ) };
+
+    // Their images.
+    ghost view = { λ s. if s.is_many then s.many else s.few };
+}
+
+impl<'a> LentKeys<'a> {
+    /// None yet, of so many.
+    pub fn new(alloc: Global, count: usize) -> LentKeys<'a>
+        ensures { result ≡ [] }
+    {
+        LentKeys {
+            few: FewKeys::new(),
+            many: ManyKeys::new(alloc),
+            is_many: count > FEW,
+        }
+    }
+
+    /// All of them.
+    pub fn lent(&self) -> &[Key<'a>]
+        ensures { map key_image result.now ≡ self.now }
+    {
+        if self.is_many {
+            self.many.lent()
+        } else {
+            self.few.lent()
+        }
+    }
+
+    /// Whether the key is new: it is then put among them. `None` where that is not seen, or there is no room for it.
+    pub fn insert(&mut self, key: Key<'a>) -> Result<Option<bool>, AllocError>
+        ensures new { IfOk result (λ seen. IfSome seen (λ new. new ≡ not (is_among (key_image key.entry) self.old))) }
+        ensures with { IfOk result (λ seen. seen ≡ Some true → IsWith (key_image key.entry) self.old self.new) }
+        ensures same { IfOk result (λ seen. seen ≢ Some true → self.new ≡ self.old) }
+    {
+        if self.is_many {
+            if self.many.insert(key)? {
+                return Ok(Some(true));
+            }
+            return Ok(None);
+        }
+        if self.few.has(&key) {
+            return Ok(Some(false));
+        }
+        if self.few.push(key) {
+            return Ok(Some(true));
+        }
+        Ok(None)
+    }
+}
