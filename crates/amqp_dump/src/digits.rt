@@ -202,6 +202,7 @@ fn put_escaped(out: &mut Page, bytes: &[u8], plain: usize)
 }
 
 /// Appends the first `len` bytes, which stand for themselves.
+// Without the mark `texts` takes 1.6 in 100 more instructions.
 #[inline(always)]
 fn put_plain(out: &mut Page, bytes: &[u8], len: usize)
     requires { len ≤ length bytes.now }

@@ -34,6 +34,7 @@ pub fn widen<A: Allocator + Copy>(
 
 /// Grants the link at a handle `n` places of credit, and says so [2.6.7]. Refused, with nothing changed, with the
 /// first of these: `Dead`, `NoSession`, `NoLink`, `TooMuchCredit`, `Full`.
+// For `telemetry` and `gateway` (docs/PERF.md).
 #[inline(always)]
 pub fn grant<A: Allocator + Copy>(
     connection: &mut Connection<A>,
@@ -72,6 +73,7 @@ pub fn drain<A: Allocator + Copy>(
 /// Settles the delivery with this id, which was handed up, or in mode second tells the sender what became of it
 /// [2.6.12, 2.8.3]. Refused, with nothing changed, with the first of these: `Dead`, `NoSession`, `NoDelivery`,
 /// `NotTaken`, `AlreadyTold`, `Full`.
+// For `telemetry` and `gateway` (docs/PERF.md).
 #[inline(always)]
 pub fn settle<A: Allocator + Copy>(
     connection: &mut Connection<A>,
@@ -139,6 +141,7 @@ pub fn detach<A: Allocator + Copy>(
 #[tactic(auto, using(crate::proofs::Lent::went_on, crate::proofs::Lent::stayed))]
 /// Hands up the first ready delivery of the link at a handle. Refused, with nothing changed, with the first of these:
 /// `Dead`, `NoSession`, `NoLink`, `NothingReady`. Takes no memory, and no room of the output.
+// For `telemetry` and `gateway` (docs/PERF.md).
 #[inline(always)]
 pub fn take<A: Allocator + Copy>(
     connection: &mut Connection<A>,

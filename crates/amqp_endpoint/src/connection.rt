@@ -348,6 +348,7 @@ impl<A: Allocator + Copy> Connection<A> {
 
     #[tactic(auto, using(crate::proofs::Lent::went_on, crate::proofs::Lent::stayed))]
     /// What became of a delivery of the session on a channel. Where that is refused nothing has changed.
+    // For `telemetry` and `gateway` (docs/PERF.md).
     #[inline(always)]
     pub fn settle(
         &mut self,

@@ -299,6 +299,7 @@ impl<A: Allocator + Copy> Endpoint<A> {
 
     /// Gives the link at a handle `n` places of credit more, and writes the flow that says so [2.6.7]. The sender is then
     /// no longer asked to use its credit up, where `n` is 0 too. Refused, with nothing changed, with the first of `Dead`, `NoSession`, `NoLink`, `TooMuchCredit` and `Full`.
+    // For `telemetry` and `gateway` (docs/PERF.md).
     #[inline(always)]
     pub fn grant(&mut self, channel: u16, handle: u32, n: u32) -> Result<(), CallFault>
         ensures { CallDone self.old self.new channel (Grant handle n) (accepted_by result) }
@@ -324,6 +325,7 @@ impl<A: Allocator + Copy> Endpoint<A> {
 
     /// Hands up the first delivery that is ready on the link at a handle [2.6.14]. Writes nothing and takes no memory.
     /// Refused, with nothing changed, with the first of `Dead`, `NoSession`, `NoLink` and `NothingReady`.
+    // For `telemetry` and `gateway` (docs/PERF.md).
     #[inline(always)]
     pub fn take(&mut self, channel: u16, handle: u32) -> Result<Taken<A>, CallFault>
         ensures { CallDone self.old self.new channel (Take handle) (handed_by result) }
@@ -334,6 +336,7 @@ impl<A: Allocator + Copy> Endpoint<A> {
     /// Tells the sender what became of the delivery of a session with this id, by the disposition that it writes
     /// [2.6.12]. In mode first that settles it; in mode second the sender settles it [2.8.3]. Refused, with nothing
     /// changed, with the first of `Dead`, `NoSession`, `NoDelivery`, `NotTaken`, `AlreadyTold` and `Full`.
+    // For `telemetry` and `gateway` (docs/PERF.md).
     #[inline(always)]
     pub fn settle(&mut self, channel: u16, id: u32, outcome: Settlement) -> Result<(), CallFault>
         ensures { CallDone self.old self.new channel (Settle id outcome) (accepted_by result) }

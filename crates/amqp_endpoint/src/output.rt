@@ -103,6 +103,7 @@ impl<A: Allocator + Copy> Output<A> {
     }
 
     /// The same of a flow.
+    // For `telemetry` and `gateway` (docs/PERF.md).
     #[inline(always)]
     pub fn put_flow(&mut self, channel: u16, flow: &Flow<'_>)
         requires short { length (said_frame channel (said (performative.Flow flow.now)) []) ≤ reply_room }
@@ -115,6 +116,7 @@ impl<A: Allocator + Copy> Output<A> {
     }
 
     /// The same of a disposition.
+    // For `telemetry` and `gateway` (docs/PERF.md).
     #[inline(always)]
     pub fn put_disposition(&mut self, channel: u16, disposition: &Disposition<'_>)
         requires short { length (said_frame channel (said (performative.Disposition disposition.now)) []) ≤ reply_room }

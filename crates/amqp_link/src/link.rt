@@ -468,6 +468,7 @@ impl<A: Allocator + Copy> Link<A> {
 }
 
 /// Puts an accepted transfer to its delivery.
+// For `telemetry` and `gateway` (docs/PERF.md).
 #[inline(always)]
 fn apply<A: Allocator + Copy>(
     alloc: A,
@@ -499,6 +500,7 @@ fn apply<A: Allocator + Copy>(
 
 /// A delivery begins, with the transfer's payload. Memory for it and its place is taken before the payload is copied: where it
 /// is refused no work has grown with the payload.
+// For `telemetry` and `gateway` (docs/PERF.md).
 #[inline(always)]
 fn begin<A: Allocator + Copy>(
     alloc: A,
@@ -520,6 +522,7 @@ fn begin<A: Allocator + Copy>(
 }
 
 /// The delivery that a transfer begins, with these bytes.
+// For `telemetry` and `gateway` (docs/PERF.md).
 #[inline(always)]
 fn begun<A: Allocator + Copy>(
     terms: &Terms,

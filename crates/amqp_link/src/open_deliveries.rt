@@ -68,6 +68,7 @@ impl<A: Allocator + Copy> OpenDeliveries<A> {
 
     /// A delivery begins. All the memory that it needs is taken before anything changes: that for it, and for its place
     /// among the others.
+    // For `telemetry` and `gateway` (docs/PERF.md).
     #[inline(always)]
     pub fn begin(&mut self, delivery: OpenDelivery<A>) -> Result<(), AllocError>
         requires none { self.old.unfinished ≡ None }
@@ -340,6 +341,7 @@ impl<A: Allocator + Copy> OpenDeliveries<A> {
     }
 
     /// The first that was handed up and has the id, of which this is known.
+    // For `telemetry` and `gateway` (docs/PERF.md).
     #[inline(always)]
     fn find_handed_up_by(&self, hint: Hint, id: u32) -> Option<&OpenDelivery<A>>
         requires { IsHint hint id id self.now.awaiting }
@@ -385,6 +387,7 @@ impl<A: Allocator + Copy> OpenDeliveries<A> {
     }
 
     /// Settles those that were handed up.
+    // For `telemetry` and `gateway` (docs/PERF.md).
     #[inline(always)]
     fn settle_handed_up(&mut self, hint: Hint, settling: Settling) -> usize
         requires { IsHint hint settling.ids.first settling.ids.last self.old.awaiting }

@@ -194,6 +194,7 @@ fn read_transfer<'a>(fields: &mut Fields<'a>) -> Option<Transfer<'a>>
 
 /// Reads the fields of a transfer into it. They are put where they are wanted, since a transfer that is handed back is moved
 /// there over the stack.
+// Without the mark `telemetry` takes 1.5 in 100 more instructions, `gateway` 1.4.
 #[inline(always)]
 fn fill_transfer<'a>(fields: &mut Fields<'a>, transfer: &mut Transfer<'a>) -> Option<()>
     ensures { TakesFrom (λ _. transfer_cells transfer.new) (fields_at transfer_fields) fields.old fields.new result }

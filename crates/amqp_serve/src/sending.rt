@@ -106,6 +106,7 @@ fn flush_answers<W: Write + Drop, S: Write + Drop>(
 }
 
 /// Writes all that waits to be sent. Before a write that the writer passes on, the records are flushed.
+// For `telemetry` and `gateway` (docs/PERF.md).
 #[inline(always)]
 pub fn write_out<A: Allocator + Copy, W: Write + HoldsBack + Drop, S: Write + Drop>(
     endpoint: &mut Endpoint<A>,

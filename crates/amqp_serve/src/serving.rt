@@ -271,6 +271,7 @@ fn take_in<A: Allocator + Copy, W: Write + HoldsBack + Drop, S: Write + Drop>(
 
 /// Does what follows from what a feed told: takes the message that is ready, and tops up what may lack something. Where
 /// nothing was lacking before the feed that is nothing while a unit is on its way, and one session behind a frame of it.
+// For `telemetry` and `gateway` (docs/PERF.md).
 #[inline(always)]
 fn follow<A: Allocator + Copy, W: Write + HoldsBack + Drop, S: Write + Drop>(
     endpoint: &mut Endpoint<A>,

@@ -54,6 +54,7 @@ impl<A: Allocator + Copy> Index<A> {
     }
 
     /// Where the one with this id is kept.
+    // For `telemetry` and `gateway` (docs/PERF.md).
     #[inline(always)]
     pub fn get(&self, id: u32) -> Option<Kept>
         ensures { result ≡ found self.now id }
@@ -89,6 +90,7 @@ impl<A: Allocator + Copy> Index<A> {
 
     /// What was told of a transfer or a flow of a link, which was this one if it ended, and whose unfinished delivery had
     /// this id.
+    // For `telemetry` and `gateway` (docs/PERF.md).
     #[inline(always)]
     pub fn transferred(
         &mut self,
@@ -128,6 +130,7 @@ impl<A: Allocator + Copy> Index<A> {
     }
 
     /// It is open no longer.
+    // For `telemetry` and `gateway` (docs/PERF.md).
     #[inline(always)]
     pub fn remove(&mut self, id: u32)
         ensures { IsPut self.old self.new id None }

@@ -60,6 +60,7 @@ fn settle_at<A: Allocator + Copy>(state: &mut State<A>, kept: Kept, id: u32) -> 
 
 /// The receiver settles the open delivery with this id, which is kept so, where it awaits that. What is open no longer is
 /// taken out of the index. Answers how it stood.
+// For `telemetry` and `gateway` (docs/PERF.md).
 #[inline(always)]
 pub fn settle_one<A: Allocator + Copy>(
     state: &mut State<A>,

@@ -420,6 +420,7 @@ impl<A: Allocator + Copy> Session<A> {
     /// Settles the delivery with this id, which was handed up [2.6.12], and answers the disposition that says so.
     /// In mode second it tells the sender what became of it, who settles it [2.8.3]. Refused, with nothing
     /// changed: with `NoDelivery`, `NotTaken` or `AlreadyTold`. Takes no memory.
+    // For `telemetry` and `gateway` (docs/PERF.md).
     #[inline(always)]
     pub fn settle(&mut self, id: u32, outcome: Outcome) -> Result<Disposition<'static>, CallFault>
         ensures may { OnOk result (SessionMay self.old (call_event self.old (Settle id outcome))) }
