@@ -183,6 +183,7 @@ fn recv<R: Print + Eprint + Files + Net + AllocGlobal>(
         outcome: Outcome::Accepted,
     };
     let connections = settings.connections;
+    keep_freed(alloc, settings.max_message);
     let Some(config) = configured(alloc, settings)? else {
         return Ok(ExitCode::from(USAGE));
     };
@@ -212,6 +213,17 @@ fn recv<R: Print + Eprint + Files + Net + AllocGlobal>(
     } else {
         ExitCode::FAILURE
     })
+}
+
+/// The largest block, in bytes, by which the C library raises its threshold, less what it needs of it itself.
+const LARGEST_BLOCK: usize = 33_554_432 - 8_192;
+
+/// Takes a block of twice the longest message and gives it back. From then on the C library keeps up to twice the block of what is
+/// freed, and would else return memory to the system behind each long message and fetch it anew (`M_MMAP_THRESHOLD` of
+/// `mallopt(3)`). Where the block is refused nothing changes.
+fn keep_freed(alloc: Global, max_message: u32) {
+    let block = (max_message as usize).saturating_mul(2);
+    drop(Vec::<u8>::with_capacity(alloc, block.min(LARGEST_BLOCK)));
 }
 
 /// The settings of a receiver's endpoints; none where one is outside its range.
