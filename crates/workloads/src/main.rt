@@ -12,6 +12,7 @@ mod documents;
 mod dumped;
 mod failure;
 mod gateway;
+mod large;
 mod numbers;
 mod peer;
 mod receiving;
@@ -54,10 +55,11 @@ enum Job {
     Replay,
     Awkward,
     Texts,
+    Large,
 }
 
 /// Every job, in the order in which they are done.
-const JOBS: [Job; 7] = [
+const JOBS: [Job; 8] = [
     Job::Telemetry,
     Job::Documents,
     Job::Gateway,
@@ -65,6 +67,7 @@ const JOBS: [Job; 7] = [
     Job::Replay,
     Job::Awkward,
     Job::Texts,
+    Job::Large,
 ];
 
 impl Job {
@@ -77,6 +80,7 @@ impl Job {
             Job::Replay => "replay",
             Job::Awkward => "awkward",
             Job::Texts => "texts",
+            Job::Large => "large",
         }
     }
 
@@ -93,6 +97,7 @@ impl Job {
                 Job::Replay => replayed::run(&mut desk)?,
                 Job::Awkward => awkward::run(&mut desk)?,
                 Job::Texts => texts::run(&mut desk)?,
+                Job::Large => large::run(&mut desk)?,
             }
         }
         Ok(desk)

@@ -277,10 +277,15 @@ impl Peer {
 
     /// Appends so many bytes of a payload.
     fn payload(&mut self, numbers: &mut Numbers, count: u32) -> Result<(), Failure> {
-        let start = numbers.below(STARTS) as usize;
-        let end = start.saturating_add(count.min(LONGEST) as usize);
-        self.bytes
-            .extend_from_slice(self.payloads.get(start..end).unwrap_or(&[]))?;
+        let mut left = count;
+        for _ in 0..count.div_ceil(LONGEST).max(1) {
+            let piece = left.min(LONGEST);
+            let start = numbers.below(STARTS) as usize;
+            let end = start.saturating_add(piece as usize);
+            self.bytes
+                .extend_from_slice(self.payloads.get(start..end).unwrap_or(&[]))?;
+            left = left.saturating_sub(piece);
+        }
         Ok(())
     }
 }
