@@ -12,17 +12,19 @@ use amqp_send::{SendConfig, Sender};
 /// How many bytes are moved out of the sender at once.
 const PIECE: usize = 4096;
 
+/// The longest frame of the receiver. The sender's are of 4,096 bytes at most.
+const MOST: u32 = 65536;
+
 /// The places of the receiver's window, and its credit: enough for all.
 const MANY: u32 = 1 << 30;
 
 /// Sends documents of 2,000 to 20,000 bytes, one in 64 of 1,000,000, and serves the connection on which they come.
 pub fn run(desk: &mut Desk) -> Result<(), Failure> {
-    let most = desk.numbers.of_these(&[4096, 16384, 65536]);
     let receiver = Receiver {
         at_once: desk.numbers.of_these(&[4096, 65536, 65536]),
         credit: desk.numbers.of_these(&[16, 100, 1000]),
     };
-    let mut sending = Sending::new(desk, most)?;
+    let mut sending = Sending::new(desk)?;
     for number in 0..desk.size.of(192, 3) {
         let bytes = if number % 64 == 63 {
             1_000_000
@@ -43,8 +45,8 @@ struct Sending {
 }
 
 impl Sending {
-    /// One that heard the receiver's opening, with frames of so many bytes at most.
-    fn new(desk: &mut Desk, most: u32) -> Result<Sending, Failure> {
+    /// One that heard the receiver's opening.
+    fn new(desk: &mut Desk) -> Result<Sending, Failure> {
         let alloc = desk.alloc;
         let config = SendConfig {
             container_id: String::from_str(alloc, "sender")?,
@@ -56,7 +58,7 @@ impl Sending {
         };
         let mut opening = Vec::from_slice(alloc, &amqp_frame::HEADER)?;
         let mut room = [0; 512];
-        for performative in [open(most), begin(), attach(), flow()] {
+        for performative in [open(), begin(), attach(), flow()] {
             let count = write_frame(0, &performative, &[], &mut room).unwrap_or(0);
             opening.extend_from_slice(room.get(..count).unwrap_or(&[]))?;
         }
@@ -96,11 +98,11 @@ impl Sending {
     }
 }
 
-fn open(most: u32) -> Performative<'static> {
+fn open() -> Performative<'static> {
     Performative::Open(Open {
         container_id: "receiver",
         hostname: &[],
-        max_frame_size: most,
+        max_frame_size: MOST,
         channel_max: 7,
         idle_time_out: &[],
         outgoing_locales: &[],
