@@ -1,0 +1,80 @@
+//! What `amqp_perform` promises.
+
+ghost use Rattle.std.specs.Prelude.{◌≡◌, ℕ, ◌≤◌, List, length, drop, None, Ok, IfOk, IfErr, IfSome, IfNone, IsOkAnd, ◌↔◌, ◌+◌, ◌<◌, ◌++◌, IsSome};
+ghost use Rattle.amqp_perform.specs.declared.descriptor.Descriptor.{Descriptor};
+ghost use Rattle.amqp_perform.specs.declared.performative.Performative.TheVariants as performative;
+ghost use Rattle.amqp_perform.specs.Bodies.{Body, BodyOf, IsFaultOf};
+ghost use Rattle.amqp_perform.specs.Cells.{Cell};
+ghost use Rattle.amqp_perform.specs.Performatives.{type_of, performative_cells};
+ghost use Rattle.amqp_perform.specs.BodyReading.{body_at, IsRead, IsOfOther};
+ghost use Rattle.amqp_perform.specs.Frames.{frame_of, Writes, FitsFrame, IsWritten};
+
+use amqp_perform::{BodyFault, Disposition, Flow, Performative, Transfer};
+
+/// Reads the transfer that a frame's body begins with into `transfer`, and answers how many bytes it takes, as [`read_body`] reads it
+/// [2.7.5].
+pub fn read_transfer_into<'a>(bytes: &'a [u8], transfer: &mut Transfer<'a>) -> Option<usize>
+    ensures within { IfSome result (λ n. n ≤ length bytes.now) }
+    ensures exact { IfSome result (λ n. IsRead bytes.now (Ok (performative.Transfer transfer.new, n))) }
+    ensures none { IfNone result (IsOfOther Descriptor.Transfer (body_at bytes.now)) }
+{
+    amqp_perform::read_transfer_into(bytes, transfer)
+}
+
+/// The transfer that a frame's body begins with, and how many bytes it takes, as [`read_body`] reads it [2.7.5].
+pub fn read_transfer_body(bytes: &[u8]) -> Option<(Transfer<'_>, usize)>
+    ensures within { IfSome result (λ r. r.1 ≤ length bytes.now) }
+    ensures exact { IfSome result (λ r. IsRead bytes.now (Ok (performative.Transfer r.0, r.1))) }
+    ensures none { IfNone result (IsOfOther Descriptor.Transfer (body_at bytes.now)) }
+{
+    amqp_perform::read_transfer_body(bytes)
+}
+
+/// The performative that a frame's body begins with, and how many bytes it takes [2.7].
+pub fn read_body(bytes: &[u8]) -> Result<(Performative<'_>, usize), BodyFault>
+    ensures within { IfOk result (λ r. r.1 ≤ length bytes.now) }
+    // What is read is what the body says.
+    ensures found { IfOk result (λ r. Body bytes.now r.0 (drop r.1 bytes.now)) }
+    // Whatever a body says is read.
+    ensures only { (d : Descriptor) (cells : List Cell) (payload : List ℕ) → BodyOf bytes.now d cells payload
+        → IsOkAnd result (λ r. (type_of r.0 ≡ d) × (performative_cells r.0 ≡ cells) × (drop r.1 bytes.now ≡ payload)) }
+    // A fault is one that the body has.
+    ensures fault { IfErr result (IsFaultOf bytes.now) }
+    ensures exact { IsRead bytes.now result }
+{
+    amqp_perform::read_body(bytes)
+}
+
+/// Writes a frame at the front of `out`.
+pub fn write_frame(
+    channel: u16,
+    performative: &Performative<'_>,
+    payload: &[u8],
+    out: &mut [u8],
+) -> Option<usize>
+    ensures written { IfSome result (λ n. (n ≡ length (frame_of channel performative.now payload.now))
+        × (out.new ≡ frame_of channel performative.now payload.now ++ drop n out.old)) }
+    ensures fits { IsSome result ↔ FitsFrame (frame_of channel performative.now payload.now) (length out.old) }
+    ensures unchanged { IfNone result (out.new ≡ out.old) }
+{
+    amqp_perform::write_frame(channel, performative, payload, out)
+}
+
+/// Writes the frame of a flow, as [`write_frame`] does.
+pub fn write_flow(channel: u16, p: &Flow<'_>, payload: &[u8], out: &mut [u8]) -> Option<usize>
+    ensures { IsWritten (frame_of channel (performative.Flow p.now) payload.now) result out.old out.new }
+{
+    amqp_perform::write_flow(channel, p, payload, out)
+}
+
+/// Writes the frame of a disposition, as [`write_frame`] does.
+pub fn write_disposition(
+    channel: u16,
+    p: &Disposition<'_>,
+    payload: &[u8],
+    out: &mut [u8],
+) -> Option<usize>
+    ensures { IsWritten (frame_of channel (performative.Disposition p.now) payload.now) result out.old out.new }
+{
+    amqp_perform::write_disposition(channel, p, payload, out)
+}
