@@ -1,4 +1,4 @@
-//! What each layer promises to callers: each public call under the clauses that it has there, and handed on.
+//! What each layer promises to callers: public calls under the clauses that they have there, handed on.
 #![tactic(auto)]
 
 pub mod config;
