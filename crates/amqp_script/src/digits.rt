@@ -1,6 +1,6 @@
 //! Bytes as pairs of hexadecimal digits. Each byte and each pair is done by arithmetic alone, so that several are done at once.
 
-ghost use Rattle.std.specs.Prelude.{◌≡◌, ◌≤◌, ◌<◌, ◌++◌, ◌*◌, ◌↔◌, ℕ, length, slice_index, IsTrue, IsOk, OnOk, OnErr, Some};
+ghost use Rattle.std.specs.Prelude.{◌≡◌, ◌≤◌, ◌<◌, ◌++◌, ◌*◌, ◌/◌, ◌↔◌, ℕ, List, [], length, slice_index, IsTrue, IsOk, OnOk, OnErr, Ok, Some};
 ghost use Rattle.std.specs.List.{list_all};
 ghost use Rattle.hex.specs.Hex.{decode_of, encode_lower, hex_digit_value, is_hex_digit, lower_digits};
 
@@ -45,16 +45,30 @@ fn digit_of(number: u8) -> u8
     number.wrapping_add(b'0').wrapping_add(behind)
 }
 
-/// Makes `out` the bytes that pairs of digits say.
-pub fn read_hex(out: &mut Vec<u8>, text: &[u8]) -> Result<(), AllocError> {
-    let (pairs, _) = text.as_chunks::<2>();
+/// Makes `out` the bytes that pairs of digits say. Where memory is refused it is empty.
+pub fn read_hex(out: &mut Vec<u8>, text: &[u8]) -> Result<(), AllocError>
+    ensures read { (bytes : List ℕ) → decode_of text.now ≡ Ok bytes → OnOk result (out.new.items ≡ bytes) }
+    ensures len { OnOk result (length out.new.items ≡ length text.now / 2) }
+    ensures emptied { OnErr result (out.new.items ≡ []) }
+{
     out.clear();
-    out.resize(pairs.len(), 0)?;
-    for (byte, pair) in out.iter_mut().zip(pairs) {
-        let [high, low] = *pair;
-        *byte = value_of(high) << 4 | value_of(low);
-    }
+    out.resize(text.len() / 2, 0)?;
+    read_pairs(out, text);
     Ok(())
+}
+
+/// Reads a pair of digits for each place.
+fn read_pairs(out: &mut [u8], text: &[u8])
+    requires { length out.old ≡ length text.now / 2 }
+    ensures len { length out.new ≡ length out.old }
+    ensures read { (bytes : List ℕ) → decode_of text.now ≡ Ok bytes → out.new ≡ bytes }
+{
+    let (pairs, _) = text.as_chunks::<2>();
+    // Pairs that an iterator gives are loaded many at once; at their index, by `pairs[index]`, each byte would be by itself.
+    for (index, pair) in (0..out.len()).zip(pairs) {
+        let [high, low] = *pair;
+        out[index] = value_of(high) << 4 | value_of(low);
+    }
 }
 
 /// Appends the digits of bytes. Where memory is refused nothing is appended.
