@@ -11,7 +11,7 @@
 //! A frame goes through `endpoint`, `units` (a unit), `bodies` (a performative), `sessions` (a frame of a live session),
 //! `connection` and `channels` (what stands at the channel) to `amqp_session`; `telling` makes an event of its report. A call
 //! goes through `asking` or `closing`. `specs/Lines.antt` has what a unit comes to, `specs/Replies.antt` what is written,
-//! `specs/Calls.antt` the calls, `specs/Traces.antt` what holds of every run. The tests stand in `endpoint_rows` and `endpoint_tests`.
+//! `specs/Calls.antt` the calls, `specs/Traces.antt` what holds of every run. The tests stand in `layer_rows` and `endpoint_tests`.
 #![tactic(auto)]
 
 mod asking;

@@ -1,6 +1,7 @@
-//! Tests of `amqp_endpoint`, `amqp_script` and `amqp_serve` that are no rows of `endpoint_rows`: memory that is refused,
-//! devices that fail, and what a type in hand shows; and those of the small crates `amqp_serial`, `one_link` and `test_heap`.
-//! They stand apart, since a crate is proved again with its tests. The library itself is empty.
+//! Tests of `amqp_endpoint`, `amqp_script` and `amqp_serve` that are no rows of `layer_rows`: memory that is refused,
+//! devices that fail, and what a type in hand shows; what a list of turns of `amqp_pair` can come to; and those of the small
+//! crates `amqp_serial`, `one_link` and `test_heap`. They stand apart, since a crate is proved again with its tests. The
+//! library itself is empty.
 #![tactic(auto)]
 
 #[cfg(test)]
@@ -17,6 +18,8 @@ mod memory;
 mod peer;
 #[cfg(test)]
 mod receiver;
+#[cfg(test)]
+mod schedules;
 #[cfg(test)]
 mod scripts;
 #[cfg(test)]
