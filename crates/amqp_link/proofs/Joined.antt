@@ -1,79 +1,130 @@
--- The bytes of pieces.
-use Rattle.std.proofs.Common.{arith, ◌≡◌, ℕ, suc, ◌+◌, ◌-◌, ◌*◌, ◌/◌, ◌%◌, ◌<◌, ◌≤◌, Bool, true, false, List, [], ◌∷◌, ◌++◌, length, drop, Some, refl, sym, ap, ◌∙◌, append_assoc, append-nil, add-one, take, get_or}
-use Rattle.std.specs.Prelude.{Vec, nat_lt, slice_get}
-use Rattle.std.specs.List.{AllByRecursion}
-use Rattle.std.proofs.lemmas.Bool.{ltb-true, ltb-false}
+-- The bytes of blocks.
+use Rattle.std.proofs.Common.{arith, ◌≡◌, ℕ, zero, suc, ◌+◌, ◌-◌, ◌%◌, ◌<◌, ◌≤◌, List, [], ◌∷◌, ◌++◌, length, drop, Some, refl, sym, ap, ◌∙◌, append_assoc, append-nil, add-one, take, get_or, subst}
+use Rattle.std.specs.Prelude.{slice_get}
+use Rattle.std.specs.List.{AllWithin}
+use Rattle.std.specs.List.Sorted.{IsNonDecreasingBy}
 use Rattle.std.proofs.lemmas.Grind.{flat_map-append}
 use Rattle.std.proofs.lemmas.List.{length-append, drop-append-le, take-append-drop}
 use Rattle.std.proofs.Math.Seq.{drop-append-add, take-suc}
-use Rattle.std.proofs.lemmas.Option.{same_Some}
-use Rattle.amqp_link.specs.Pieces.{joined, IsWhole}
+use Rattle.std.proofs.lemmas.Option.{same_Some, slice_get_read}
+use Rattle.amqp_link.specs.declared.pieces.Block.{Block}
+use Rattle.amqp_link.specs.Pieces.{joined, AreWhole, AreBlocks}
+
+-- a front of what follows a place
+pub front_of : (all bytes rest : List ℕ) (at k : ℕ) → drop at all ≡ bytes ++ rest → (behind : List ℕ) × (drop at all ≡ take k bytes ++ behind)
+front_of all bytes rest at k is = (drop k bytes ++ rest, is ∙ ap (λ (l : List ℕ). l ++ rest) (sym (take-append-drop k bytes)) ∙ append_assoc (take k bytes) (drop k bytes) rest)
+
+-- it has some bytes
+pub some_front : (k : ℕ) (bytes : List ℕ) → 0 < k → 0 < length bytes → 0 < length (take k bytes)
+some_front zero bytes few some = absurd (omega (arith, few))
+some_front (suc k) [] few some = absurd (omega (arith, some))
+some_front (suc k) (x ∷ xs) few some = omega arith
 
 module _ {A : Type 0} where
-  -- whole pieces are so long
-  pub joined_long : (whole : List (Vec ℕ A)) → AllByRecursion IsWhole whole → length (joined whole) ≡ 4096 * length whole
-  joined_long [] each = refl
-  joined_long (v ∷ vs) each = omega (arith, length-append v.items (joined vs), each.0, joined_long vs each.1)
+  -- one block more
+  pub joined_push : (blocks : List (Block A)) (b : Block A) → joined (blocks ++ b ∷ []) ≡ joined blocks ++ b.bytes.items
+  joined_push blocks b = flat_map-append (λ (x : Block A). x.bytes.items) blocks (b ∷ []) ∙ ap (λ (l : List ℕ). joined blocks ++ l) (append-nil b.bytes.items)
 
-  -- one piece more
-  pub joined_push : (whole : List (Vec ℕ A)) (v : Vec ℕ A) → joined (whole ++ v ∷ []) ≡ joined whole ++ v.items
-  joined_push whole v = flat_map-append (λ (w : Vec ℕ A). w.items) whole (v ∷ []) ∙ ap (λ (l : List ℕ). joined whole ++ l) (append-nil v.items)
+  pub joined_on : (blocks more : List (Block A)) → joined (blocks ++ more) ≡ joined blocks ++ joined more
+  joined_on blocks more = flat_map-append (λ (x : Block A). x.bytes.items) blocks more
 
-  pub joined_on : (whole more : List (Vec ℕ A)) → joined (whole ++ more) ≡ joined whole ++ joined more
-  joined_on whole more = flat_map-append (λ (w : Vec ℕ A). w.items) whole more
+  pub blocks_push : (start : ℕ) (blocks : List (Block A)) (b : Block A) → AreBlocks start blocks → AreWhole b.bytes.items → b.end ≡ start + length (joined blocks) + length b.bytes.items → AreBlocks start (blocks ++ b ∷ [])
+  blocks_push start [] b are whole is = (whole, omega (arith, is), tt)
+  blocks_push start (x ∷ xs) b are whole is = (are.0, are.1, blocks_push x.end xs b are.2 whole (omega (arith, is, are.1, length-append x.bytes.items (joined xs))))
 
-  -- the bytes behind a place in the first piece
-  first_part : (v : Vec ℕ A) (vs : List (Vec ℕ A)) (rest : List ℕ) (at : ℕ) → at ≤ length v.items → drop at (joined (v ∷ vs) ++ rest) ≡ drop at v.items ++ (joined vs ++ rest)
-  first_part v vs rest at few = ap (λ (l : List ℕ). drop at l) (append_assoc v.items (joined vs) rest) ∙ drop-append-le at v.items (joined vs ++ rest) few
+  -- each ends behind where they start
+  beyond : (start : ℕ) (blocks : List (Block A)) (d : Block A) → AreBlocks start blocks → (j : ℕ) → j < length blocks → start ≤ (get_or blocks j d).end
+  beyond start [] d are j lt = absurd (omega (arith, lt))
+  beyond start (b ∷ bs) d are zero lt = omega (arith, are.1)
+  beyond start (b ∷ bs) d are (suc j) lt = omega (arith, are.1, beyond b.end bs d are.2 j (omega (arith, lt)))
+
+  -- and behind those before it
+  pub rising : (start : ℕ) (blocks : List (Block A)) → AreBlocks start blocks → IsNonDecreasingBy (λ (b : Block A). b.end) blocks
+  rising start [] are i j d le lt = absurd (omega (arith, lt))
+  rising start (b ∷ bs) are zero zero d le lt = omega arith
+  rising start (b ∷ bs) are zero (suc j) d le lt = beyond b.end bs d are.2 j (omega (arith, lt))
+  rising start (b ∷ bs) are (suc i) zero d le lt = absurd (omega (arith, le))
+  rising start (b ∷ bs) are (suc i) (suc j) d le lt = rising b.end bs are.2 i j d (omega (arith, le)) (omega (arith, lt))
+
+  -- the bytes behind a place in the first block
+  first_part : (b : Block A) (bs : List (Block A)) (rest : List ℕ) (at : ℕ) → at ≤ length b.bytes.items → drop at (joined (b ∷ bs) ++ rest) ≡ drop at b.bytes.items ++ (joined bs ++ rest)
+  first_part b bs rest at few = ap (λ (l : List ℕ). drop at l) (append_assoc b.bytes.items (joined bs) rest) ∙ drop-append-le at b.bytes.items (joined bs ++ rest) few
 
   -- and those behind one in another
-  later_part : (v : Vec ℕ A) (vs : List (Vec ℕ A)) (rest : List ℕ) (at k : ℕ) → at ≡ length v.items + k → drop at (joined (v ∷ vs) ++ rest) ≡ drop k (joined vs ++ rest)
-  later_part v vs rest at k is =
-      ap (λ (l : List ℕ). drop at l) (append_assoc v.items (joined vs) rest) ∙ ap (λ (n : ℕ). drop n (v.items ++ (joined vs ++ rest))) is ∙ drop-append-add v.items (joined vs ++ rest) k
+  later_part : (b : Block A) (bs : List (Block A)) (rest : List ℕ) (at k : ℕ) → at ≡ length b.bytes.items + k → drop at (joined (b ∷ bs) ++ rest) ≡ drop k (joined bs ++ rest)
+  later_part b bs rest at k is =
+      ap (λ (l : List ℕ). drop at l) (append_assoc b.bytes.items (joined bs) rest) ∙ ap (λ (n : ℕ). drop n (b.bytes.items ++ (joined bs ++ rest))) is
+      ∙ drop-append-add b.bytes.items (joined bs ++ rest) k
 
-  -- from a place in a whole piece on
-  pub in_whole : (whole : List (Vec ℕ A)) (rest : List ℕ) (at : ℕ) (v : Vec ℕ A) → AllByRecursion IsWhole whole → slice_get whole (at / 4096) ≡ Some v →
-      (behind : List ℕ) × (drop at (joined whole ++ rest) ≡ drop (at % 4096) v.items ++ behind)
-  in_whole [] rest at v each is = absurd (grind (arith, is))
-  in_whole (w ∷ ws) rest at v each is = by (in_whole ws rest (at - 4096) v each.1) (nat_lt at 4096) refl
-    where
-      by : (slice_get ws ((at - 4096) / 4096) ≡ Some v → (behind : List ℕ) × (drop (at - 4096) (joined ws ++ rest) ≡ drop ((at - 4096) % 4096) v.items ++ behind)) → (b : Bool) → nat_lt at 4096 ≡ b → (behind : List ℕ) × (drop at (joined (w ∷ ws) ++ rest) ≡ drop (at % 4096) v.items ++ behind)
-      by later true low =
-          let few : at < 4096 = ltb-true at 4096 low in
-          let none : at / 4096 ≡ 0 = omega (arith, few) in
-          let all : at % 4096 ≡ at = omega (arith, few) in
-          let same : w ≡ v = same_Some w v (ap (λ (k : ℕ). slice_get (w ∷ ws) k) (sym none) ∙ is) in (
-            joined ws ++ rest,
-            first_part w ws rest at (omega (arith, few, each.0)) ∙ ap (λ (x : Vec ℕ A). drop at x.items ++ (joined ws ++ rest)) same
-                ∙ ap (λ (k : ℕ). drop k v.items ++ (joined ws ++ rest)) (sym all),
-          )
-      by later false high =
-          let many : 4096 ≤ at = ltb-false at 4096 high in
-          let k = at - 4096 in
-          let quotient : at / 4096 ≡ suc (k / 4096) = omega (arith, many) in
-          let left : k % 4096 ≡ at % 4096 = omega (arith, many) in
-          let on = later (ap (λ (j : ℕ). slice_get (w ∷ ws) j) (sym quotient) ∙ is) in
-          (on.0, later_part w ws rest at k (omega (arith, many, each.0)) ∙ on.1 ∙ ap (λ (j : ℕ). drop j v.items ++ on.0) left)
+  -- a place in a block: where it begins, and what follows the place
+  pub record IsIn (start at : ℕ) (b : Block A) (all : List ℕ) : Type 0 where
+    pub own : length b.bytes.items ≤ b.end
+    pub from : b.end - length b.bytes.items ≤ at
+    pub before : at < b.end
+    pub rest : List ℕ
+    pub is : drop (at - start) all ≡ drop (at - (b.end - length b.bytes.items)) b.bytes.items ++ rest
 
-  -- from a place behind all of them on
-  pub behind_whole : (whole : List (Vec ℕ A)) (rest : List ℕ) (at : ℕ) → AllByRecursion IsWhole whole → length whole * 4096 ≤ at → drop at (joined whole ++ rest) ≡ drop (at - length whole * 4096) rest
-  behind_whole [] rest at each few = let same : at ≡ at - 0 * 4096 = omega arith in ap (λ (j : ℕ). drop j rest) same
-  behind_whole (w ∷ ws) rest at each few =
-      let k = at - 4096 in
-      let from : at - length (w ∷ ws) * 4096 ≡ k - length ws * 4096 = omega (arith, few) in
-      later_part w ws rest at k (omega (arith, few, each.0)) ∙ behind_whole ws rest k each.1 (omega (arith, few)) ∙ ap (λ (j : ℕ). drop j rest) (sym from)
+  -- the first block that ends behind a place has it
+  in_block : (start : ℕ) (blocks : List (Block A)) (last : List ℕ) (at i : ℕ) (b : Block A) → AreBlocks start blocks → start ≤ at → AllWithin (λ (x : Block A). x.end ≤ at) blocks 0 i → at < b.end → slice_get blocks i ≡ Some b → IsIn start at b (joined blocks ++ last)
+  in_block start [] last at i b are from low high is = absurd (grind (arith, is))
+  in_block start (x ∷ xs) last at zero b are from low high is =
+      let same : x ≡ b = same_Some x b is in
+      let end : b.end ≡ start + length b.bytes.items = subst (λ (y : Block A). y.end ≡ start + length y.bytes.items) same are.1 in
+      let begins : start ≡ b.end - length b.bytes.items = omega (arith, end) in
+      record {
+        own = omega (arith, end);
+        from = omega (arith, end, from);
+        before = high;
+        rest = joined xs ++ last;
+        is = first_part x xs last (at - start) (omega (arith, are.1, ap (λ (y : Block A). y.end) same, high, from))
+            ∙ ap (λ (y : Block A). drop (at - start) y.bytes.items ++ (joined xs ++ last)) same
+            ∙ ap (λ (n : ℕ). drop (at - n) b.bytes.items ++ (joined xs ++ last)) begins;
+      }
+  in_block start (x ∷ xs) last at (suc i) b are from low high is =
+      let end : x.end ≤ at = low 0 x (omega arith) (omega arith) in
+      let on = in_block x.end xs last at i b are.2 end (λ j d at_least lt. low (suc j) d (omega arith) (omega (arith, lt))) high is in
+      record {
+        own = on.own;
+        from = on.from;
+        before = on.before;
+        rest = on.rest;
+        is = later_part x xs last (at - start) (at - x.end) (omega (arith, are.1, end)) ∙ on.is;
+      }
 
-  -- the bytes of one piece more
-  pub joined_next : (whole : List (Vec ℕ A)) (i : ℕ) (v : Vec ℕ A) → i < length whole → v ≡ get_or whole i v → joined (take (i + 1) whole) ≡ joined (take i whole) ++ v.items
-  joined_next whole i v within is =
-      ap (λ (n : ℕ). joined (take n whole)) (add-one i)
-      ∙ ap (λ (l : List (Vec ℕ A)). joined l) (take-suc whole i v within)
-      ∙ joined_push (take i whole) (get_or whole i v)
-      ∙ ap (λ (w : Vec ℕ A). joined (take i whole) ++ w.items) (sym is)
+  -- the same of all blocks, as they are searched and looked up
+  pub found : (blocks searched looked : List (Block A)) (last : List ℕ) (at i : ℕ) (b : Block A) → searched ≡ blocks → looked ≡ blocks → AreBlocks 0 blocks → AllWithin (λ (x : Block A). x.end ≤ at) searched 0 i → AllWithin (λ (x : Block A). at < x.end) searched i (length searched) → i < length looked → b ≡ get_or looked i b → IsIn 0 at b (joined blocks ++ last)
+  found blocks searched looked last at i b same_searched same_looked are low high within is =
+      let read : slice_get blocks i ≡ Some b = ap (λ (l : List (Block A)). slice_get l i) (sym same_looked) ∙ slice_get_read looked (length looked) i b refl within is in
+      let long : length looked ≡ length searched = ap length (same_looked ∙ sym same_searched) in
+      let read_there : get_or searched i b ≡ b = ap (λ (l : List (Block A)). get_or l i b) (same_searched ∙ sym same_looked) ∙ sym is in
+      in_block 0 blocks last at i b are (omega arith) (subst (λ (l : List (Block A)). AllWithin (λ (x : Block A). x.end ≤ at) l 0 i) same_searched low)
+      (subst (λ (x : Block A). at < x.end) read_there (high i b (omega arith) (omega (arith, within, long)))) read
 
-  -- the bytes before a piece, its own, and those behind it
-  pub joined_around : (whole : List (Vec ℕ A)) (i : ℕ) (v : Vec ℕ A) → i < length whole → v ≡ get_or whole i v → joined whole ≡ (joined (take i whole) ++ v.items) ++ joined (drop (i + 1) whole)
-  joined_around whole i v within is =
-      ap (λ (l : List (Vec ℕ A)). joined l) (sym (take-append-drop (i + 1) whole))
-      ∙ joined_on (take (i + 1) whole) (drop (i + 1) whole)
-      ∙ ap (λ (l : List ℕ). l ++ joined (drop (i + 1) whole)) (joined_next whole i v within is)
+  -- a place that they all end before is behind their bytes
+  behind_blocks : (start : ℕ) (blocks : List (Block A)) (at i : ℕ) → AreBlocks start blocks → start ≤ at → AllWithin (λ (x : Block A). x.end ≤ at) blocks 0 i → length blocks ≤ i → start + length (joined blocks) ≤ at
+  behind_blocks start [] at i are from low all = omega (arith, from)
+  behind_blocks start (x ∷ xs) at zero are from low all = absurd (omega (arith, all))
+  behind_blocks start (x ∷ xs) at (suc i) are from low all =
+      let end : x.end ≤ at = low 0 x (omega arith) (omega arith) in
+      let on = behind_blocks x.end xs at i are.2 end (λ j d at_least lt. low (suc j) d (omega arith) (omega (arith, lt))) (omega (arith, all)) in
+      omega (arith, length-append x.bytes.items (joined xs), are.1, on)
+
+  pub passed : (blocks searched looked : List (Block A)) (at i : ℕ) → searched ≡ blocks → looked ≡ blocks → AreBlocks 0 blocks → AllWithin (λ (x : Block A). x.end ≤ at) searched 0 i → length looked ≤ i → length (joined blocks) ≤ at
+  passed blocks searched looked at i same_searched same_looked are low all =
+      let on = behind_blocks 0 blocks at i are (omega arith) (subst (λ (l : List (Block A)). AllWithin (λ (x : Block A). x.end ≤ at) l 0 i) same_searched low) (omega (arith, all, ap length same_looked)) in
+      omega (arith, on)
+
+  -- the bytes of one block more
+  pub joined_next : (blocks : List (Block A)) (i : ℕ) (b : Block A) → i < length blocks → b ≡ get_or blocks i b → joined (take (i + 1) blocks) ≡ joined (take i blocks) ++ b.bytes.items
+  joined_next blocks i b within is =
+      ap (λ (n : ℕ). joined (take n blocks)) (add-one i)
+      ∙ ap (λ (l : List (Block A)). joined l) (take-suc blocks i b within)
+      ∙ joined_push (take i blocks) (get_or blocks i b)
+      ∙ ap (λ (x : Block A). joined (take i blocks) ++ x.bytes.items) (sym is)
+
+  -- the bytes before a block, its own, and those behind it
+  pub joined_around : (blocks : List (Block A)) (i : ℕ) (b : Block A) → i < length blocks → b ≡ get_or blocks i b → joined blocks ≡ (joined (take i blocks) ++ b.bytes.items) ++ joined (drop (i + 1) blocks)
+  joined_around blocks i b within is =
+      ap (λ (l : List (Block A)). joined l) (sym (take-append-drop (i + 1) blocks))
+      ∙ joined_on (take (i + 1) blocks) (drop (i + 1) blocks)
+      ∙ ap (λ (l : List ℕ). l ++ joined (drop (i + 1) blocks)) (joined_next blocks i b within is)

@@ -1,22 +1,32 @@
--- How a message is kept: in pieces, each but the last of which is whole. No public clause names it.
-use Rattle.std.specs.Prelude.{◌≡◌, ℕ, ◌≤◌, ◌<◌, List, [], length, Vec}
-use Rattle.std.specs.List.{flat_map, AllByRecursion}
+-- How a message is kept: in blocks of whole pieces, but for the last piece of the last block. No public clause names it.
+use Rattle.std.specs.Prelude.{◌≡◌, ℕ, ◌+◌, ◌-◌, ◌%◌, ◌<◌, List, [], ◌∷◌, length, ⊤}
+use Rattle.std.specs.List.{flat_map}
+use Rattle.amqp_link.specs.declared.pieces.Block.{Block}
 
 -- the bytes of a piece that is whole
 abbrev pub piece_size : ℕ
 piece_size = 4096
 
+-- how many bytes the last piece of so many lacks to be whole; none where there is no piece
+abbrev pub lacking_of : ℕ → ℕ
+lacking_of len = (piece_size - len % piece_size) % piece_size
+
+-- whole pieces: some, and nothing behind them
+pub record AreWhole (bytes : List ℕ) : Type 0 where
+  pub some : 0 < length bytes
+  pub whole : length bytes % piece_size ≡ 0
+
 module _ {A : Type 0} where
-  -- the bytes of these pieces, one after the other
-  abbrev pub joined : List (Vec ℕ A) → List ℕ
-  joined pieces = flat_map (λ (v : Vec ℕ A). v.items) pieces
+  -- the bytes of these blocks, one after the other
+  abbrev pub joined : List (Block A) → List ℕ
+  joined blocks = flat_map (λ (b : Block A). b.bytes.items) blocks
 
-  -- a piece that is whole
-  abbrev pub IsWhole : Vec ℕ A → Type 0
-  IsWhole v = length v.items ≡ piece_size
+  -- blocks behind so many bytes: each has whole pieces, and ends where it says
+  abbrev pub AreBlocks : ℕ → List (Block A) → Type 0
+  AreBlocks start [] = ⊤
+  AreBlocks start (b ∷ bs) = AreWhole b.bytes.items × (b.end ≡ start + length b.bytes.items) × AreBlocks b.end bs
 
-  -- The last one is no longer than a whole one; where another is before it, it has some bytes.
-  pub record ArePieces (whole : List (Vec ℕ A)) (last : List ℕ) : Type 0 where
-    pub each : AllByRecursion IsWhole whole
-    pub most : length last ≤ piece_size
-    pub some : (whole ≡ [] → ⊥) → 0 < length last
+  -- The last one is of any length; where another is before it, it has some bytes.
+  pub record ArePieces (blocks : List (Block A)) (last : List ℕ) : Type 0 where
+    pub each : AreBlocks 0 blocks
+    pub some : (blocks ≡ [] → ⊥) → 0 < length last

@@ -3,7 +3,7 @@ ghost use Rattle.std.specs.Prelude.{◌≡◌, ◌<◌, ◌^◌, ◌++◌, ℕ, 
 ghost use Rattle.std.specs.Io.KnownBytes.{Appends};
 ghost use Rattle.amqp_frame.specs.Devices.{device_inner, has_failed, has_ended, is_flushed, reads_left, AppendsFront};
 
-use crate::pieces::{PIECE, Pieces, cut, extend_by, extend_last};
+use crate::pieces::{Block, PIECE, add_block, block_at, block_of, extend_last, lacking, piece_at};
 use amqp_frame::Device;
 use std::alloc::{AllocError, Allocator, Global};
 use std::io::{self, Write};
@@ -13,11 +13,13 @@ use std::marker::Model;
 const MOST: usize = usize::MAX / 2;
 
 /// The bytes of a message, joined from the payloads of its transfers [2.6.14]. They lie in pieces of 4,096, but for the
-/// last one; a message that is no longer lies in one, which has few bytes of room.
+/// last one. What a payload brings beyond the last piece lies in one block, piece behind piece, so that memory is asked
+/// for once; a message that is no longer than a piece lies in one block, which has few bytes of room.
 #[derive(Drop)]
 pub struct Message<A: Allocator + Copy = Global> {
     len: usize,
-    whole: Vec<Vec<u8, A>, A>,
+    /// All blocks but the last one, whose last piece needn't be whole.
+    whole: Vec<Block<A>, A>,
     last: Vec<u8, A>,
 }
 
@@ -49,15 +51,16 @@ impl<A: Allocator + Copy> Message<A> {
         ensures { IfOk result (λ message. message ≡ bytes.now) }
     {
         let len = bytes.len();
-        if len <= PIECE {
-            return Ok(Message {
-                len,
-                whole: Vec::new(alloc),
-                last: Vec::from_slice(alloc, bytes)?,
-            });
-        }
-        let Pieces { whole, last } = cut(alloc, bytes)?;
-        Ok(Message { len, whole, last })
+        let last = if len <= PIECE {
+            Vec::from_slice(alloc, bytes)?
+        } else {
+            block_of(alloc, bytes)?
+        };
+        Ok(Message {
+            len,
+            whole: Vec::new(alloc),
+            last,
+        })
     }
 
     /// How many bytes it has.
@@ -82,7 +85,7 @@ impl<A: Allocator + Copy> Message<A> {
         self.len == 0
     }
 
-    /// A payload more. All the memory that it needs is taken before anything changes: new pieces, the list of pieces,
+    /// A payload more. All the memory that it needs is taken before anything changes: a new block, the list of blocks,
     /// the last piece.
     pub(crate) fn extend(&mut self, payload: &[u8]) -> Result<(), AllocError>
         ensures ok { OnOk result (self.new ≡ self.old ++ payload.now) }
@@ -97,13 +100,14 @@ impl<A: Allocator + Copy> Message<A> {
         if len > MOST {
             return Err(AllocError);
         }
-        let room = PIECE - self.last.len();
+        let room = lacking(self.last.len());
         if payload.len() <= room {
             extend_last(&mut self.last, payload)?;
         } else {
             let (front, rest) = payload.split_at(room);
-            let new = cut(*self.last.allocator(), rest)?;
-            extend_by(&mut self.whole, &mut self.last, front, new)?;
+            let new = block_of(*self.last.allocator(), rest)?;
+            let end = self.len + room;
+            add_block(&mut self.whole, &mut self.last, end, front, new)?;
         }
         self.len = len;
         Ok(())
@@ -114,9 +118,9 @@ impl<A: Allocator + Copy> Message<A> {
         ensures front { (behind : List ℕ) × (drop at self.now ≡ result.now ++ behind) }
         ensures some { at < length self.now → 0 < length result.now }
     {
-        match self.whole.get(at / PIECE) {
-            Some(piece) => behind(piece, at % PIECE),
-            None => behind(&self.last, at - self.whole.len() * PIECE),
+        match self.whole.get(block_at(&self.whole, at)) {
+            Some(block) => piece_at(&block.bytes, at - (block.end - block.bytes.len())),
+            None => piece_at(&self.last, at - (self.len - self.last.len())),
         }
     }
 
@@ -125,8 +129,8 @@ impl<A: Allocator + Copy> Message<A> {
         ensures { IfOk result (λ v. v.items ≡ self.now) }
     {
         let mut bytes = Vec::with_capacity(alloc, self.len)?;
-        for piece in &self.whole {
-            bytes.extend_from_slice(piece)?;
+        for block in &self.whole {
+            bytes.extend_from_slice(&block.bytes)?;
         }
         bytes.extend_from_slice(&self.last)?;
         Ok(bytes)
@@ -144,16 +148,9 @@ impl<A: Allocator + Copy> Message<A> {
         ensures still { IsTrue (has_failed writer.old) → writer.new ≡ writer.old }
         ensures empty { length self.now ≡ 0 → writer.new ≡ writer.old }
     {
-        for piece in &self.whole {
-            writer.write_all(piece.as_slice())?;
+        for block in &self.whole {
+            writer.write_all(block.bytes.as_slice())?;
         }
         writer.write_all(self.last.as_slice())
     }
-}
-
-/// The bytes behind so many; none where there are no more.
-fn behind(bytes: &[u8], at: usize) -> &[u8]
-    ensures { result.now ≡ drop at bytes.now }
-{
-    bytes.get(at..).unwrap_or(&[])
 }
