@@ -222,24 +222,13 @@ left_recorded e stand steps noted (inr is) = subst (λ (x : ServeFault). IsLeft 
 pub part_more : (k k1 : Option (List ℕ)) (bytes more : List ℕ) → AppendsFront k k1 bytes → AppendsFront k k1 (bytes ++ more)
 part_more k k1 bytes more x = record { front = x.front; behind = x.behind ++ more; written = x.written; is = ap (λ (l : List ℕ). l ++ more) x.is ∙ append_assoc x.front x.behind more }
 
--- the bytes up to a place, and a piece from there on
-pub longer_take : (message : List ℕ) (at : ℕ) (piece : List ℕ) → (behind : List ℕ) × (drop at message ≡ piece ++ behind) → take at message ++ piece ≡ take (at + length piece) message
-longer_take message at piece h =
-    ap (λ (l : List ℕ). take at message ++ l) (sym (take-append_seam piece h.0) ∙ ap (λ (l : List ℕ). take (length piece) l) (sym h.1)) ∙ sym (take-add at (length piece) message)
-
--- a piece from a place on ends within the bytes
-pub longer_by : (message : List ℕ) (at : ℕ) (piece : List ℕ) → at ≤ length message → (behind : List ℕ) × (drop at message ≡ piece ++ behind) → at + length piece ≤ length message
-longer_by message at piece within h = omega (arith, length-drop at message, ap (λ (l : List ℕ). length l) h.1, length-append piece h.0)
-
--- a part of the piece behind what was written before is a part of the whole
-pub part_on : (k k1 k2 : Option (List ℕ)) (head message : List ℕ) (at : ℕ) (piece : List ℕ) → Appends k k1 (head ++ take at message) → (behind : List ℕ) × (drop at message ≡ piece ++ behind)
-    → AppendsFront k1 k2 piece → AppendsFront k k2 (head ++ message)
-part_on k k1 k2 head message at piece before h x = record {
-  front = (head ++ take at message) ++ x.front;
-  behind = x.behind ++ h.0;
-  written = Appends-trans k k1 k2 (head ++ take at message) x.front before x.written;
-  is = ap (λ (l : List ℕ). head ++ l) (sym (take-append-drop at message) ∙ ap (λ (l : List ℕ). take at message ++ l) (h.1 ∙ ap (λ (l : List ℕ). l ++ h.0) x.is ∙ append_assoc x.front x.behind h.0))
-      ∙ sym (append_assoc head (take at message) (x.front ++ (x.behind ++ h.0))) ∙ sym (append_assoc (head ++ take at message) x.front (x.behind ++ h.0));
+-- A part of some bytes, behind others, is one of both.
+pub part_behind : (k k1 k2 : Option (List ℕ)) (head bytes : List ℕ) → Appends k k1 head → AppendsFront k1 k2 bytes → AppendsFront k k2 (head ++ bytes)
+part_behind k k1 k2 head bytes before x = record {
+  front = head ++ x.front;
+  behind = x.behind;
+  written = Appends-trans k k1 k2 head x.front before x.written;
+  is = ap (λ (l : List ℕ). head ++ l) x.is ∙ sym (append_assoc head x.front x.behind);
 }
 
 -- what holds of an error holds where there is that error

@@ -11,7 +11,7 @@ use amqp_link::Taken;
 use std::alloc::Allocator;
 use std::io::Write;
 
-/// Writes the record of a message: its head, and the message piece by piece.
+/// Writes the record of a message: its head, and the message.
 pub fn write_record<A: Allocator + Copy, S: Write + Drop>(
     sink: &mut Device<S>,
     channel: u16,
@@ -25,24 +25,21 @@ pub fn write_record<A: Allocator + Copy, S: Write + Drop>(
     ensures begun { OnErr result (AppendsFront (S.contents (device_inner sink.old)) (S.contents (device_inner sink.new)) (record_of channel handle (handed_in taken.now))) }
 {
     put_out(sink, &head_of(channel, handle, taken))?;
-    let mut at = 0;
-    'pieces: while at < taken.message.len() {
-        let piece = taken.message.piece(at);
-        put_out(sink, piece)?;
-        at += piece.len();
+    match taken.message.write_to(sink) {
+        Ok(()) => Ok(()),
+        Err(_) => Err(ServeFault::Sink),
     }
-    Ok(())
 }
 
-/// Writes all of a piece.
-fn put_out<S: Write + Drop>(sink: &mut Device<S>, piece: &[u8]) -> Result<(), ServeFault>
+/// Writes all of some bytes.
+fn put_out<S: Write + Drop>(sink: &mut Device<S>, bytes: &[u8]) -> Result<(), ServeFault>
     requires { ¬ (IsTrue (has_failed sink.old)) }
     ensures fault { OnErr result (result ≡ Err ServeFault.Sink) }
     ensures failed { IsErr result ↔ IsTrue (has_failed sink.new) }
-    ensures written { OnOk result (Appends (S.contents (device_inner sink.old)) (S.contents (device_inner sink.new)) piece.now) }
-    ensures begun { OnErr result (AppendsFront (S.contents (device_inner sink.old)) (S.contents (device_inner sink.new)) piece.now) }
+    ensures written { OnOk result (Appends (S.contents (device_inner sink.old)) (S.contents (device_inner sink.new)) bytes.now) }
+    ensures begun { OnErr result (AppendsFront (S.contents (device_inner sink.old)) (S.contents (device_inner sink.new)) bytes.now) }
 {
-    match sink.write_all(piece) {
+    match sink.write_all(bytes) {
         Ok(()) => Ok(()),
         Err(_) => Err(ServeFault::Sink),
     }
