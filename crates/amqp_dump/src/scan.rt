@@ -12,7 +12,7 @@ use crate::lines::put_line;
 use crate::page::Page;
 use crate::scanned::{Scanned, ScannedFrame, StreamFault};
 use amqp_frame::{Frame, HEADER, Splitter};
-use amqp_perform::read_body;
+use amqp_perform::is_performative;
 use amqp_types::{Limits, ReadFault, check};
 use std::alloc::{AllocError, Global};
 
@@ -165,7 +165,7 @@ fn told_frame(
             size,
             channel: frame.channel,
             body: frame.body,
-            is_performative: says_performative(frame.body),
+            is_performative: is_performative(frame.body),
             payload: frame.body.len() - length,
         })),
         Err(fault) => {
@@ -173,16 +173,6 @@ fn told_frame(
             let body = place + (size - frame.body.len());
             Ok(Scanned::Fault(body + inside, StreamFault::Value(fault)))
         }
-    }
-}
-
-/// Whether a body begins with a performative whose fields are valid. [2.7]
-fn says_performative(body: &[u8]) -> bool
-    ensures { result ≡ is_some (body_at body.now) }
-{
-    match read_body(body) {
-        Ok(_) => true,
-        Err(_) => false,
     }
 }
 

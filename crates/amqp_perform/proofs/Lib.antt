@@ -22,3 +22,7 @@ pub mod StateLaws
 pub mod Writable
 pub mod Lengths
 pub mod OtherStates
+pub mod SizeLaws
+pub mod RuleLaws
+pub mod ValueLaws
+pub mod Tellings

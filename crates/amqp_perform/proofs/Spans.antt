@@ -33,7 +33,7 @@ leaf_is (Number kind.Null n) k is e = absurd (let f : null_kind kind.Null ≡ fa
 leaf_is t k is e = refl
 
 -- no code but one makes a null
-no_null : (code : ℕ) (rest : List ℕ) → eqb code 0x40 ≡ false → Yields (λ t. is_null t ≡ false) (value_of 30 None (code ∷ rest))
+pub no_null : (code : ℕ) (rest : List ℕ) → eqb code 0x40 ≡ false → Yields (λ t. is_null t ≡ false) (value_of 30 None (code ∷ rest))
 unfolding null_kind
 no_null code rest other =
     others_yield (λ t. is_null t ≡ false) null_kind (0x40 ∷ []) 30 code rest refl (other, tt) (λ d t. refl) leaf_is

@@ -25,9 +25,13 @@ BodyOf bytes d cells payload =
 abbrev pub Body : List ℕ → Performative → List ℕ → Type 0
 Body bytes p payload = BodyOf bytes (type_of p) (performative_cells p) payload
 
+-- the bytes begin with a value within the depth
+abbrev pub BeginsWithin : ℕ → List ℕ → Type 0
+BeginsWithin depth bytes = (t : Tree) × (text rest : List ℕ) × Spells t text × (depth_of t ≤ depth) × (bytes ≡ text ++ rest)
+
 -- the bytes begin with a value within the depth, and with no performative
 pub record IsInvalid (bytes : List ℕ) : Type 0 where
-  pub spelled : (t : Tree) × (text rest : List ℕ) × Spells t text × (depth_of t ≤ 32) × (bytes ≡ text ++ rest)
+  pub spelled : BeginsWithin 32 bytes
   pub none : (d : Descriptor) (cells : List Cell) (payload : List ℕ) → BodyOf bytes d cells payload → ⊥
 
 -- why the bytes begin with no performative: a misspelled value, or one that is too deep, comes first

@@ -10,3 +10,5 @@ pub mod Conditions
 pub mod Outcomes
 pub mod Again
 pub mod Said
+pub mod Sizes
+pub mod Rules

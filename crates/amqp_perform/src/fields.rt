@@ -13,10 +13,10 @@ use byteorder::{BigEndian, ByteOrder};
 pub const DEPTH: usize = 32;
 
 /// How many of them the value of a field may have: the described value and its list stand around it.
-const FIELD_DEPTH: usize = DEPTH - 2;
+pub const FIELD_DEPTH: usize = DEPTH - 2;
 
 /// The code of null.
-const NULL: u8 = 0x40;
+pub const NULL: u8 = 0x40;
 
 /// The items of a list that are left. A reader takes the next one; `None` says that it is not of the reader's
 /// type, and what is left is then of no use. `Some(None)` is an absent field: a null, or no item left.

@@ -19,6 +19,9 @@ mod modes;
 mod outcome;
 mod performative;
 mod reader;
+mod rules;
+mod sizes;
+mod telling;
 mod writer;
 
 pub use condition::Condition;
@@ -30,4 +33,5 @@ pub use performative::{
     Attach, Begin, Close, Detach, Disposition, End, Flow, Open, Performative, Transfer,
 };
 pub use reader::{read_body, read_transfer_body, read_transfer_into};
+pub use telling::is_performative;
 pub use writer::{write_disposition, write_flow, write_frame};

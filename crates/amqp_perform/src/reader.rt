@@ -22,7 +22,7 @@ use crate::performative::{
 use amqp_types::skip;
 
 /// The least that a max-frame-size may be. [2.7.1]
-const LEAST_FRAME_SIZE: u32 = 512;
+pub const LEAST_FRAME_SIZE: u32 = 512;
 
 fn read_open<'a>(fields: &mut Fields<'a>) -> Option<Open<'a>>
     ensures { TakesFrom open_cells (fields_at open_fields) fields.old fields.new result }

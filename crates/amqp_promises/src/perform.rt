@@ -1,9 +1,9 @@
 //! What `amqp_perform` promises.
 
-ghost use Rattle.std.specs.Prelude.{◌≡◌, ℕ, ◌≤◌, List, length, drop, None, Ok, IfOk, IfErr, IfSome, IfNone, IsOkAnd, ◌↔◌, ◌+◌, ◌<◌, ◌++◌, IsSome};
+ghost use Rattle.std.specs.Prelude.{◌≡◌, ℕ, ◌≤◌, List, length, drop, None, Ok, IfOk, IfErr, IfSome, IfNone, IsOkAnd, ◌↔◌, ◌+◌, ◌<◌, ◌++◌, IsSome, is_some};
 ghost use Rattle.amqp_perform.specs.declared.descriptor.Descriptor.{Descriptor};
 ghost use Rattle.amqp_perform.specs.declared.performative.Performative.TheVariants as performative;
-ghost use Rattle.amqp_perform.specs.Bodies.{Body, BodyOf, IsFaultOf};
+ghost use Rattle.amqp_perform.specs.Bodies.{BeginsWithin, Body, BodyOf, IsFaultOf};
 ghost use Rattle.amqp_perform.specs.Cells.{Cell};
 ghost use Rattle.amqp_perform.specs.Performatives.{type_of, performative_cells};
 ghost use Rattle.amqp_perform.specs.BodyReading.{body_at, IsRead, IsOfOther};
@@ -43,6 +43,14 @@ pub fn read_body(bytes: &[u8]) -> Result<(Performative<'_>, usize), BodyFault>
     ensures exact { IsRead bytes.now result }
 {
     amqp_perform::read_body(bytes)
+}
+
+/// Whether a frame's body, which begins with a value of at most 32 levels, begins with a performative, as [`read_body`] reads it [2.7].
+pub fn is_performative(body: &[u8]) -> bool
+    requires { BeginsWithin 32 body.now }
+    ensures { result ≡ is_some (body_at body.now) }
+{
+    amqp_perform::is_performative(body)
 }
 
 /// Writes a frame at the front of `out`.

@@ -1,0 +1,14 @@
+use Rattle.std.proofs.Common.{sym, ◌∙◌}
+use Rattle.std.specs.Option.{option_map}
+use Rattle.amqp_perform.specs.Performatives.{sender_mode}
+use Rattle.amqp_perform.specs.Tables.{sender_settle_mode}
+use Rattle.amqp_perform.proofs.ValueLaws.{read_some, read_none, whole_there, map_there}
+use Rattle.amqp_perform.proofs.telling.sender_mode_value.Goals as goal
+
+pub returns-in_err-value : goal.returns-in_err-value
+returns-in_err-value c = rw c.from_residual.ensures (read_none sender_settle_mode c.args.bytes.now _ _ c.of-fields.ensures.count c.of-fields.ensures.items c.in_err-value.ensures)
+
+pub returns : goal.returns
+returns c =
+    read_some sender_settle_mode c.args.bytes.now _ _ _ _ _ c.parts.result.1.now c.is_some.result c.of-fields.ensures.count c.of-fields.ensures.items c.in_ok-value.ensures
+    (whole_there (option_map sender_mode c.in_ok-value.value) ∙ map_there sender_mode c.in_ok-value.value ∙ sym c.is_some.ensures) c.parts.ensures.items
