@@ -1,9 +1,8 @@
 -- A body that begins with a value is told by the items of its list.
-use Rattle.std.proofs.Common.{◌≡◌, ℕ, ◌+◌, ◌≤◌, ◌&&◌, Bool, true, false, eqb, cond, is_some, List, [], ◌∷◌, ◌++◌, map, length, Option, Some, None, refl, sym, ap, subst, ◌∙◌, arith, inl, inr}
+use Rattle.std.proofs.Common.{◌≡◌, ℕ, ◌≤◌, Bool, true, false, eqb, cond, is_some, List, [], ◌∷◌, ◌++◌, map, length, Option, Some, None, refl, sym, ap, subst, ◌∙◌, arith, inl, inr}
 use Rattle.std.specs.Option.{option_map}
 use Rattle.std.proofs.lemmas.Bool.{eqb-true}
 use Rattle.std.proofs.lemmas.Option.{same_Some, none-some, some_pair_parts}
-use Rattle.amqp_types.specs.declared.code.Constructor.TheVariants.{EmptyList}
 use Rattle.amqp_types.specs.Codes.{find_code}
 use Rattle.amqp_types.specs.InHand.{outermost}
 use Rattle.amqp_types.specs.Reading.{value_of}
@@ -14,7 +13,7 @@ use Rattle.amqp_types.proofs.Peeks.{described_opens}
 use Rattle.amqp_perform.specs.declared.descriptor.Descriptor.{Descriptor}
 use Rattle.amqp_perform.specs.Bodies.{BeginsWithin}
 use Rattle.amqp_perform.specs.BodyReading.{ListAt, descriptor_from, descriptor_at, list_by, list_at, fields_at, described_at, performative_at, body_at}
-use Rattle.amqp_perform.specs.Cells.{Cell, ◌>>=◌, cells_of}
+use Rattle.amqp_perform.specs.Cells.{Cell, ◌>>=◌}
 use Rattle.amqp_perform.specs.Descriptors.{described_by}
 use Rattle.amqp_perform.specs.Items.{Item, trees_of, text_of, AreSpelled}
 use Rattle.amqp_perform.specs.Rules.{Asked, asked_of, may_be_all}

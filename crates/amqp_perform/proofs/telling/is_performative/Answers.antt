@@ -1,5 +1,4 @@
 use Rattle.std.proofs.Common.{map, sym, ◌∙◌}
-use Rattle.amqp_perform.specs.BodyReading.{ListAt}
 use Rattle.amqp_perform.specs.Rules.{asked_by}
 use Rattle.amqp_perform.proofs.Tellings.{none_told, items_are, no_rules, by_rules}
 use Rattle.amqp_perform.proofs.telling.is_performative.Goals as goal
