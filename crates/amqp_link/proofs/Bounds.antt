@@ -1,16 +1,17 @@
 -- What a link keeps can be counted, and stays so.
-use Rattle.std.proofs.Common.{arith, ◌≡◌, ℕ, ◌+◌, ◌*◌, ◌-◌, ◌^◌, ◌≤◌, Bool, true, false, not, ◌&&◌, cond, map, filter, List, [], ◌∷◌, ◌++◌, length, refl, sym, ap, subst, inl, inr, Option, Some, None}
+use Rattle.std.proofs.Common.{arith, ◌≡◌, ℕ, ◌+◌, ◌*◌, ◌-◌, ◌^◌, ◌≤◌, Bool, true, false, not, ◌&&◌, cond, map, filter, drop, List, [], ◌∷◌, ◌++◌, length, refl, sym, ap, subst, inl, inr, Option, Some, None}
 use Rattle.std.specs.Prelude.{sum_by, option_to_list}
 use Rattle.std.specs.List.{AllByRecursion}
 use Rattle.std.proofs.lemmas.Bool.{and_right}
 use Rattle.std.proofs.lemmas.List.{length-append}
 use Rattle.std.proofs.lemmas.List.Sums.{sum_by-cons, count_by-le-length}
 use Rattle.std.proofs.Math.Nat.{suc-mul, add-mul, mul-le-mul_right, mul-le-mul}
-use Rattle.std.specs.Prelude.{option_map, is_none}
+use Rattle.std.specs.Prelude.{option_map, is_none, slice_get}
+use Rattle.std.proofs.lemmas.Option.{same_Some}
 use Rattle.amqp_link.specs.declared.terms.Terms.{Terms}
 use Rattle.amqp_link.specs.Links.{Sent, goes_on, completes, Delivery, OpenSet, LinkState, set_bytes, how_many, delivery_bytes, with_delivery, delivery_after, cost, fault_of, is_formed, is_covered}
 use Rattle.amqp_link.specs.Links.{Transferred, ReceiverSettled, SenderSettled, receiver_settles, told_by, receiver_settled_in, sender_settled_by, sender_settled_in, newly_settled, named_count}
-use Rattle.amqp_link.specs.Links.{in_order, settle_fault}
+use Rattle.amqp_link.specs.Links.{in_order, settle_fault, left_open, HandedUp}
 use Rattle.amqp_link.specs.Keeping.{link_of, IsLink, IsShort}
 use Rattle.amqp_link.proofs.Keys.{total_is}
 use Rattle.amqp_link.proofs.Steps.{fits, head_tag, within_after}
@@ -150,6 +151,32 @@ stays_for_sender terms credit count draining o first last link =
       awaiting = all_left (IsShort terms) (is_covered first last) o.awaiting link.awaiting;
       ready = all_turned terms (sender_settled_by first last) same o.ready link.ready;
       unfinished = one_turned terms (sender_settled_by first last) same o.unfinished link.unfinished;
+    }
+
+first_short : (P : Delivery → Type 0) (d : Delivery) (ds : List Delivery) → AllByRecursion P ds → slice_get ds 0 ≡ Some d → P d
+first_short P d [] all is = absurd (grind (arith, is))
+first_short P d (e ∷ ds) all is = subst P (same_Some e d is) all.0
+
+rest_short : (P : Delivery → Type 0) (ds : List Delivery) → AllByRecursion P ds → AllByRecursion P (drop 1 ds)
+rest_short P [] all = tt
+rest_short P (d ∷ ds) all = all.1
+
+left_short : (P : Delivery → Type 0) (gone : Bool) (d : Delivery) (ds : List Delivery) → AllByRecursion P ds → P d → AllByRecursion P (ds ++ cond gone [] (d ∷ []))
+left_short P true d [] all p = tt
+left_short P false d [] all p = (p, tt)
+left_short P gone d (e ∷ ds) all p = (all.0, left_short P gone d ds all.1 p)
+
+-- and so does a take
+pub stays_for_taker : (terms : Terms) (credit count : ℕ) (draining : Bool) (o : OpenSet) (d : Delivery) → IsLink terms credit o → slice_get o.ready 0 ≡ Some d →
+    IsLink terms credit (record o { awaiting = o.awaiting ++ left_open d; ready = drop 1 o.ready })
+stays_for_taker terms credit count draining o d link may =
+    let short : IsShort terms d = first_short (IsShort terms) d o.ready link.ready may in
+    record {
+      within = within_after (link_of terms credit count draining o) (HandedUp d) may link.within;
+      bounded = link.bounded;
+      awaiting = left_short (IsShort terms) d.settled (record d { message = [] }) o.awaiting link.awaiting (record { delivery_tag = short.delivery_tag; message = omega arith });
+      ready = rest_short (IsShort terms) o.ready link.ready;
+      unfinished = link.unfinished;
     }
 
 -- a settle counts no more than are open

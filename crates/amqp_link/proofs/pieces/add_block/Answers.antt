@@ -2,7 +2,7 @@ use Rattle.std.proofs.Common.{◌≡◌, ◌+◌, ◌%◌, ◌<◌, ◌++◌, �
 use Rattle.std.proofs.lemmas.Grind.{common_steps}
 use Rattle.std.proofs.lemmas.List.{length-append}
 use Rattle.amqp_link.specs.declared.pieces.Block.{Block}
-use Rattle.amqp_link.specs.Pieces.{joined, AreWhole, AreBlocks}
+use Rattle.amqp_link.specs.Pieces.{AreWhole, AreBlocks}
 use Rattle.amqp_link.proofs.Joined.{blocks_push}
 use Rattle.amqp_link.proofs.pieces.add_block.Goals as goal
 

@@ -1,5 +1,4 @@
-use Rattle.std.proofs.Common.{List, ℕ, ◌++◌, subst}
-use Rattle.std.proofs.KnownBytes.{Appends-trans}
+use Rattle.std.proofs.Common.{List, ℕ, subst}
 use Rattle.std.specs.Io.KnownBytes.{Appends}
 use Rattle.amqp_frame.specs.Devices.{device_inner, AppendsFront}
 use Rattle.amqp_endpoint.specs.Endpoints.{handed_in}
@@ -14,3 +13,11 @@ returns-in_err-put_out-clause-begun g c =
     let k1 = g.S.Write.contents (device_inner c.put_out.new.sink) in
     on_err _ _ (part_more k k1 (record_head c.args.channel c.args.handle (handed_in c.args.taken.now)) c.args.taken.now.message
     (subst (λ (l : List ℕ). AppendsFront k k1 l) c.head_of.ensures c.in_err-put_out.ensures.begun))
+
+pub returns-in-Err-clause-begun : goal.returns-in-Err-clause-begun
+returns-in-Err-clause-begun g c =
+    let k = g.S.Write.contents (device_inner c.args.sink.now) in
+    let k1 = g.S.Write.contents (device_inner c.put_out.new.sink) in
+    let k2 = g.S.Write.contents (device_inner c.write_to.new.writer) in
+    part_behind k k1 k2 (record_head c.args.channel c.args.handle (handed_in c.args.taken.now)) c.args.taken.now.message
+    (subst (λ (l : List ℕ). Appends k k1 l) c.head_of.ensures c.in_ok-put_out.ensures.written) c.in-Err.ensures.err
