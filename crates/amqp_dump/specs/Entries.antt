@@ -8,6 +8,7 @@ use Rattle.amqp_perform.specs.BodyReading.{body_at}
 use Rattle.amqp_types.specs.Trees.{Tree}
 use Rattle.amqp_types.specs.Reading.{Read}
 use Rattle.amqp_types.specs.Decoding.{decoded}
+use Rattle.amqp_types.specs.Skipping.{rest_of}
 use Rattle.amqp_types.specs.Places.{place_of}
 use Rattle.amqp_dump.specs.declared.scan.TheConstants.{MAX_FRAME, LIMITS}
 use Rattle.amqp_dump.specs.declared.scanned.Scanned.{Scanned}
@@ -26,6 +27,10 @@ pub data Entry : Type 0 where
 abbrev pub found : Read Tree → Option Tree
 found (Ok read) = Some read.0
 found (Err fault) = None
+
+-- a body begins with a value within the limits
+abbrev pub PassedCheck : List ℕ → Type 0
+PassedCheck body = (rest : List ℕ) × (rest_of (decoded LIMITS.depth LIMITS.nodes body) ≡ Ok rest)
 
 -- the value that a body begins with
 abbrev pub value_in : List ℕ → Option Tree

@@ -5,7 +5,7 @@ ghost use Rattle.std.specs.Prelude.{◌≡◌, ◌≢◌, ℕ, ◌+◌, ◌-◌,
 ghost use Rattle.amqp_frame.specs.Splits.{IsOver};
 ghost use Rattle.amqp_perform.specs.BodyReading.{body_at};
 ghost use Rattle.amqp_types.specs.Places.{place_of};
-ghost use Rattle.amqp_dump.specs.Entries.{Entry, entry_of, is_fault, header_entry, body_entry, told_entries, TellsOf};
+ghost use Rattle.amqp_dump.specs.Entries.{PassedCheck, Entry, entry_of, is_fault, header_entry, body_entry, told_entries, TellsOf};
 ghost use Rattle.amqp_dump.specs.Steps.{IsWaiting, IsReady, IsReadyBehind, HasTold, PutsNext, taken_by};
 
 use crate::lines::put_line;
@@ -165,7 +165,7 @@ fn told_frame(
             size,
             channel: frame.channel,
             body: frame.body,
-            is_performative: is_performative(frame.body),
+            is_performative: says_performative(frame.body),
             payload: frame.body.len() - length,
         })),
         Err(fault) => {
@@ -174,6 +174,14 @@ fn told_frame(
             Ok(Scanned::Fault(body + inside, StreamFault::Value(fault)))
         }
     }
+}
+
+/// Whether a body that passed `check` begins with a performative whose fields are valid. [2.7]
+fn says_performative(body: &[u8]) -> bool
+    requires { PassedCheck body.now }
+    ensures { result ≡ is_some (body_at body.now) }
+{
+    is_performative(body)
 }
 
 /// The place of a fault, in bytes from the first one of the body.
