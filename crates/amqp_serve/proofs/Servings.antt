@@ -230,6 +230,11 @@ part_behind k k1 k2 head bytes before x = record {
   is = ap (λ (l : List ℕ). head ++ l) x.is ∙ sym (append_assoc head x.front x.behind);
 }
 
+-- the same where it failed
+pub part_behind_failed : {T E : Type 0} (r : Result T E) (k k1 k2 : Option (List ℕ)) (head bytes : List ℕ) → Appends k k1 head → OnErr r (AppendsFront k1 k2 bytes) → OnErr r (AppendsFront k k2 (head ++ bytes))
+part_behind_failed (Ok x) k k1 k2 head bytes before part = tt
+part_behind_failed (Err e) k k1 k2 head bytes before part = part_behind k k1 k2 head bytes before part
+
 -- what holds of an error holds where there is that error
 pub if_err : {X E : Type 0} (r : Result X E) (F : E → Type 0) (e : E) → r ≡ Err e → F e → IfErr r F
 if_err r F e is f = subst (λ (x : Result _ _). IfErr x F) (sym is) f

@@ -1,5 +1,5 @@
 //! The records of messages.
-ghost use Rattle.std.specs.Prelude.{◌≡◌, ◌+◌, ◌≤◌, ◌++◌, ◌↔◌, length, take, Err, IsErr, IsTrue, OnErr, OnOk};
+ghost use Rattle.std.specs.Prelude.{◌≡◌, ◌+◌, ◌≤◌, ◌++◌, ◌↔◌, length, take, Err, IsErr, IsTrue, OnErr, OnOk, IfSome};
 ghost use Rattle.std.specs.Io.KnownBytes.{Appends};
 ghost use Rattle.amqp_frame.specs.Devices.{device_inner, has_failed, AppendsFront};
 ghost use Rattle.amqp_endpoint.specs.Endpoints.{handed_in};
@@ -7,7 +7,7 @@ ghost use Rattle.amqp_serve.specs.Serving.{record_of, record_head};
 
 use crate::ServeFault;
 use amqp_frame::Device;
-use amqp_link::Taken;
+use amqp_link::{Message, Taken};
 use std::alloc::Allocator;
 use std::io::Write;
 
@@ -25,9 +25,25 @@ pub fn write_record<A: Allocator + Copy, S: Write + Drop>(
     ensures begun { OnErr result (AppendsFront (S.contents (device_inner sink.old)) (S.contents (device_inner sink.new)) (record_of channel handle (handed_in taken.now))) }
 {
     put_out(sink, &head_of(channel, handle, taken))?;
+    if let Some(bytes) = in_one_piece(&taken.message) {
+        return put_out(sink, bytes);
+    }
     match taken.message.write_to(sink) {
         Ok(()) => Ok(()),
         Err(_) => Err(ServeFault::Sink),
+    }
+}
+
+/// The bytes of a message that lies in one piece.
+// Written at once: 2.4 in 100 of `telemetry` (docs/PERF.md).
+fn in_one_piece<A: Allocator + Copy>(message: &Message<A>) -> Option<&[u8]>
+    ensures { IfSome result (λ bytes. bytes.now ≡ message.now) }
+{
+    let front = message.piece(0);
+    if front.len() == message.len() {
+        Some(front)
+    } else {
+        None
     }
 }
 

@@ -1,5 +1,5 @@
 //! What is written to the peer, what is flushed before it, and the one read.
-ghost use Rattle.std.specs.Prelude.{◌≡◌, ◌≢◌, ◌↔◌, ◌≤◌, ◌⊎◌, ◌<◌, [], ℕ, List, length, take, true, false, Err, Ok, IsErr, IsTrue, IfOk, OnErr, OnOk, IfErr};
+ghost use Rattle.std.specs.Prelude.{◌≡◌, ◌≢◌, ◌↔◌, ◌≤◌, ◌⊎◌, ◌<◌, [], length, take, true, false, Err, Ok, IsErr, IsTrue, IfOk, OnErr, OnOk, IfErr};
 ghost use Rattle.std.specs.Io.KnownBytes.{Appends, Consumes, Keeps};
 ghost use Rattle.amqp_frame.specs.Devices.{device_inner, has_failed, has_ended, is_flushed, reads_ahead};
 ghost use Rattle.amqp_frame.specs.Splits.{TakesNothing};
