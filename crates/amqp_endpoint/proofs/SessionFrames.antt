@@ -18,23 +18,23 @@ use Rattle.amqp_session.specs.declared.fault.SessionFault.TheVariants as fault
 use Rattle.amqp_session.specs.declared.slot.Slot.{Slot}
 use Rattle.amqp_session.specs.declared.slot.Slot.TheVariants.{Free, Live, Waits}
 use Rattle.amqp_session.specs.Answers.{answer_said}
-use Rattle.amqp_session.specs.Faults.{failure_answer, session_fault, event_of, answer_of, frame_may_grow, session_condition, IsRefusal}
+use Rattle.amqp_session.specs.Faults.{failure_answer, session_fault, event_of, report_of, answer_of, frame_may_grow, session_condition, IsRefusal}
 use Rattle.amqp_perform.specs.declared.performative.Detach.{Detach}
 use Rattle.amqp_session.specs.Frames.{Attaching, Frame, Attaches, Flows, Transfers, Disposes, Detaches, attaching, flowing, disposing, refusal_said}
 use Rattle.amqp_endpoint.specs.Configs.{Configured, bounds_for}
 use Rattle.amqp_endpoint.specs.Fields.{frame_in}
-use Rattle.amqp_session.specs.Sessions.{SessionState, SessionEvent, session_after}
+use Rattle.amqp_session.specs.Sessions.{SessionState, session_after}
 use Rattle.amqp_endpoint.specs.declared.event.Event.{Event}
 use Rattle.amqp_endpoint.specs.declared.event.Event.TheVariants as told
 use Rattle.amqp_endpoint.specs.declared.event.Scope.TheVariants as scope
-use Rattle.amqp_endpoint.specs.Acting.{attach_answered, IsTold, IsDone, IsWithout, IsLive, IsForSession, FrameDone, IsFramed, IsUnframed, is_beyond, replied, ending}
+use Rattle.amqp_endpoint.specs.Acting.{attach_answered, IsDone, IsWithout, HasDone, IsLive, IsForSession, FrameDone, IsFramed, IsUnframed, IsRefused, is_beyond, replied, ending}
 use Rattle.amqp_endpoint.specs.Connections as event
 use Rattle.amqp_endpoint.specs.Connections.{ConnectionState, connection_after, slot_at, channel_ready}
 use Rattle.amqp_endpoint.specs.Lines as line
 use Rattle.amqp_endpoint.specs.Lines.{Line, attach_too_high, by_fault, session_line, report_told}
 use Rattle.amqp_endpoint.specs.Replies.{joined, on_channel, end_said}
 use Rattle.amqp_endpoint.proofs.Replies.{SaidLong, channel_long, answer_long}
-use Rattle.amqp_endpoint.proofs.Tables.{Table, goes_on_at}
+use Rattle.amqp_endpoint.proofs.Tables.{Table}
 use Rattle.std.proofs.lemmas.Option.{same_Some}
 
 -- What is at hand. ------------------------------------------------------------------------------------------------------
@@ -71,12 +71,6 @@ beyond_is config (performative.Disposition p) payload t f e = ap (λ (g : Frame)
 beyond_is config (performative.Detach p) payload t f e = ap (λ (g : Frame). attach_too_high t g) (same_Some (Detaches p.handle p.closed) f e)
 beyond_is config (performative.End p) payload t f e = absurd (grind (arith, e))
 beyond_is config (performative.Close p) payload t f e = absurd (grind (arith, e))
-
--- a transfer is no attach
-pub transfer_low : (x : Slot SessionState) (p : Transfer) → false ≡ is_beyond x (performative.Transfer p)
-transfer_low Free p = refl
-transfer_low (Live t) p = refl
-transfer_low Waits p = refl
 
 -- what is written for an answer is what it says of the frame
 replied_is : (config : Configured) (p : Performative) (payload : List ℕ) (t : SessionState) (f : Frame) (x : Answer) → frame_in config p payload ≡ Some f → replied config p x ≡ answer_said t.terms f x
@@ -139,13 +133,6 @@ present : (o : Option (Slot SessionState)) (t : SessionState) → unwrap_or o Fr
 present None t e = absurd (grind (arith, e))
 present (Some x) t e = ap (λ (y : Slot SessionState). Some y) e
 
-slot_framed : (s : ConnectionState) (channel : ℕ) (t : SessionState) (e : SessionEvent) → slot_at s channel ≡ Live t →
-    slot_at (connection_after s (event.InSession channel e)) channel ≡ Live (session_after t e)
-slot_framed s channel t e live =
-    let at = present (slice_get s.sessions channel) t live in
-    ap (λ (slots : Table). unwrap_or (slice_get slots channel) Free) (goes_on_at s.sessions channel e t at)
-    ∙ ap (λ (o : Option (Slot SessionState)). unwrap_or o Free) (set_there s.sessions channel (Live t) (Live (session_after t e)) at)
-
 -- What becomes of it. ---------------------------------------------------------------------------------------------------
 
 refusal_is : (t : SessionState) (f : Frame) (e : SessionFault) (c : Condition) → ending e ≡ Some c → IsRefusal t f e → session_fault t f ≡ Some e
@@ -172,13 +159,45 @@ want_is t f fault.UnattachedHandle ends r = absurd (grind (arith, ends))
 want_is t f fault.ResourceLimit ends r = absurd (grind (arith, ends))
 want_is t f fault.InvalidField ends r = absurd (grind (arith, ends))
 
-module _ (s new : ConnectionState) (channel : ℕ) (p : Performative) (payload : List ℕ) (t : SessionState) (f : Frame) (live : slot_at s channel ≡ Live t) (is : frame_in s.config p payload ≡ Some f) where
-  line_is : (o : Option SessionFault) → false ≡ is_beyond (slot_at s channel) p → session_fault t f ≡ o → session_line channel t f ≡ by_fault channel t f o
-  line_is o low e =
-      let not_high : attach_too_high t f ≡ false = sym (beyond_is s.config p payload t f is) ∙ sym (ap (λ (x : Slot SessionState). is_beyond x p) live) ∙ sym low in
-      ap (λ (b : Bool). if b then line.HandleTooHigh else by_fault channel t f (session_fault t f)) not_high ∙ ap (λ (o : Option SessionFault). by_fault channel t f o) e
+-- A frame whose handle is not too high.
+module _ (s new : ConnectionState) (channel : ℕ) (t : SessionState) (f : Frame) (low : attach_too_high t f ≡ false) where
+  line_is : (o : Option SessionFault) → session_fault t f ≡ o → session_line channel t f ≡ by_fault channel t f o
+  line_is o e =
+      ap (λ (b : Bool). if b then line.HandleTooHigh else by_fault channel t f (session_fault t f)) low ∙ ap (λ (o : Option SessionFault). by_fault channel t f o) e
 
-  answer_is : (d : Done) → IsFramed s new channel t f d → replied new.config p d.answer ≡ answer_of t f
+  -- it is taken, and answered
+  pub taken : session_fault t f ≡ None → new ≡ connection_after s (event.InSession channel (event_of t f)) → (before after : List ℕ) (said : List Said) (tells : Option Event) (report : Report) →
+      after ≡ before ++ joined (on_channel channel said) → said ≡ answer_of t f → tells ≡ report_told channel report → report ≡ report_of t f → IsDone s new before after (session_line channel t f) tells
+  taken accepted becomes before after said tells report written says told is =
+      subst (λ (l : Line). IsDone s new before after l tells) (sym (line_is None accepted)) (record {
+        connection = becomes;
+        unsent = written ∙ ap (λ (xs : List Said). before ++ joined (on_channel channel xs)) says;
+        told = told ∙ ap (λ (n : Report). report_told channel n) is;
+      })
+
+  -- it is refused: memory is, or it ends the session
+  pub refused : {E : Type 0} (e : SessionFault) → IsUnframed s new t f e → (last : ConnectionState) (before after : List ℕ) (r : Result (Option Event) E) → IsRefused new last before after channel e r →
+      HasDone s last before after (session_line channel t f) r
+  refused e unframed last before after (Err x) is =
+      let wanted = want_is t f e is.0 unframed.refused in
+      subst (λ (l : Line). IsWithout s last before after l) (sym (line_is None wanted.0)) (record { connection = is.1 ∙ unframed.same; unsent = is.2; wants = wanted.1 })
+  refused e unframed last before after (Ok x) is =
+      let c = is.0 in
+      let why = condition_is e is.0 is.1 in
+      subst (λ (l : Line). IsDone s last before after l x) (sym (line_is (Some e) (refusal_is t f e c is.1 unframed.refused))) (record {
+        connection = is.2 ∙ ap (λ (y : ConnectionState). connection_after y (event.SessionFailed channel)) unframed.same;
+        unsent = is.3 ∙ ap (λ (c : Condition). before ++ joined (on_channel channel (end_said (condition_span c) ∷ []))) why;
+        told = is.4 ∙ ap (λ (e : Event). Some e)
+            (ap (λ (y : ConnectionState). told.Failed (scope.Session channel) is.0 (channel_ready (slot_at y channel))) unframed.same
+            ∙ ap (λ (c : Condition). told.Failed (scope.Session channel) c (channel_ready (slot_at s channel))) why);
+      })
+
+module _ (s new : ConnectionState) (channel : ℕ) (p : Performative) (payload : List ℕ) (t : SessionState) (f : Frame) (live : slot_at s channel ≡ Live t) (is : frame_in s.config p payload ≡ Some f) where
+  -- an attach's handle is not too high
+  pub low_is : false ≡ is_beyond (slot_at s channel) p → attach_too_high t f ≡ false
+  low_is low = sym (beyond_is s.config p payload t f is) ∙ sym (ap (λ (x : Slot SessionState). is_beyond x p) live) ∙ sym low
+
+  pub answer_is : (d : Done) → IsFramed s new channel t f d → replied new.config p d.answer ≡ answer_of t f
   answer_is d framed =
       ap (λ (c : ConnectionState). replied c.config p d.answer) framed.after ∙ replied_is s.config p payload (session_after t (event_of t f)) f d.answer is ∙ sym framed.answer
 
@@ -188,56 +207,10 @@ module _ (s new : ConnectionState) (channel : ℕ) (p : Performative) (payload :
       let short : length (joined (on_channel channel (answer_of t f))) ≤ 2560 = omega (arith, m, answer_long t f framed.accepted) in
       subst (λ (xs : List Said). length (joined (on_channel channel xs)) ≤ 2560) (sym (answer_is d framed)) short
 
-  -- it is taken
-  pub taken : false ≡ is_beyond (slot_at s channel) p → (d : Done) → IsFramed s new channel t f d → (before after : List ℕ) (report : Option Event) →
-      after ≡ before ++ joined (on_channel channel (replied new.config p d.answer)) → report ≡ report_told channel d.report → IsDone s new before after (session_line channel t f) report
-  taken low d framed before after report written tells =
-      subst (λ (l : Line). IsDone s new before after l report) (sym (line_is None low framed.accepted)) (record {
-        connection = framed.after;
-        unsent = written ∙ ap (λ (xs : List Said). before ++ joined (on_channel channel xs)) (answer_is d framed);
-        told = tells ∙ ap (λ (n : Report). report_told channel n) framed.report;
-      })
-
-  -- memory is refused
-  pub unmet : false ≡ is_beyond (slot_at s channel) p → (e : SessionFault) → ending e ≡ None → IsUnframed s new t f e → (before : List ℕ) →
-      IsWithout s new before before (session_line channel t f)
-  unmet low e ends unframed before =
-      let wanted = want_is t f e ends unframed.refused in
-      subst (λ (l : Line). IsWithout s new before before l) (sym (line_is None low wanted.0)) (record { connection = unframed.same; unsent = refl; wants = wanted.1 })
-
-  -- it ends the session
-  pub broken : false ≡ is_beyond (slot_at s channel) p → (e : SessionFault) (c : Condition) → ending e ≡ Some c → IsUnframed s new t f e → (last : ConnectionState)
-      (before after : List ℕ) (x : Event) →
-      last ≡ connection_after new (event.SessionFailed channel) → after ≡ before ++ joined (on_channel channel (end_said (condition_span c) ∷ [])) →
-      x ≡ told.Failed (scope.Session channel) c (channel_ready (slot_at new channel)) → IsDone s last before after (session_line channel t f) (Some x)
-  broken low e c ends unframed last before after x ended written tells =
-      let why = condition_is e c ends in
-      subst (λ (l : Line). IsDone s last before after l (Some x)) (sym (line_is (Some e) low (refusal_is t f e c ends unframed.refused))) (record {
-        connection = ended ∙ ap (λ (x : ConnectionState). connection_after x (event.SessionFailed channel)) unframed.same;
-        unsent = written ∙ ap (λ (c : Condition). before ++ joined (on_channel channel (end_said (condition_span c) ∷ []))) why;
-        told = ap (λ (e : Event). Some e)
-            (tells ∙ ap (λ (x : ConnectionState). told.Failed (scope.Session channel) c (channel_ready (slot_at x channel))) unframed.same
-            ∙ ap (λ (c : Condition). told.Failed (scope.Session channel) c (channel_ready (slot_at s channel))) why);
-      })
-
--- Of a transfer. ----------------------------------------------------------------------------------------------------------
-
-module _ (s new : ConnectionState) (channel handle : ℕ) (x : Sent) (t : SessionState) where
-  transfer_line : (o : Option SessionFault) → session_fault t (Transfers handle x) ≡ o → session_line channel t (Transfers handle x) ≡ by_fault channel t (Transfers handle x) o
-  transfer_line o e = ap (λ (o : Option SessionFault). by_fault channel t (Transfers handle x) o) e
-
-  pub failure_fits : SaidLong → (n : Report) → IsTold s new channel t (Transfers handle x) n → length (joined (on_channel channel (failure_answer n))) ≤ 2560
-  failure_fits law n done =
-      let m = channel_long law channel (answer_of t (Transfers handle x)) in
-      let short : length (joined (on_channel channel (answer_of t (Transfers handle x)))) ≤ 2560 = omega (arith, m, answer_long t (Transfers handle x) done.accepted) in
-      subst (λ (m : Report). length (joined (on_channel channel (failure_answer m))) ≤ 2560) (sym done.report) short
-
-  -- it is taken
-  pub transfer_taken : (n : Report) → IsTold s new channel t (Transfers handle x) n → (before after : List ℕ) (event : Option Event) →
-      after ≡ before ++ joined (on_channel channel (failure_answer n)) → event ≡ report_told channel n → IsDone s new before after (session_line channel t (Transfers handle x)) event
-  transfer_taken n done before after event written tells =
-      subst (λ (l : Line). IsDone s new before after l event) (sym (transfer_line None done.accepted)) (record {
-        connection = done.after;
-        unsent = written ∙ ap (λ (m : Report). before ++ joined (on_channel channel (failure_answer m))) done.report;
-        told = tells ∙ ap (λ (m : Report). report_told channel m) done.report;
-      })
+-- the detach of a link that a transfer ended fits
+pub failure_fits : SaidLong → (channel handle : ℕ) (x : Sent) (t : SessionState) (n : Report) → session_fault t (Transfers handle x) ≡ None → n ≡ report_of t (Transfers handle x) →
+    length (joined (on_channel channel (failure_answer n))) ≤ 2560
+failure_fits law channel handle x t n accepted is =
+    let m = channel_long law channel (answer_of t (Transfers handle x)) in
+    let short : length (joined (on_channel channel (answer_of t (Transfers handle x)))) ≤ 2560 = omega (arith, m, answer_long t (Transfers handle x) accepted) in
+    subst (λ (m : Report). length (joined (on_channel channel (failure_answer m))) ≤ 2560) (sym is) short

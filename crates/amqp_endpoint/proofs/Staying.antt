@@ -1,5 +1,5 @@
 -- A unit that says nothing leaves the connection as it is, and is not answered.
-use Rattle.std.proofs.Common.{arith, ◌≡◌, ℕ, ◌==◌, subst, Bool, true, false, List, [], ◌∷◌, ◌++◌, length, refl, sym, ap, ◌∙◌, Option, None}
+use Rattle.std.proofs.Common.{arith, ◌≡◌, ℕ, ◌==◌, ◌≤◌, subst, Bool, true, false, List, [], ◌∷◌, ◌++◌, length, refl, sym, ap, ◌∙◌, Option, Some, None}
 use Rattle.std.specs.Prelude.{if◌then◌else◌}
 use Rattle.std.proofs.lemmas.List.{append-nil}
 use Rattle.amqp_frame.specs.declared.units.TheConstants.{HEADER}
@@ -9,14 +9,17 @@ use Rattle.amqp_session.specs.Sessions.{SessionState}
 use Rattle.amqp_endpoint.specs.declared.event.Event.{Event}
 use Rattle.amqp_endpoint.specs.Acting.{IsDone}
 use Rattle.amqp_endpoint.specs.Connections as event
-use Rattle.amqp_endpoint.specs.Connections.{ConnectionState, connection_after, is_closing}
-use Rattle.amqp_endpoint.specs.Fields.{Read}
+use Rattle.amqp_endpoint.specs.Connections.{ConnectionState, connection_after, channel_limit, is_closing, is_unopened}
+use Rattle.amqp_endpoint.specs.Fields.{Read, read_in}
 use Rattle.amqp_endpoint.specs.Keeping.{connection_of}
 use Rattle.amqp_endpoint.specs.Lines as line
-use Rattle.amqp_endpoint.specs.Lines.{Line, event_on, told_on, channel_line, on_waiting, closing_line, frame_line, frame_at}
+use Rattle.amqp_endpoint.specs.Lines.{Line, event_on, told_on, channel_line, on_waiting, closing_line, unopened_line, opened_line, body_line, frame_line, frame_at}
 use Rattle.amqp_endpoint.specs.Replies.{reply_on}
 use Rattle.amqp_endpoint.proofs.Tables.{Table, none_after}
-use Rattle.std.proofs.lemmas.Bool.{cond-true, cond-false}
+use Rattle.std.proofs.lemmas.Bool.{cond-true, cond-false, le-ltb}
+use Rattle.amqp_perform.specs.declared.descriptor.Descriptor.{Descriptor}
+use Rattle.amqp_perform.specs.BodyReading.{body_at, described_at, descriptor_at}
+use Rattle.amqp_perform.specs.Cells.{Cell}
 
 still : (s : ConnectionState) → connection_of s.config s.phase s.failed s.closed (connection_after s event.Ignored).sessions ≡ s
 still s = ap (λ (slots : Table). connection_of s.config s.phase s.failed s.closed slots) (none_after s.sessions)
@@ -69,3 +72,21 @@ pub header_done : (s : ConnectionState) (before after : List ℕ) (same : Bool) 
     IsDone s s before after (if same then line.HeaderAccepted else line.HeaderUnknown) None
 header_done s before after same so said =
     subst (λ (l : Line). IsDone s s before after l None) (sym (cond-true same line.HeaderAccepted line.HeaderUnknown so)) (record { connection = sym (still s); unsent = said; told = refl })
+
+-- no bytes are no body
+no_body : body_at [] ≡ None
+unfolding body_at described_at descriptor_at
+no_body = refl
+
+no_some : {A : Type 0} (x : A) → None ≡ Some x → ⊥
+no_some x e = cc
+
+-- a body that is read, on a channel of an open connection
+pub opened_at : (s : ConnectionState) (channel : ℕ) (body : List ℕ) (x : Descriptor × List Cell × List ℕ) → is_closing s.phase ≡ false → is_unopened s.phase ≡ false → channel ≤ channel_limit s.phase →
+    body_at body ≡ Some x → frame_at s channel body ≡ opened_line s channel (read_in s.config x.0 x.1 x.2)
+opened_at s channel [] x awake opened within is = absurd (no_some x (sym no_body ∙ is))
+opened_at s channel (b ∷ bytes) x awake opened within is =
+    cond-false (is_closing s.phase) (closing_line (b ∷ bytes)) (frame_line s channel (b ∷ bytes)) awake
+    ∙ ap (λ (high : Bool). if high then line.ChannelTooHigh else body_line s channel (b ∷ bytes) (body_at (b ∷ bytes))) (le-ltb (channel_limit s.phase) channel within)
+    ∙ ap (λ (o : Option (Descriptor × List Cell × List ℕ)). body_line s channel (b ∷ bytes) o) is
+    ∙ ap (λ (early : Bool). if early then unopened_line (read_in s.config x.0 x.1 x.2) else opened_line s channel (read_in s.config x.0 x.1 x.2)) opened

@@ -9,7 +9,6 @@ use Rattle.amqp_session.specs.declared.done.Answer.TheVariants as answer
 use Rattle.amqp_session.specs.declared.done.Done.{Done}
 use Rattle.amqp_session.specs.declared.fault.SessionFault.{SessionFault}
 use Rattle.amqp_session.specs.declared.fault.SessionFault.TheVariants as fault
-use Rattle.amqp_session.specs.declared.report.Report.{Report}
 use Rattle.amqp_session.specs.declared.slot.Slot.{Slot}
 use Rattle.amqp_session.specs.declared.slot.Slot.TheVariants.{Free, Live, Waits}
 use Rattle.amqp_session.specs.Answers.{said_by, answer_said, IsWithin}
@@ -17,11 +16,13 @@ use Rattle.amqp_session.specs.Faults.{session_fault, session_condition, event_of
 use Rattle.amqp_session.specs.Frames.{Attaching, Frame, attaching, attach_said, refusal_said}
 use Rattle.amqp_session.specs.Sessions.{SessionState}
 use Rattle.amqp_endpoint.specs.Configs.{Configured, bounds_for}
-use Rattle.amqp_endpoint.specs.Connections.{InSession}
+use Rattle.amqp_endpoint.specs.Connections.{ConnectionState, InSession, SessionFailed, channel_ready, connection_after, slot_at}
 use Rattle.amqp_endpoint.specs.declared.event.Event.{Event}
-use Rattle.amqp_endpoint.specs.Connections.{ConnectionState, connection_after}
+use Rattle.amqp_endpoint.specs.declared.event.Event.TheVariants as event
+use Rattle.amqp_endpoint.specs.declared.event.Scope.TheVariants as scope
+use Rattle.amqp_perform.specs.Conditions.{condition_span}
 use Rattle.amqp_endpoint.specs.Lines.{Line, event_on, told_on, may_grow_on}
-use Rattle.amqp_endpoint.specs.Replies.{reply_on}
+use Rattle.amqp_endpoint.specs.Replies.{reply_on, joined, on_channel, end_said}
 
 -- the connection, its output and what is told are those of this line
 pub record IsDone (old new : ConnectionState) (before after : List ℕ) (line : Line) (event : Option Event) : Type 0 where
@@ -94,12 +95,9 @@ abbrev pub FrameDone : ConnectionState → ConnectionState → ℕ → SessionSt
 FrameDone old new channel s f (Ok done) = IsFramed old new channel s f done
 FrameDone old new channel s f (Err e) = IsUnframed old new s f e
 
--- the session on a channel took a transfer, of which this is told
-pub record IsTold (old new : ConnectionState) (channel : ℕ) (s : SessionState) (f : Frame) (told : Report) : Type 0 where
-  pub accepted : session_fault s f ≡ None
-  pub after : new ≡ connection_after old (InSession channel (event_of s f))
-  pub report : told ≡ report_of s f
-
-abbrev pub TransferDone : ConnectionState → ConnectionState → ℕ → SessionState → Frame → Result Report SessionFault → Type 0
-TransferDone old new channel s f (Ok told) = IsTold old new channel s f told
-TransferDone old new channel s f (Err e) = IsUnframed old new s f e
+-- a frame that the session on a channel refused ends it, or memory was refused and nothing has changed
+abbrev pub IsRefused : {E : Type 0} → ConnectionState → ConnectionState → List ℕ → List ℕ → ℕ → SessionFault → Result (Option Event) E → Type 0
+IsRefused old new before after channel e (Err x) = (ending e ≡ None) × (new ≡ old) × (after ≡ before)
+IsRefused old new before after channel e (Ok told) =
+    (c : Condition) × (ending e ≡ Some c) × (new ≡ connection_after old (SessionFailed channel)) × (after ≡ before ++ joined (on_channel channel (end_said (condition_span c) ∷ [])))
+    × (told ≡ Some (event.Failed (scope.Session channel) c (channel_ready (slot_at old channel))))

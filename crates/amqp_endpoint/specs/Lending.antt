@@ -7,7 +7,7 @@ use Rattle.amqp_session.specs.declared.slot.Slot.TheVariants.{Live}
 use Rattle.amqp_session.specs.contracts.slot.Slot.{the_row as slot_row}
 use Rattle.amqp_session.specs.contracts.session.Session.{the_row as session_row}
 use Rattle.amqp_session.specs.Sessions.{SessionState}
-use Rattle.amqp_endpoint.specs.contracts.channels.KeptSession.{the_row as kept_row}
+use Rattle.amqp_endpoint.specs.contracts.connection.KeptSession.{the_row as kept_row}
 
 -- a kept session is the session
 abbrev pub LendsSession : (A : RattleType) (heap : Ghosts A.Denot) → MutBor SessionState → MutBor SessionState → Fml

@@ -11,6 +11,7 @@ pub mod Held
 pub mod Lengths
 pub mod Keeping
 pub mod Acting
+pub mod Sayings
 pub mod Asking
 pub mod Runs
 pub mod Endpoints

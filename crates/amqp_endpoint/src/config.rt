@@ -1,7 +1,6 @@
 //! What an endpoint is set up with.
 ghost use Rattle.std.specs.Prelude.{◌≡◌, ◌↔◌, ◌≤◌, ◌<◌, ◌^◌, length, [], IsSome, IfSome, IfOk, IfErr, OnOk};
 ghost use Rattle.std.specs.String.{string_bytes};
-ghost use Rattle.amqp_link.specs.Bounds.{IsBounded};
 ghost use Rattle.amqp_endpoint.specs.Configs.{Configured, IsConfigured, IsAsked, bounds_for};
 ghost use Rattle.amqp_endpoint.specs.Limits.{IsTable, IsFault};
 

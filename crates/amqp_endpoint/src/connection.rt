@@ -1,30 +1,22 @@
 //! One connection: how far it has come, and what stands at its channels.
-ghost use Rattle.std.specs.Prelude.{◌≡◌, ◌≤◌, ◌<◌, ◌+◌, ◌^◌, true, false, Some, None, slice_get, IfOk, OnOk, OnErr, IfSome, IfNone, option_map};
-ghost use Rattle.amqp_link.specs.Links.{sent_of};
+ghost use Rattle.std.specs.Prelude.{◌≡◌, ◌≤◌, ◌<◌, ◌+◌, ◌^◌, true, false, Some, None, IfOk, OnOk, OnErr, option_map, length, map, sum_by};
 ghost use Rattle.amqp_session.specs.declared.slot.Slot.TheVariants.{Free, Live, Waits};
-ghost use Rattle.amqp_session.specs.Calls.{Grant, Settle, SettleRange};
-ghost use Rattle.amqp_session.specs.Frames.{Frame, Transfers};
+ghost use Rattle.amqp_session.specs.Frames.{Frame};
 ghost use Rattle.std.specs.Option.{option_copied_mut};
 ghost use Rattle.std.specs.Borrow.{sem};
-ghost use Rattle.amqp_session.specs.Places.{live_in};
+ghost use Rattle.amqp_session.specs.Places.{live_in, tabulate};
 ghost use Rattle.amqp_endpoint.specs.ConnectionLending.{LendsChannel};
-ghost use Rattle.amqp_session.specs.Sessions.{SessionState};
-ghost use Rattle.amqp_endpoint.specs.Acting.{IsLive, TakesIn, FrameDone, TransferDone};
+ghost use Rattle.amqp_session.specs.Sessions.{SessionState, session_begins};
+ghost use Rattle.amqp_endpoint.specs.Acting.{TakesIn, FrameDone};
 ghost use Rattle.amqp_endpoint.specs.Fields.{frame_in};
-ghost use Rattle.amqp_endpoint.specs.Asking.{IsAsked, SessionAsked, all_said, credit_said, outcome_said, named_said, asked_of};
-ghost use Rattle.amqp_endpoint.specs.Runs.{Named, accepted_answer};
-ghost use Rattle.amqp_endpoint.specs.Connections.{connection_begins, connection_after, connection_ready, connection_bytes, channel_ready, channel_limit, slot_at, Opened, Broken, Failed, CloseAsked, PeerClosed, Lost, HeaderRefused, Finished, Begun, SessionFailed, SessionEnded};
+ghost use Rattle.amqp_endpoint.specs.Connections.{connection_begins, connection_after, connection_ready, connection_bytes, channel_ready, channel_limit, slot_at, Opened, Broken, Failed, CloseAsked, PeerClosed, Lost, HeaderRefused, Finished, Begun, SessionFailed, SessionEnded, channel_bytes};
+ghost use Rattle.amqp_endpoint.specs.Lending.{LendsSession, LendsPlace};
 
-use crate::channels::{self, KeptSession, Place};
 use crate::config::Config;
-use crate::fault::CallFault;
 use crate::frames;
 use crate::phase::Phase;
-use crate::request::{Asked, Request, fault_of};
-use amqp_perform::{Disposition, Flow, Outcome, Performative, Transfer};
-use amqp_session::{
-    CallFault as SessionCallFault, Done, Report, Session, SessionFault, SessionTerms, Slot,
-};
+use amqp_perform::Performative;
+use amqp_session::{Done, Session, SessionFault, SessionTerms, Slot};
 use std::alloc::{AllocError, Allocator, Global};
 use std::marker::Model;
 
@@ -56,7 +48,7 @@ impl<A: Allocator + Copy> Connection<A> {
         ensures { IfOk result (λ c. c ≡ connection_begins config) }
     {
         let count = config.channel_max() as usize + 1;
-        let places = channels::free_places(alloc, count)?;
+        let places = free_places(alloc, count)?;
         Ok(Connection {
             alloc,
             config,
@@ -116,10 +108,10 @@ impl<A: Allocator + Copy> Connection<A> {
     }
 
     /// How many deliveries are ready on all links.
-    pub fn ready(&self) -> u32
+    fn ready(&self) -> u32
         ensures { result ≡ connection_ready self.now }
     {
-        channels::ready(&self.places)
+        ready(&self.places)
     }
 
     /// The bytes that count as held.
@@ -135,7 +127,7 @@ impl<A: Allocator + Copy> Connection<A> {
             closed: _,
             places,
         } = self;
-        channels::held(places)
+        held(places)
     }
 
     /// The peer opened it.
@@ -157,7 +149,7 @@ impl<A: Allocator + Copy> Connection<A> {
         let dropped = self.ready();
         self.failed = true;
         self.phase = Phase::Closing;
-        channels::free_all(&mut self.places);
+        free_all(&mut self.places);
         dropped
     }
 
@@ -168,7 +160,7 @@ impl<A: Allocator + Copy> Connection<A> {
     {
         let dropped = self.ready();
         self.phase = Phase::Closing;
-        channels::free_all(&mut self.places);
+        free_all(&mut self.places);
         dropped
     }
 
@@ -180,7 +172,7 @@ impl<A: Allocator + Copy> Connection<A> {
         let dropped = self.ready();
         self.closed = true;
         self.phase = Phase::Dead;
-        channels::free_all(&mut self.places);
+        free_all(&mut self.places);
         dropped
     }
 
@@ -192,7 +184,7 @@ impl<A: Allocator + Copy> Connection<A> {
         let dropped = self.ready();
         self.failed = true;
         self.phase = Phase::Dead;
-        channels::free_all(&mut self.places);
+        free_all(&mut self.places);
         dropped
     }
 
@@ -202,7 +194,7 @@ impl<A: Allocator + Copy> Connection<A> {
     {
         self.failed = true;
         self.phase = Phase::Dead;
-        channels::free_all(&mut self.places);
+        free_all(&mut self.places);
     }
 
     /// A frame came that is none, while the peer's close was awaited.
@@ -210,7 +202,7 @@ impl<A: Allocator + Copy> Connection<A> {
         ensures { self.new ≡ connection_after self.old Lost }
     {
         self.phase = Phase::Dead;
-        channels::free_all(&mut self.places);
+        free_all(&mut self.places);
     }
 
     /// The input ended.
@@ -218,7 +210,7 @@ impl<A: Allocator + Copy> Connection<A> {
         ensures { self.new ≡ connection_after self.old Finished }
     {
         self.phase = Phase::Dead;
-        channels::free_all(&mut self.places);
+        free_all(&mut self.places);
     }
 
     /// A session begins on a channel where nothing stands. Where memory is refused nothing has changed.
@@ -239,7 +231,7 @@ impl<A: Allocator + Copy> Connection<A> {
         ensures dropped { result ≡ channel_ready (slot_at self.old channel) }
     {
         let place = channel as usize;
-        let dropped = channels::place_ready(&self.places[place]);
+        let dropped = place_ready(&self.places[place]);
         self.places[place] = Slot::Waits;
         dropped
     }
@@ -251,13 +243,13 @@ impl<A: Allocator + Copy> Connection<A> {
         ensures dropped { result ≡ channel_ready (slot_at self.old channel) }
     {
         let place = channel as usize;
-        let dropped = channels::place_ready(&self.places[place]);
+        let dropped = place_ready(&self.places[place]);
         self.places[place] = Slot::Free;
         dropped
     }
 
-    #[tactic(auto, using(crate::proofs::Lent::went_on, crate::proofs::Lent::stayed))]
     /// A frame of the live session on a channel. Where it is refused nothing has changed.
+    #[tactic(auto, using(crate::proofs::Lent::went_on, crate::proofs::Lent::stayed))]
     pub fn frame(
         &mut self,
         channel: u8,
@@ -271,24 +263,6 @@ impl<A: Allocator + Copy> Connection<A> {
         let bounds = self.config.bounds_for(frames::named(performative));
         match self.session_mut(channel.into()) {
             Some(session) => session.frame(performative, payload, bounds),
-            None => unreachable!(),
-        }
-    }
-
-    #[tactic(auto, using(crate::proofs::Lent::went_on, crate::proofs::Lent::stayed))]
-    /// A transfer with its payload for the live session on a channel. Where it is refused nothing has changed.
-    pub fn transfer(
-        &mut self,
-        channel: u8,
-        transfer: &Transfer<'_>,
-        payload: &[u8],
-    ) -> Result<Report, SessionFault>
-        requires channel { channel ≤ self.old.config.channel_max }
-        requires live { IsLive (slot_at self.old channel) }
-        ensures { (s : SessionState) → slot_at self.old channel ≡ Live s → TransferDone self.old self.new channel s (Transfers transfer.now.handle (sent_of transfer.now payload.now)) result }
-    {
-        match self.session_mut(channel.into()) {
-            Some(session) => session.transfer(transfer, payload),
             None => unreachable!(),
         }
     }
@@ -312,93 +286,132 @@ impl<A: Allocator + Copy> Connection<A> {
         if place >= self.places.len() {
             return None;
         }
-        match channels::session_mut(&mut self.places[place]) {
+        match session_mut(&mut self.places[place]) {
             Some(session) => Some(session),
             None => None,
         }
     }
+}
 
-    #[tactic(auto, using(crate::proofs::Lent::went_on, crate::proofs::Lent::stayed))]
-    /// A request of the application for the session on a channel. Where it is refused nothing has changed.
-    pub fn ask(&mut self, channel: u16, request: Request) -> Result<Asked, CallFault>
-        ensures { IsAsked all_said self.old self.new channel (asked_of request) result }
+/// A live session, which takes the room of one reference where it stands.
+#[derive(Drop)]
+pub struct KeptSession<A: Allocator + Copy = Global> {
+    session: Box<Session<A>, A>,
+}
+
+impl<A: Allocator + Copy> Model for KeptSession<A> {
+    ghost use Rattle.amqp_session.specs.Sessions.{SessionState};
+
+    ghost Value = { SessionState };
+
+    ghost view = { λ a. a.session.value };
+}
+
+/// What stands at a channel.
+pub type Place<A> = Slot<KeptSession<A>>;
+
+impl<A: Allocator + Copy> KeptSession<A> {
+    /// A session at its begin.
+    pub fn begin(alloc: A, terms: SessionTerms) -> Result<Self, AllocError>
+        ensures { IfOk result (λ s. s ≡ session_begins terms) }
     {
-        let Some(session) = self.session_mut(channel) else {
-            return Err(CallFault::NoSession);
-        };
-        match ask(session, request) {
-            Ok(asked) => Ok(asked),
-            Err(fault) => Err(fault_of(fault)),
-        }
+        Ok(KeptSession {
+            session: Box::new(alloc, Session::begin(alloc, terms))?,
+        })
     }
 
-    #[tactic(auto, using(crate::proofs::Lent::went_on, crate::proofs::Lent::stayed))]
-    /// Credit for the link at a handle of the session on a channel. Where it is refused nothing has changed.
-    pub fn grant(&mut self, channel: u16, handle: u32, n: u32) -> Result<Flow<'static>, CallFault>
-        ensures { IsAsked credit_said self.old self.new channel (Grant handle n) result }
+    /// Lends the session.
+    fn session_mut(&mut self) -> &mut Session<A>
+        ensures* writes_back { sem 𝓛 (LendsSession A.row A.Allocator self.entry result) }
+        ensures value { result.now ≡ self.old }
     {
-        let Some(session) = self.session_mut(channel) else {
-            return Err(CallFault::NoSession);
-        };
-        match session.grant(handle, n) {
-            Ok(flow) => Ok(flow),
-            Err(fault) => Err(fault_of(fault)),
-        }
+        &mut self.session
     }
 
-    #[tactic(auto, using(crate::proofs::Lent::went_on, crate::proofs::Lent::stayed))]
-    /// What became of a delivery of the session on a channel. Where that is refused nothing has changed.
-    // For `telemetry` and `gateway` (docs/PERF.md).
-    #[inline(always)]
-    pub fn settle(
-        &mut self,
-        channel: u16,
-        id: u32,
-        outcome: Outcome,
-    ) -> Result<Disposition<'static>, CallFault>
-        ensures { IsAsked outcome_said self.old self.new channel (Settle id outcome) result }
+    /// The session.
+    pub fn session(&self) -> &Session<A>
+        ensures { result.now ≡ self.now }
     {
-        let Some(session) = self.session_mut(channel) else {
-            return Err(CallFault::NoSession);
-        };
-        match session.settle(id, outcome) {
-            Ok(told) => Ok(told),
-            Err(fault) => Err(fault_of(fault)),
-        }
-    }
-
-    #[tactic(auto, using(crate::proofs::Lent::went_on, crate::proofs::Lent::stayed))]
-    /// The same of the deliveries whose ids a range covers, with how many it names.
-    pub fn settle_range(
-        &mut self,
-        channel: u16,
-        first: u32,
-        last: u32,
-        outcome: Outcome,
-    ) -> Result<(Disposition<'static>, u32), CallFault>
-        ensures asked { IsAsked named_said self.old self.new channel (SettleRange first last outcome) result }
-        ensures named { IfOk result (λ told. Named told.1 ≡ accepted_answer (slot_at self.old channel) (SettleRange first last outcome)) }
-    {
-        let Some(session) = self.session_mut(channel) else {
-            return Err(CallFault::NoSession);
-        };
-        match session.settle_range(first, last, outcome) {
-            Ok(told) => Ok(told),
-            Err(fault) => Err(fault_of(fault)),
-        }
+        &self.session
     }
 }
 
-/// A request of the application. Where it is refused nothing has changed.
-fn ask<A: Allocator + Copy>(
-    session: &mut Session<A>,
-    request: Request,
-) -> Result<Asked, SessionCallFault>
-    ensures { SessionAsked all_said session.old session.new (asked_of request) result }
+/// Lends the live session at a place.
+fn session_mut<A: Allocator + Copy>(place: &mut Place<A>) -> Option<&mut Session<A>>
+    ensures* writes_back { sem 𝓛 (LendsPlace A.row A.Allocator place.entry result) }
+    ensures value { option_copied_mut result ≡ live_in place.old }
 {
-    match request {
-        Request::Widen { n } => Ok(Asked::Flow(session.widen(n)?)),
-        Request::Drain { handle } => Ok(Asked::Flow(session.drain(handle)?)),
-        Request::Detach { handle } => Ok(Asked::Detach(session.detach(handle)?.0)),
+    match place {
+        Slot::Live(kept) => Some(kept.session_mut()),
+        _ => None,
     }
+}
+
+/// So many free places.
+fn free_places<A: Allocator + Copy>(alloc: A, count: usize) -> Result<Vec<Place<A>, A>, AllocError>
+    requires { count ≤ 256 }
+    ensures { IfOk result (λ places. places.items ≡ tabulate 0 count (λ k. Free)) }
+{
+    let mut places = Vec::with_capacity(alloc, count)?;
+    for _added in 0..count {
+        places.push_reserved(Slot::Free);
+    }
+    Ok(places)
+}
+
+/// The bytes that a place counts as holding.
+fn place_held<A: Allocator + Copy>(place: &Place<A>) -> u64
+    ensures value { result ≡ channel_bytes place.now }
+    ensures most { result < 2 ^ 52 }
+{
+    match place {
+        Slot::Free => 0,
+        Slot::Live(KeptSession { session }) => session.held(),
+        Slot::Waits => 64,
+    }
+}
+
+/// How many deliveries are ready at a place.
+fn place_ready<A: Allocator + Copy>(place: &Place<A>) -> u32
+    ensures value { result ≡ channel_ready place.now }
+    ensures most { result ≤ 2 ^ 18 }
+{
+    match place {
+        Slot::Live(kept) => kept.session().ready(),
+        _ => 0,
+    }
+}
+
+/// How many deliveries are ready.
+fn ready<A: Allocator + Copy>(places: &[Place<A>]) -> u32
+    requires { length places.now ≤ 256 }
+    ensures { result ≡ sum_by channel_ready places.now }
+{
+    let mut ready = 0;
+    for place in places {
+        ready += place_ready(place);
+    }
+    ready
+}
+
+/// Frees all places.
+fn free_all<A: Allocator + Copy>(places: &mut [Place<A>])
+    ensures { places.new ≡ map (λ x. Free) places.old }
+{
+    for place in places.iter_mut() {
+        *place = Slot::Free;
+    }
+}
+
+/// The bytes that all places count as holding.
+fn held<A: Allocator + Copy>(places: &[Place<A>]) -> u64
+    requires { length places.now ≤ 256 }
+    ensures value { result ≡ sum_by channel_bytes places.now }
+    ensures most { result < 2 ^ 61 }
+{
+    let mut held = 0;
+    for place in places {
+        held += place_held(place);
+    }
+    held
 }

@@ -1,6 +1,7 @@
 //! The receiving endpoint of one connection.
-ghost use Rattle.std.specs.Prelude.{◌≡◌, ◌↔◌, [], IsTrue, ℕ, List, slice_index, ◌+◌, ◌≤◌, ◌++◌, ◌^◌, ◌<◌, min, length, take, drop, true, false, Some, None, option_map, IfOk, OnOk, IfErr};
-ghost use Rattle.amqp_frame.specs.Splits.{IsOver, IsLent, TakesNothing};
+ghost use Rattle.std.specs.Prelude.{◌≡◌, ◌↔◌, [], IsTrue, ℕ, List, slice_index, ◌+◌, ◌≤◌, ◌++◌, ◌<◌, min, length, take, drop, true, false, Some, None, option_map, IfOk, OnOk, IfErr};
+ghost use Rattle.amqp_frame.specs.Splits.{IsOver, IsLent, IsUnchanged, TakesNothing};
+ghost use Rattle.amqp_endpoint.specs.Asking.{CallAnswered, IsCounted, asked_of};
 ghost use Rattle.amqp_frame.specs.declared.units.Stage.{Stage};
 ghost use Rattle.amqp_session.specs.Calls.{Widen, Grant, Drain, Take, Settle, SettleRange, Detach};
 ghost use Rattle.amqp_session.specs.Places.{live_in};
@@ -8,13 +9,14 @@ ghost use Rattle.amqp_endpoint.specs.Calls.{output_size, reply_room, open_call_f
 ghost use Rattle.amqp_endpoint.specs.Connections.{slot_at, is_dead};
 ghost use Rattle.amqp_endpoint.specs.Endpoints.{HasActed, IsLinkAt, accepted_by, dropped_by, named_by, handed_by};
 ghost use Rattle.amqp_endpoint.specs.Held.{held};
-ghost use Rattle.amqp_endpoint.specs.Runs.{IsStart, IsMoved, IsFinished, CallDone, CloseDone, BeatDone, end_of};
+ghost use Rattle.amqp_endpoint.specs.Runs.{IsStart, IsMoved, IsFinished, CallDone, CloseDone, BeatDone, accepted_answer, end_of};
 ghost use Rattle.amqp_session.specs.Lacking.{IsFirstLacking};
 ghost use Rattle.amqp_endpoint.specs.Takings.{link_at};
 ghost use Rattle.amqp_endpoint.specs.Steps.{AsksFor, MayRead, Comes, IsFed, TakesAndActs, told_outcome};
 ghost use Rattle.amqp_endpoint.specs.RoomLending.{LendsRoom};
 ghost use Rattle.std.specs.Borrow.{sem};
 
+use crate::asking::Request;
 use crate::config::Config;
 use crate::connection::Connection;
 use crate::event::{End, Event, Fed, Outcome};
@@ -304,7 +306,8 @@ impl<A: Allocator + Copy> Endpoint<A> {
     pub fn grant(&mut self, channel: u16, handle: u32, n: u32) -> Result<(), CallFault>
         ensures { CallDone self.old self.new channel (Grant handle n) (accepted_by result) }
     {
-        asking::grant(&mut self.connection, &mut self.out, channel, handle, n)
+        self.ask(channel, Request::Grant { handle, n })?;
+        Ok(())
     }
 
     /// Widens the incoming window of the session on a channel by `n` places, and writes the flow that says so [2.5.6].
@@ -312,7 +315,8 @@ impl<A: Allocator + Copy> Endpoint<A> {
     pub fn widen(&mut self, channel: u16, n: u32) -> Result<(), CallFault>
         ensures { CallDone self.old self.new channel (Widen n) (accepted_by result) }
     {
-        asking::widen(&mut self.connection, &mut self.out, channel, n)
+        self.ask(channel, Request::Widen { n })?;
+        Ok(())
     }
 
     /// Asks the sender on the link at a handle to use its credit up, by the flow that it writes [2.6.7]. Refused, with
@@ -320,7 +324,8 @@ impl<A: Allocator + Copy> Endpoint<A> {
     pub fn drain(&mut self, channel: u16, handle: u32) -> Result<(), CallFault>
         ensures { CallDone self.old self.new channel (Drain handle) (accepted_by result) }
     {
-        asking::drain(&mut self.connection, &mut self.out, channel, handle)
+        self.ask(channel, Request::Drain { handle })?;
+        Ok(())
     }
 
     /// Hands up the first delivery that is ready on the link at a handle [2.6.14]. Writes nothing and takes no memory.
@@ -341,7 +346,13 @@ impl<A: Allocator + Copy> Endpoint<A> {
     pub fn settle(&mut self, channel: u16, id: u32, outcome: Settlement) -> Result<(), CallFault>
         ensures { CallDone self.old self.new channel (Settle id outcome) (accepted_by result) }
     {
-        asking::settle(&mut self.connection, &mut self.out, channel, id, outcome)
+        let request = Request::Settle {
+            first: id,
+            last: id,
+            outcome,
+        };
+        self.ask(channel, request)?;
+        Ok(())
     }
 
     /// Tells the sender what became of the open deliveries of a session whose ids the range from `first` to `last` covers
@@ -358,14 +369,12 @@ impl<A: Allocator + Copy> Endpoint<A> {
     ) -> Result<u32, CallFault>
         ensures { CallDone self.old self.new channel (SettleRange first last outcome) (named_by result) }
     {
-        asking::settle_range(
-            &mut self.connection,
-            &mut self.out,
-            channel,
+        let request = Request::Settle {
             first,
             last,
             outcome,
-        )
+        };
+        self.ask(channel, request)
     }
 
     /// Ends the link at a handle, by the detach with closed true that it writes [2.6.6], and answers how many ready deliveries are
@@ -374,7 +383,18 @@ impl<A: Allocator + Copy> Endpoint<A> {
     pub fn detach(&mut self, channel: u16, handle: u32) -> Result<u32, CallFault>
         ensures { CallDone self.old self.new channel (Detach handle) (dropped_by result) }
     {
-        asking::detach(&mut self.connection, &mut self.out, channel, handle)
+        self.ask(channel, Request::Detach { handle })
+    }
+
+    /// Asks a session, and says so. Answers how many deliveries a settle names, or a detach drops.
+    // For `telemetry` and `gateway` (docs/PERF.md).
+    #[inline(always)]
+    fn ask(&mut self, channel: u16, request: Request) -> Result<u32, CallFault>
+        ensures answered { CallAnswered self.old.connection self.new.connection self.old.unsent self.new.unsent channel (asked_of request) result }
+        ensures input { IsUnchanged self.old.input self.new.input }
+        ensures count { IfOk result (λ n. IsCounted (accepted_answer (slot_at self.old.connection channel) (asked_of request)) n) }
+    {
+        asking::ask(&mut self.connection, &mut self.out, channel, request)
     }
 
     /// Closes the connection, by the close that it writes [2.4.3], and answers how many ready deliveries are dropped.

@@ -1,5 +1,5 @@
 //! What holds of a connection and its history, whoever keeps it. The calls do nothing: their contracts are the laws.
-ghost use Rattle.std.specs.Prelude.{◌≡◌, ℕ, ◌+◌, ◌*◌, ◌^◌, ◌<◌, ◌≤◌, ◌↔◌, Bool, true, false, List, ◌∷◌, ◌++◌, [], length, map, sum_by, slice_index, Option, Some, None};
+ghost use Rattle.std.specs.Prelude.{◌≡◌, ℕ, ◌+◌, ◌*◌, ◌^◌, ◌<◌, ◌≤◌, ◌↔◌, false, List, ◌∷◌, [], length, map, sum_by, slice_index, Some, None};
 ghost use Rattle.amqp_frame.specs.Units.{StreamUnit, bytes_of};
 ghost use Rattle.amqp_link.specs.Histories.{grants, handed_up};
 ghost use Rattle.amqp_link.specs.Links.{LinkEvent, open_count};
@@ -26,8 +26,6 @@ ghost use Rattle.amqp_endpoint.specs.Lines.{line_of, event_on, fault_on, told_on
 ghost use Rattle.amqp_endpoint.specs.Replies.{joined, reply_on};
 ghost use Rattle.amqp_endpoint.specs.Runs as runs;
 ghost use Rattle.amqp_endpoint.specs.Runs.{Answer, Does, Run, IsStart, handed_of};
-ghost use Rattle.std.specs.List.{flat_map};
-ghost use Rattle.amqp_endpoint.specs.declared.event.End.{End};
 ghost use Rattle.amqp_endpoint.specs.declared.event.Event.TheVariants as told;
 ghost use Rattle.amqp_endpoint.specs.declared.event.Outcome.TheVariants as outcome;
 ghost use Rattle.amqp_endpoint.specs.Steps.{EndpointState, IsKept, IsFed};

@@ -5,19 +5,18 @@
 //! [`Endpoint::grant`], [`Endpoint::widen`], [`Endpoint::drain`], [`Endpoint::take`], [`Endpoint::settle`] and
 //! [`Endpoint::detach`], and [`Endpoint::output`] for the peer; [`Endpoint::close`], and at the end of the input
 //! [`Endpoint::finish`]. A reader may fill the buffer itself ([`Endpoint::spare`], [`Endpoint::filled`]), and a writer be handed
-//! what waits ([`Endpoint::unsent_front`], [`Endpoint::sent`]). [`replay`] makes a list of calls, and its contract is the theorem over all such lists; `amqp_serve`
-//! does this over a reader, a writer and a sink.
+//! what waits ([`Endpoint::unsent_front`], [`Endpoint::sent`]). [`replay`] makes a list of calls, and its contract is the theorem
+//! over all such lists; `amqp_serve` does this over a reader, a writer and a sink.
 //!
-//! A frame goes through `endpoint`, `units` (a unit), `bodies` (a performative), `sessions` (a frame of a live session),
-//! `connection` and `channels` (what stands at the channel) to `amqp_session`; `telling` makes an event of its report. A call
-//! goes through `asking` or `closing`. `specs/Lines.antt` has what a unit comes to, `specs/Replies.antt` what is written,
-//! `specs/Calls.antt` the calls, `specs/Traces.antt` what holds of every run. The tests stand in `layer_rows` and `endpoint_tests`.
+//! A frame goes through `endpoint`, `units` (what a unit comes to) and `sessions` (a frame of a live session, with its answer) to
+//! `amqp_session`, whose sessions `connection` keeps by channel; `telling` makes an event of a report. A call goes through `asking`
+//! as a `Request`, or through `closing`. What is said is a `Saying`, and goes out by `Output::put`. `specs/Lines.antt` has
+//! what a unit comes to, `specs/Replies.antt` what is written, `specs/Calls.antt` the calls, `specs/Traces.antt` what holds of every
+//! run. The tests stand in `layer_rows` and `endpoint_tests`.
 #![tactic(auto)]
 
 mod asking;
-mod bodies;
 mod call;
-mod channels;
 mod closing;
 mod config;
 mod connection;
@@ -30,7 +29,6 @@ mod limits;
 mod output;
 mod phase;
 mod replays;
-mod request;
 mod sessions;
 mod telling;
 mod units;

@@ -1,8 +1,8 @@
 //! What links may keep, by the bytes with which their names begin.
-ghost use Rattle.std.specs.Prelude.{◌≡◌, ◌↔◌, ◌≤◌, ◌<◌, length, Option, IfSome, IfNone, IfOk, IsTrue, slice_get, Some, if◌then◌else◌};
+ghost use Rattle.std.specs.Prelude.{◌≡◌, ◌↔◌, ◌<◌, length, Option, IfSome, IfNone, IfOk, IsTrue, slice_get, Some, if◌then◌else◌};
 ghost use Rattle.std.specs.Option.{option_map};
 ghost use Rattle.amqp_link.specs.Bounds.{IsBounded};
-ghost use Rattle.amqp_endpoint.specs.Limits.{Limit, begins_with, longest, longer, IsGood, IsRepeated, IsFault, IsTable, AreFine};
+ghost use Rattle.amqp_endpoint.specs.Limits.{Limit, begins_with, longest, longer, IsGood, IsRepeated, IsFault, IsTable};
 
 use amqp_link::LinkBounds;
 use std::alloc::{AllocError, Allocator, Global};

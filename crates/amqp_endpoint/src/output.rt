@@ -1,16 +1,17 @@
 //! What waits to be moved out.
 ghost use Rattle.std.specs.Prelude.{◌≡◌, ◌<◌, ◌≤◌, ◌+◌, ◌++◌, ◌↔◌, ℕ, List, [], min, length, take, drop, IfOk, IsTrue};
-ghost use Rattle.amqp_perform.specs.declared.performative.Performative.TheVariants as performative;
 ghost use Rattle.amqp_perform.specs.Said.{said, said_frame};
-ghost use Rattle.amqp_session.specs.Frames.{attaching, attach_said};
+ghost use Rattle.amqp_endpoint.specs.Sayings.{said_of};
 ghost use Rattle.amqp_endpoint.specs.Lengths.{said_most};
 ghost use Rattle.circular_buffer.specs.Buffer.{buffer};
 ghost use Rattle.amqp_endpoint.specs.Calls.{output_size, reply_room, has_room, heartbeat};
+ghost use Rattle.amqp_perform.specs.Frames.{IsWritten};
 
 use crate::laws::frames_are_as_long;
 use amqp_link::LinkBounds;
 use amqp_perform::{
-    Attach, Detach, Disposition, Flow, Performative, write_disposition, write_flow, write_frame,
+    Attach, Detach, Flow, LinkFlow, Outcome, Performative, write_flow, write_frame,
+    write_link_flow, write_settlement,
 };
 use amqp_session::write_attach_reply;
 use circular_buffer::HeapCircularBuffer;
@@ -88,62 +89,19 @@ impl<A: Allocator + Copy> Output<A> {
         ensures most { length self.new ≤ length self.old + said_most (said performative.now) }
     {
         frames_are_as_long();
-        self.put_frame(channel, performative);
+        self.put(channel, &Saying::Performative(performative));
     }
 
-    /// The same of a frame that is known to fit.
-    pub fn put_frame(&mut self, channel: u16, performative: &Performative<'_>)
-        requires short { length (said_frame channel (said performative.now) []) ≤ reply_room }
-        requires room { length self.old + length (said_frame channel (said performative.now) []) ≤ output_size }
-        ensures { self.new ≡ self.old ++ said_frame channel (said performative.now) [] }
-    {
-        if let Some(len) = write_frame(channel, performative, &[], &mut self.scratch) {
-            put_front(&mut self.pipe, &self.scratch, len);
-        }
-    }
-
-    /// The same of a flow.
+    /// Puts the frame of what is said behind them, which is known to fit. Each frame that says something goes out here; an empty
+    /// one goes by [`Output::beat`].
     // For `telemetry` and `gateway` (docs/PERF.md).
     #[inline(always)]
-    pub fn put_flow(&mut self, channel: u16, flow: &Flow<'_>)
-        requires short { length (said_frame channel (said (performative.Flow flow.now)) []) ≤ reply_room }
-        requires room { length self.old + length (said_frame channel (said (performative.Flow flow.now)) []) ≤ output_size }
-        ensures { self.new ≡ self.old ++ said_frame channel (said (performative.Flow flow.now)) [] }
+    pub fn put(&mut self, channel: u16, saying: &Saying<'_>)
+        requires short { length (said_frame channel (said_of saying.now) []) ≤ reply_room }
+        requires room { length self.old + length (said_frame channel (said_of saying.now) []) ≤ output_size }
+        ensures { self.new ≡ self.old ++ said_frame channel (said_of saying.now) [] }
     {
-        if let Some(len) = write_flow(channel, flow, &[], &mut self.scratch) {
-            put_front(&mut self.pipe, &self.scratch, len);
-        }
-    }
-
-    /// The same of a disposition.
-    // For `telemetry` and `gateway` (docs/PERF.md).
-    #[inline(always)]
-    pub fn put_disposition(&mut self, channel: u16, disposition: &Disposition<'_>)
-        requires short { length (said_frame channel (said (performative.Disposition disposition.now)) []) ≤ reply_room }
-        requires room { length self.old + length (said_frame channel (said (performative.Disposition disposition.now)) []) ≤ output_size }
-        ensures { self.new ≡ self.old ++ said_frame channel (said (performative.Disposition disposition.now)) [] }
-    {
-        if let Some(len) = write_disposition(channel, disposition, &[], &mut self.scratch) {
-            put_front(&mut self.pipe, &self.scratch, len);
-        }
-    }
-
-    /// The same of a detach.
-    pub fn put_detach(&mut self, channel: u16, detach: &Detach<'_>)
-        requires short { length (said_frame channel (said (performative.Detach detach.now)) []) ≤ reply_room }
-        requires room { length self.old + length (said_frame channel (said (performative.Detach detach.now)) []) ≤ output_size }
-        ensures { self.new ≡ self.old ++ said_frame channel (said (performative.Detach detach.now)) [] }
-    {
-        self.put_frame(channel, &Performative::Detach(*detach));
-    }
-
-    /// Puts the answer to an attach that was accepted behind them, whose link has these bounds [2.6.3].
-    pub fn put_attach_reply(&mut self, channel: u16, attach: &Attach<'_>, bounds: LinkBounds)
-        requires short { length (said_frame channel (attach_said bounds.max_message_size (attaching attach.now bounds)) []) ≤ reply_room }
-        requires room { length self.old + length (said_frame channel (attach_said bounds.max_message_size (attaching attach.now bounds)) []) ≤ output_size }
-        ensures { self.new ≡ self.old ++ said_frame channel (attach_said bounds.max_message_size (attaching attach.now bounds)) [] }
-    {
-        if let Some(len) = write_attach_reply(channel, attach, bounds, &mut self.scratch) {
+        if let Some(len) = saying.write(channel, &mut self.scratch) {
             put_front(&mut self.pipe, &self.scratch, len);
         }
     }
@@ -199,4 +157,51 @@ fn put_front<A: Allocator>(
     let rounded = (len + 31) / 32 * 32;
     pipe.fill_from_slice(&scratch[..rounded]);
     pipe.truncate_back(end);
+}
+
+/// What is said in one frame. Those that come with each message are numbers alone: no performative is made of them.
+#[derive(Clone, Copy)]
+pub enum Saying<'a> {
+    /// Any performative.
+    Performative(&'a Performative<'a>),
+    /// The answer to an attach that was accepted, whose link has these bounds [2.6.3].
+    Attached(&'a Attach<'a>, LinkBounds),
+    /// A flow [2.7.4].
+    Flow(Flow<'static>),
+    /// The flow that states a link's credit [2.6.7].
+    Credit(LinkFlow),
+    /// What became of the deliveries with the ids from `first` to `last` [2.7.6].
+    Settled {
+        first: u32,
+        last: u32,
+        settled: bool,
+        outcome: Outcome,
+    },
+    /// A detach [2.7.7].
+    Detach(Detach<'static>),
+}
+
+impl<'a> Saying<'a> {
+    /// Writes its frame at the front of `out`. Answers its length; `None`, with `out` unchanged, where it does not fit.
+    // The match falls away where the kind is known.
+    #[inline(always)]
+    fn write(&self, channel: u16, out: &mut [u8]) -> Option<usize>
+        ensures { IsWritten (said_frame channel (said_of self.now) []) result out.old out.new }
+    {
+        match self {
+            Saying::Performative(performative) => write_frame(channel, performative, &[], out),
+            Saying::Attached(attach, bounds) => write_attach_reply(channel, attach, *bounds, out),
+            Saying::Flow(flow) => write_flow(channel, flow, &[], out),
+            Saying::Credit(flow) => write_link_flow(channel, *flow, out),
+            Saying::Settled {
+                first,
+                last,
+                settled,
+                outcome,
+            } => write_settlement(channel, *first, *last, *settled, *outcome, out),
+            Saying::Detach(detach) => {
+                write_frame(channel, &Performative::Detach(*detach), &[], out)
+            }
+        }
+    }
 }

@@ -1,28 +1,27 @@
 //! What the peer does with the sessions of an open connection.
-ghost use Rattle.std.specs.Prelude.{◌≡◌, ◌≤◌, ◌<◌, ◌+◌, ◌^◌, ◌++◌, [], ◌∷◌, length, true, Some, None, OnOk, OnErr, IfOk};
+ghost use Rattle.std.specs.Prelude.{◌≡◌, ◌≤◌, ◌<◌, ◌+◌, ◌++◌, [], ◌∷◌, length, Some, None, OnOk, OnErr, IfOk};
 ghost use Rattle.amqp_perform.specs.Conditions.{condition_span};
-ghost use Rattle.amqp_link.specs.Links.{sent_of};
 ghost use Rattle.amqp_session.specs.declared.slot.Slot.TheVariants.{Live};
 ghost use Rattle.amqp_session.specs.Answers.{said_by};
 ghost use Rattle.amqp_session.specs.Faults.{failure_answer};
-ghost use Rattle.amqp_session.specs.Frames.{Frame, Transfers, attaching};
+ghost use Rattle.amqp_session.specs.Frames.{Frame, attaching};
 ghost use Rattle.amqp_session.specs.Sessions.{SessionState};
-ghost use Rattle.amqp_endpoint.specs.Acting.{IsLive, IsForSession, HasDone, is_beyond, replied, attach_answered};
+ghost use Rattle.amqp_endpoint.specs.Acting.{IsLive, IsForSession, HasDone, IsRefused, is_beyond, replied, attach_answered};
 ghost use Rattle.amqp_endpoint.specs.Calls.{output_size, reply_room};
-ghost use Rattle.amqp_endpoint.specs.Connections.{connection_after, channel_ready, channel_limit, slot_at, Begun, SessionEnded, SessionFailed};
+ghost use Rattle.amqp_endpoint.specs.Connections.{connection_after, channel_ready, slot_at, Begun, SessionEnded, SessionFailed};
 ghost use Rattle.amqp_endpoint.specs.Fields.{beginning, frame_in};
-ghost use Rattle.amqp_endpoint.specs.Lines.{begun_terms, session_line};
+ghost use Rattle.amqp_endpoint.specs.Lines.{begun_terms, report_told, session_line};
 ghost use Rattle.amqp_endpoint.specs.Replies.{joined, on_channel, begin_said, end_said};
 
 use crate::connection::Connection;
 use crate::event::{Event, Scope};
 use crate::laws::frames_are_as_long;
-use crate::output::Output;
+use crate::output::{Output, Saying};
 use crate::phase::Phase;
 use crate::{closing, frames, telling};
 use amqp_link::LinkBounds;
-use amqp_perform::{Attach, Begin, Condition, Performative, Transfer};
-use amqp_session::{Answer, Report, SessionTerms, Slot, failure, refusal_reply};
+use amqp_perform::{Attach, Begin, Condition, Performative};
+use amqp_session::{Answer, Report, SessionFault, SessionTerms, Slot, failure, refusal_reply};
 use std::alloc::{AllocError, Allocator};
 
 /// What a session begins with [2.5.1, 2.7.2].
@@ -136,45 +135,39 @@ pub fn frame<A: Allocator + Copy>(
             answer(connection, out, channel, performative, &done.answer);
             Ok(telling::told(channel as u16, done.report))
         }
-        Err(fault) => match telling::condition_of(*fault) {
-            Some(condition) => Ok(Some(fail(connection, out, channel, condition))),
-            None => Err(AllocError),
-        },
+        Err(fault) => refuse(connection, out, channel, *fault),
     }
 }
 
-/// A transfer with its payload for the live session on a channel [2.6.14]. Where memory is refused nothing has changed.
-pub fn transfer<A: Allocator + Copy>(
+/// A frame that its session refused ends it, unless memory was refused: then nothing has changed.
+#[inline(never)]
+pub fn refuse<A: Allocator + Copy>(
     connection: &mut Connection<A>,
     out: &mut Output<A>,
     channel: u8,
-    transfer: &Transfer<'_>,
-    payload: &[u8],
+    fault: SessionFault,
 ) -> Result<Option<Event>, AllocError>
     requires room { length out.old + reply_room ≤ output_size }
     requires channel { channel ≤ connection.old.config.channel_max }
-    requires live { IsLive (slot_at connection.old channel) }
-    ensures { (s : SessionState) → slot_at connection.old channel ≡ Live s
-        → HasDone connection.old connection.new out.old out.new (session_line channel s (Transfers transfer.now.handle (sent_of transfer.now payload.now))) result }
+    ensures { IsRefused connection.old connection.new out.old out.new channel fault result }
 {
-    frames_are_as_long();
-    match connection.transfer(channel, transfer, payload) {
-        Ok(report) => {
-            answer_failure(out, channel, report);
-            Ok(telling::told(channel as u16, report))
-        }
-        Err(fault) => match telling::condition_of(fault) {
-            Some(why) => Ok(Some(fail(connection, out, channel, why))),
-            None => Err(AllocError),
-        },
+    match telling::condition_of(fault) {
+        Some(condition) => Ok(Some(fail(connection, out, channel, condition))),
+        None => Err(AllocError),
     }
 }
 
-/// Writes the detach of a link that a transfer has ended [2.6.5].
-fn answer_failure<A: Allocator + Copy>(out: &mut Output<A>, channel: u8, report: Report)
+/// Answers a transfer that its session took, with the detach of a link that it has ended [2.6.5], and tells of it.
+#[inline(never)]
+pub fn answer_transfer<A: Allocator + Copy>(
+    out: &mut Output<A>,
+    channel: u8,
+    report: Report,
+) -> Option<Event>
     requires room { length out.old + reply_room ≤ output_size }
     requires short { length (joined (on_channel channel (failure_answer report))) ≤ reply_room }
-    ensures { out.new ≡ out.old ++ joined (on_channel channel (failure_answer report)) }
+    ensures answered { out.new ≡ out.old ++ joined (on_channel channel (failure_answer report)) }
+    ensures told { result ≡ report_told channel report }
 {
     if let Report::Failed {
         handle,
@@ -182,8 +175,9 @@ fn answer_failure<A: Allocator + Copy>(out: &mut Output<A>, channel: u8, report:
         ..
     } = report
     {
-        out.put_detach(channel as u16, &failure(handle, condition));
+        out.put(channel as u16, &Saying::Detach(failure(handle, condition)));
     }
+    telling::told(channel as u16, report)
 }
 
 /// Whether an attach's handle is above the highest of the session on a channel [2.7.2].
@@ -234,10 +228,10 @@ fn answer_alone<A: Allocator + Copy>(out: &mut Output<A>, channel: u8, answer: &
 {
     match answer {
         Answer::Nothing => {}
-        Answer::Flow(flow) => out.put_flow(channel as u16, flow),
-        Answer::Detach(detach) => out.put_detach(channel as u16, detach),
+        Answer::Flow(flow) => out.put(channel as u16, &Saying::Flow(*flow)),
+        Answer::Detach(detach) => out.put(channel as u16, &Saying::Detach(*detach)),
         Answer::Attach => {}
-        Answer::Refusal(detach) => out.put_detach(channel as u16, detach),
+        Answer::Refusal(detach) => out.put(channel as u16, &Saying::Detach(*detach)),
     }
 }
 
@@ -254,10 +248,11 @@ fn answer_attach<A: Allocator + Copy>(
     ensures { out.new ≡ out.old ++ joined (on_channel channel (attach_answered (attaching attach.now bounds) answer.now)) }
 {
     match answer {
-        Answer::Attach => out.put_attach_reply(channel as u16, attach, bounds),
+        Answer::Attach => out.put(channel as u16, &Saying::Attached(attach, bounds)),
         Answer::Refusal(detach) => {
-            out.put_frame(channel as u16, &Performative::Attach(refusal_reply(attach)));
-            out.put_detach(channel as u16, detach);
+            let reply = Performative::Attach(refusal_reply(attach));
+            out.put(channel as u16, &Saying::Performative(&reply));
+            out.put(channel as u16, &Saying::Detach(*detach));
         }
         _ => answer_alone(out, channel, answer),
     }

@@ -1,21 +1,27 @@
 //! What the endpoint does with a whole unit of its peer: the header, a frame, or a frame that is none.
-ghost use Rattle.std.specs.Prelude.{◌≡◌, ℕ, List, ◌≤◌, ◌+◌, length, Some, None};
+ghost use Rattle.std.specs.Prelude.{◌≡◌, ℕ, List, ◌≤◌, ◌+◌, length, Some, None, true, false};
 ghost use Rattle.amqp_frame.specs.declared.units.FrameFault.{FrameFault};
 ghost use Rattle.amqp_frame.specs.Units.{HeaderUnit, FaultUnit};
 ghost use Rattle.amqp_perform.specs.BodyReading.{body_at};
-ghost use Rattle.amqp_endpoint.specs.Acting.{IsDone, HasDone};
+ghost use Rattle.amqp_endpoint.specs.Acting.{IsDone, HasDone, IsForSession, IsLive};
 ghost use Rattle.amqp_endpoint.specs.Calls.{output_size, reply_room};
-ghost use Rattle.amqp_endpoint.specs.Connections.{is_closing};
-ghost use Rattle.amqp_endpoint.specs.Lines.{is_read_close, line_of, frame_at, body_line, closing_line, unread_line};
+ghost use Rattle.amqp_endpoint.specs.Connections.{is_closing, is_unopened, slot_at};
+ghost use Rattle.amqp_endpoint.specs.Lines.{is_read_close, line_of, frame_at, closing_line, unread_line, read_line, unopened_line, channel_line, PeerOpens};
+ghost use Rattle.amqp_link.specs.Links.{sent_of};
+ghost use Rattle.amqp_session.specs.Frames.{Frame, Transfers};
+ghost use Rattle.amqp_endpoint.specs.Fields.{Begins, Ends, ForSession, frame_in, read_of, opening, beginning};
 
 use crate::connection::Connection;
 use crate::event::Event;
-use crate::laws::fields_say_the_performative;
+use crate::laws::{fields_say_the_performative, frames_are_as_long};
 use crate::output::Output;
 use crate::phase::Phase;
-use crate::{bodies, closing};
+use crate::{closing, frames, sessions};
 use amqp_frame::HEADER;
-use amqp_perform::{BodyFault, Condition, Performative, Transfer, read_body, read_transfer_into};
+use amqp_perform::{
+    Begin, BodyFault, Condition, Open, Performative, Transfer, read_body, read_transfer_into,
+};
+use amqp_session::{Report, Slot};
 use std::alloc::{AllocError, Allocator};
 
 /// Acts upon the protocol header: it is answered by the own one, and another than the own one ends the connection
@@ -51,6 +57,8 @@ pub fn act_on_fault<A: Allocator + Copy>(
 }
 
 /// Acts upon a whole frame, by what its body says [2.3.2, 2.7]. Where memory is refused nothing has changed.
+// The path of each message: a transfer on an open connection is looked for first.
+#[inline(always)]
 pub fn act_on_frame<A: Allocator + Copy>(
     connection: &mut Connection<A>,
     out: &mut Output<A>,
@@ -60,6 +68,29 @@ pub fn act_on_frame<A: Allocator + Copy>(
     requires { length out.old + reply_room ≤ output_size }
     ensures { HasDone connection.old connection.new out.old out.new (frame_at connection.old channel body.now) result }
 {
+    fields_say_the_performative();
+    if is_open(connection) && channel <= connection.channel_limit() {
+        let mut transfer = Transfer::blank();
+        if let Some(len) = read_transfer_into(body, &mut transfer) {
+            let payload = &body[len..];
+            return act_on_transfer(connection, out, channel as u8, &transfer, payload);
+        }
+    }
+    act_on_any_frame(connection, out, channel, body)
+}
+
+/// Acts upon any frame, by its line.
+#[inline(never)]
+fn act_on_any_frame<A: Allocator + Copy>(
+    connection: &mut Connection<A>,
+    out: &mut Output<A>,
+    channel: u16,
+    body: &[u8],
+) -> Result<Option<Event>, AllocError>
+    requires { length out.old + reply_room ≤ output_size }
+    ensures { HasDone connection.old connection.new out.old out.new (frame_at connection.old channel body.now) result }
+{
+    fields_say_the_performative();
     if is_closing(connection) {
         return Ok(await_close(connection, body));
     }
@@ -69,44 +100,9 @@ pub fn act_on_frame<A: Allocator + Copy>(
     if channel > connection.channel_limit() {
         return Ok(Some(closing::fail(connection, out, Condition::FramingError)));
     }
-    act_on_body(connection, out, channel as u8, body)
-}
-
-/// Acts upon a body that is not empty, on a channel that is not too high.
-fn act_on_body<A: Allocator + Copy>(
-    connection: &mut Connection<A>,
-    out: &mut Output<A>,
-    channel: u8,
-    body: &[u8],
-) -> Result<Option<Event>, AllocError>
-    requires room { length out.old + reply_room ≤ output_size }
-    requires channel { channel ≤ connection.old.config.channel_max }
-    ensures { HasDone connection.old connection.new out.old out.new (body_line connection.old channel body.now (body_at body.now)) result }
-{
-    fields_say_the_performative();
-    let mut transfer = Transfer::blank();
-    if let Some(len) = read_transfer_into(body, &mut transfer) {
-        return bodies::act_on_transfer(connection, out, channel, &transfer, &body[len..]);
-    }
-    act_on_any_body(connection, out, channel, body)
-}
-
-/// The same of any body, without the short way for a transfer.
-#[inline(never)]
-fn act_on_any_body<A: Allocator + Copy>(
-    connection: &mut Connection<A>,
-    out: &mut Output<A>,
-    channel: u8,
-    body: &[u8],
-) -> Result<Option<Event>, AllocError>
-    requires room { length out.old + reply_room ≤ output_size }
-    requires channel { channel ≤ connection.old.config.channel_max }
-    ensures { HasDone connection.old connection.new out.old out.new (body_line connection.old channel body.now (body_at body.now)) result }
-{
-    fields_say_the_performative();
     match &read_body(body) {
         Ok((performative, len)) => {
-            bodies::act(connection, out, channel, performative, &body[*len..])
+            act(connection, out, channel as u8, performative, &body[*len..])
         }
         Err(fault) => Ok(Some(refuse_body(connection, out, *fault))),
     }
@@ -146,9 +142,185 @@ fn is_closing<A: Allocator + Copy>(connection: &Connection<A>) -> bool
     matches!(connection.phase(), Phase::Closing)
 }
 
+/// Whether both sides have opened the connection, and neither has closed it.
+fn is_open<A: Allocator + Copy>(connection: &Connection<A>) -> bool
+    ensures open { result ≡ true → is_unopened connection.now.phase ≡ false }
+    ensures awake { result ≡ true → is_closing connection.now.phase ≡ false }
+{
+    matches!(connection.phase(), Phase::Open { .. })
+}
+
 /// Whether a body says a close.
 fn is_close(body: &[u8]) -> bool
     ensures { result ≡ is_read_close (body_at body.now) }
 {
     matches!(read_body(body), Ok((Performative::Close(_), _)))
+}
+
+/// Acts upon a performative with its payload. Where memory is refused nothing has changed.
+fn act<A: Allocator + Copy>(
+    connection: &mut Connection<A>,
+    out: &mut Output<A>,
+    channel: u8,
+    performative: &Performative<'_>,
+    payload: &[u8],
+) -> Result<Option<Event>, AllocError>
+    requires room { length out.old + reply_room ≤ output_size }
+    requires channel { channel ≤ connection.old.config.channel_max }
+    ensures { HasDone connection.old connection.new out.old out.new (read_line connection.old channel (read_of connection.old.config performative.now payload.now)) result }
+{
+    if matches!(connection.phase(), Phase::Unopened) {
+        return Ok(Some(act_unopened(connection, out, performative)));
+    }
+    match performative {
+        Performative::Open(_) => Ok(Some(closing::fail(connection, out, Condition::IllegalState))),
+        Performative::Close(_) => Ok(Some(closing::peer_closes(connection, out))),
+        Performative::Begin(begin) => act_on_begin(connection, out, channel, begin),
+        Performative::End(_) => Ok(Some(act_on_end(connection, out, channel))),
+        _ => act_in_session(connection, out, channel, performative, payload),
+    }
+}
+
+/// The peer's open, before which nothing else may come [2.4.1].
+fn act_unopened<A: Allocator + Copy>(
+    connection: &mut Connection<A>,
+    out: &mut Output<A>,
+    performative: &Performative<'_>,
+) -> Event
+    requires { length out.old + reply_room ≤ output_size }
+    ensures { (payload : List ℕ) → IsDone connection.old connection.new out.old out.new (unopened_line (read_of connection.old.config performative.now payload)) (Some result) }
+{
+    match performative {
+        Performative::Open(open) => act_on_open(connection, out, open),
+        _ => closing::fail(connection, out, Condition::IllegalState),
+    }
+}
+
+/// The peer opens the connection, and is answered with the lesser channel-max [2.4.1].
+fn act_on_open<A: Allocator + Copy>(
+    connection: &mut Connection<A>,
+    out: &mut Output<A>,
+    stated: &Open<'_>,
+) -> Event
+    requires { length out.old + reply_room ≤ output_size }
+    ensures { IsDone connection.old connection.new out.old out.new (PeerOpens (opening stated.now)) (Some result) }
+{
+    let offered = connection.config().channel_max();
+    let channel_max = if offered as u16 <= stated.channel_max {
+        offered
+    } else {
+        stated.channel_max as u8
+    };
+    out.say(0, &frames::open(connection.config(), channel_max as u16));
+    connection.open(stated.max_frame_size, channel_max);
+    Event::Opened
+}
+
+/// A begin: it begins a session where nothing stands, unless it answers a begin of this side, which sends none [2.5.1].
+fn act_on_begin<A: Allocator + Copy>(
+    connection: &mut Connection<A>,
+    out: &mut Output<A>,
+    channel: u8,
+    begin: &Begin<'_>,
+) -> Result<Option<Event>, AllocError>
+    requires room { length out.old + reply_room ≤ output_size }
+    requires channel { channel ≤ connection.old.config.channel_max }
+    ensures { HasDone connection.old connection.new out.old out.new (channel_line channel (slot_at connection.old channel) (Begins (beginning begin.now))) result }
+{
+    match connection.place(channel) {
+        Slot::Waits => Ok(None),
+        Slot::Free if begin.remote_channel.is_none() => {
+            let terms = sessions::terms(connection, begin);
+            Ok(Some(sessions::begin(connection, out, channel, terms)?))
+        }
+        _ => Ok(Some(closing::fail(connection, out, Condition::IllegalState))),
+    }
+}
+
+/// An end: it ends the session on the channel, or answers the end of this side [2.5.3].
+fn act_on_end<A: Allocator + Copy>(
+    connection: &mut Connection<A>,
+    out: &mut Output<A>,
+    channel: u8,
+) -> Event
+    requires room { length out.old + reply_room ≤ output_size }
+    requires channel { channel ≤ connection.old.config.channel_max }
+    ensures { IsDone connection.old connection.new out.old out.new (channel_line channel (slot_at connection.old channel) Ends) (Some result) }
+{
+    match connection.place(channel) {
+        Slot::Free => closing::fail(connection, out, Condition::IllegalState),
+        Slot::Live(_) => sessions::end(connection, out, channel),
+        Slot::Waits => Event::Ended {
+            channel: channel as u16,
+            dropped: connection.session_ended(channel),
+        },
+    }
+}
+
+/// A transfer with its payload, for the session on a channel [2.6.14]. Where memory is refused nothing has changed.
+// The path of each message: the session is lent once, and what is usually told of it is told here.
+#[tactic(auto, using(crate::proofs::Lent::went_on, crate::proofs::Lent::stayed))]
+#[inline(always)]
+fn act_on_transfer<A: Allocator + Copy>(
+    connection: &mut Connection<A>,
+    out: &mut Output<A>,
+    channel: u8,
+    transfer: &Transfer<'_>,
+    payload: &[u8],
+) -> Result<Option<Event>, AllocError>
+    requires room { length out.old + reply_room ≤ output_size }
+    requires channel { channel ≤ connection.old.config.channel_max }
+    ensures { HasDone connection.old connection.new out.old out.new
+        (channel_line channel (slot_at connection.old channel) (ForSession (Transfers transfer.now.handle (sent_of transfer.now payload.now)))) result }
+{
+    frames_are_as_long();
+    let Some(session) = connection.session_mut(channel as u16) else {
+        return Ok(act_elsewhere(connection, out, channel));
+    };
+    match session.transfer(transfer, payload) {
+        Ok(Report::Ready { handle }) => Ok(Some(Event::Ready {
+            channel: channel as u16,
+            handle,
+        })),
+        Ok(report) => Ok(sessions::answer_transfer(out, channel, report)),
+        Err(fault) => sessions::refuse(connection, out, channel, fault),
+    }
+}
+
+/// A frame of a session where none is live: it is dropped where the peer's end is awaited [2.5.4].
+#[inline(never)]
+fn act_elsewhere<A: Allocator + Copy>(
+    connection: &mut Connection<A>,
+    out: &mut Output<A>,
+    channel: u8,
+) -> Option<Event>
+    requires room { length out.old + reply_room ≤ output_size }
+    requires channel { channel ≤ connection.old.config.channel_max }
+    requires none { IsLive (slot_at connection.old channel) → ⊥ }
+    ensures { (f : Frame) → IsDone connection.old connection.new out.old out.new (channel_line channel (slot_at connection.old channel) (ForSession f)) result }
+{
+    match connection.place(channel) {
+        Slot::Waits => None,
+        _ => Some(closing::fail(connection, out, Condition::IllegalState)),
+    }
+}
+
+/// A frame of a session: it is dropped where the peer's end is awaited [2.5.4].
+fn act_in_session<A: Allocator + Copy>(
+    connection: &mut Connection<A>,
+    out: &mut Output<A>,
+    channel: u8,
+    performative: &Performative<'_>,
+    payload: &[u8],
+) -> Result<Option<Event>, AllocError>
+    requires room { length out.old + reply_room ≤ output_size }
+    requires channel { channel ≤ connection.old.config.channel_max }
+    requires session { IsForSession (frame_in connection.old.config performative.now payload.now) }
+    ensures { (f : Frame) → frame_in connection.old.config performative.now payload.now ≡ Some f
+        → HasDone connection.old connection.new out.old out.new (channel_line channel (slot_at connection.old channel) (ForSession f)) result }
+{
+    match connection.place(channel) {
+        Slot::Live(_) => sessions::frame(connection, out, channel, performative, payload),
+        _ => Ok(act_elsewhere(connection, out, channel)),
+    }
 }

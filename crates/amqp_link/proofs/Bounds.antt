@@ -178,17 +178,3 @@ stays_for_taker terms credit count draining o d link may =
       ready = rest_short (IsShort terms) o.ready link.ready;
       unfinished = link.unfinished;
     }
-
--- a settle counts no more than are open
-pub few_named : (first last : ℕ) (o : OpenSet) → named_count first last o ≤ how_many o
-few_named first last o = omega (arith, count_by-le-length (is_covered first last) o.awaiting)
-
--- no more deliveries are settled than are open
-pub few_settled : (first last : ℕ) (o : OpenSet) → newly_settled first last o ≤ how_many o
-few_settled first last o =
-    omega (
-      arith,
-      count_by-le-length (λ d. not d.settled && is_covered first last d) (in_order o),
-      length-append (o.awaiting ++ o.ready) (option_to_list o.unfinished),
-      length-append o.awaiting o.ready,
-    )

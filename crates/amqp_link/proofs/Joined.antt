@@ -7,7 +7,7 @@ use Rattle.std.proofs.lemmas.Grind.{flat_map-append}
 use Rattle.std.proofs.lemmas.List.{length-append, drop-append-le, take-append-drop}
 use Rattle.std.proofs.Math.Seq.{drop-append-add, take-suc}
 use Rattle.std.proofs.lemmas.Option.{same_Some, slice_get_read}
-use Rattle.amqp_link.specs.declared.pieces.Block.{Block}
+use Rattle.amqp_link.specs.declared.message.Block.{Block}
 use Rattle.amqp_link.specs.Pieces.{joined, AreWhole, AreBlocks}
 
 -- a front of what follows a place

@@ -1,12 +1,12 @@
 -- What a link keeps at its places, after each of its steps.
 use Rattle.std.proofs.Common.{arith, ◌≡◌, ℕ, ◌+◌, ◌*◌, ◌-◌, ◌<◌, ◌≤◌, get_or, set, take, List, [], ◌∷◌, ◌++◌, length, map, Option, Some, None, refl, sym, ap, subst, ◌∙◌}
-use Rattle.std.specs.Prelude.{option_map, option_to_list, IsSome, true, false, drop}
+use Rattle.std.specs.Prelude.{option_map, option_to_list, slice_get, IsSome, true, false, drop}
 use Rattle.std.specs.List.{AllByRecursion}
 use Rattle.std.proofs.lemmas.List.{append-nil, length-append, length-drop, length-map, length-set, take-append-le, drop-append-le, take_more, take_more_set, drop_more, drop-set-lt}
 use Rattle.slab.specs.Slab.{Slab, get, ContainsKey, Updates, with_value, slab_len}
 use Rattle.amqp_link.specs.declared.open_delivery.OpenDelivery.{OpenDelivery}
 use Rattle.amqp_link.specs.Links.{Delivery, OpenSet, how_many, delivery_bytes, left_open}
-use Rattle.amqp_link.specs.Keeping.{delivery_of, at_key, keys_of, set_at, AreKeys, SameKeys, IsKept, IsKeptAt}
+use Rattle.amqp_link.specs.Keeping.{delivery_of, delivery_in, at_key, keys_of, set_at, AreKeys, SameKeys, IsKept, IsKeptAt}
 use Rattle.amqp_link.proofs.Keys.{in_keys, size_kept}
 use Rattle.amqp_link.proofs.KeptKeys.{begins, changes, finishes, goes, first_in, leaves_settled, moves_unsettled}
 use Rattle.amqp_link.proofs.PlaceKeys.{keys_append, length_filled, keys_length, keys_split}
@@ -184,6 +184,21 @@ module _ {A : Type 0} where
         is = rw (front, keys) c.is;
       })
 
+  -- a delivery begins, and is ready
+  pub whole_at : (old mid new : Slab (OpenDelivery A)) (order order' order'' : List (Option ℕ)) (h : ℕ) (unfinished : Option ℕ) (key : ℕ) (d : OpenDelivery A) (bytes more n room room' room'' : ℕ) →
+      option_map (at_key old) unfinished ≡ None → IsKeptAt old order h unfinished bytes room → mid ≡ record old { capacity = n } → order' ≡ order → get mid key ≡ None →
+      Updates mid new key (Some d) → slab_len new ≡ slab_len mid + 1 → length order' + 1 ≤ room' → more ≡ bytes + delivery_bytes (delivery_of d) → order'' ≡ order' ++ Some key ∷ [] → room' ≤ room'' →
+      ComesAt new order'' h unfinished more room'' (record (set_at old order h unfinished) { ready = (set_at old order h unfinished).ready ++ delivery_of d ∷ []; unfinished = None })
+  whole_at old mid new order order' order'' h unfinished key d bytes more n room room' room'' none at e f free u size fit m pushed roomy =
+      let begun = begins_at old mid new order order' h unfinished key d bytes more n room room' none at e f free u size fit m in
+      let whole = finishes_at new order' order'' h (Some key) key more room' room'' refl begun.kept pushed roomy in
+      subst (λ (p : Option ℕ). ComesAt new order'' h p more room'' (record (set_at old order h unfinished) { ready = (set_at old order h unfinished).ready ++ delivery_of d ∷ []; unfinished = None }))
+      (sym (none_of (at_key old) unfinished none))
+      (record {
+        kept = whole.kept;
+        is = whole.is ∙ ap (λ (o : OpenSet). record o { ready = o.ready ++ option_to_list o.unfinished; unfinished = None }) begun.is;
+      })
+
   -- the unfinished delivery goes
   pub goes_at : (old new : Slab (OpenDelivery A)) (order : List (Option ℕ)) (h : ℕ) (unfinished : Option ℕ) (key bytes less room : ℕ) → unfinished ≡ Some key →
       IsKeptAt old order h unfinished bytes room → Updates old new key None → slab_len new + 1 ≡ slab_len old → less ≡ bytes - delivery_bytes (at_key old key) →
@@ -201,6 +216,10 @@ module _ {A : Type 0} where
   first_at slab order h unfinished key bytes room at e =
       (first_in slab (keys_of (take h order)) key (keys_of (drop (h + 1) order)) unfinished bytes
       (subst (λ (ps : List (Option ℕ)). IsKept slab (keys_of (take h order)) (keys_of ps) unfinished bytes) e at.kept)).here
+
+  pub first_is : (slab : Slab (OpenDelivery A)) (order : List (Option ℕ)) (h : ℕ) (unfinished : Option ℕ) (key : ℕ) (d : OpenDelivery A) → drop h order ≡ Some key ∷ drop (h + 1) order →
+      get slab key ≡ Some d → slice_get (set_at slab order h unfinished).ready 0 ≡ Some (delivery_of d)
+  first_is slab order h unfinished key d e has = ap (λ (ps : List (Option ℕ)). slice_get (map (at_key slab) (keys_of ps)) 0) e ∙ ap (λ (s : Option (OpenDelivery A)). Some (delivery_in s)) has
 
   -- it is settled, and goes as it is handed up
   pub leaves_at : (old new : Slab (OpenDelivery A)) (order : List (Option ℕ)) (h : ℕ) (unfinished : Option ℕ) (key : ℕ) (d : OpenDelivery A) (bytes less room : ℕ) →

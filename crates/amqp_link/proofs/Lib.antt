@@ -18,5 +18,7 @@ pub mod KeptPlaces
 pub mod Settles
 pub mod Hints
 pub mod KeptSettles
+pub mod Looks
 pub mod Bounds
 pub mod Iterated
+pub mod Verdicts

@@ -1,21 +1,20 @@
 -- How a link keeps its open deliveries, which no public clause names: each under a key, and the keys at places in link order.
-use Rattle.std.specs.Prelude.{◌≡◌, ◌≢◌, ℕ, ◌+◌, ◌*◌, ◌≤◌, List, [], ◌∷◌, ◌++◌, length, map, filter, take, drop, Bool, false, not, ◌&&◌, if◌then◌else◌, Option, Some, None, IsSome, option_map, option_to_list, sum_by}
+use Rattle.std.specs.Prelude.{◌≡◌, ◌≢◌, ℕ, ◌+◌, ◌*◌, ◌<◌, ◌≤◌, List, [], ◌∷◌, ◌++◌, length, map, filter, take, drop, Bool, true, false, not, ◌&&◌, Option, Some, None, slice_get, IsSome, option_map, option_to_list, sum_by}
 use Rattle.std.specs.Prelude.{count_by}
 use Rattle.std.specs.List.{AllByRecursion}
 use Rattle.slab.specs.Slab.{Slab, get, ContainsKey, slab_len}
 use Rattle.amqp_perform.specs.declared.modes.ReceiverSettleMode.TheVariants.{First}
 use Rattle.amqp_link.specs.declared.open_delivery.OpenDelivery.{OpenDelivery}
-use Rattle.amqp_link.specs.declared.open_delivery.Hint.{Hint}
-use Rattle.amqp_link.specs.declared.open_delivery.Hint.TheVariants.{Unknown, Nowhere, At}
-use Rattle.amqp_link.specs.declared.open_delivery.Hints.{Hints}
 use Rattle.amqp_link.specs.declared.open_delivery.Question.{Question}
 use Rattle.amqp_link.specs.declared.open_delivery.Question.TheVariants.{HasId, IsCovered, IsTold}
 use Rattle.amqp_link.specs.declared.open_delivery.Settler.{Settler}
 use Rattle.amqp_link.specs.declared.open_delivery.Settler.TheVariants.{Receiver, SenderOfHandedUp, SenderOfUntaken}
 use Rattle.amqp_link.specs.declared.open_delivery.Settling.{Settling}
+use Rattle.amqp_link.specs.declared.places.Found.{Found}
+use Rattle.amqp_link.specs.declared.places.Found.TheVariants.{HandedUp, Ready, Unfinished, Unknown}
 use Rattle.amqp_link.specs.declared.terms.Terms.{Terms}
 use Rattle.amqp_link.specs.Bounds.{IsBounded}
-use Rattle.amqp_link.specs.Links.{Delivery, OpenSet, LinkState, set_bytes, delivery_bytes, how_many, has_id, is_covered, tells, told_by, receiver_settles, sender_settled_by}
+use Rattle.amqp_link.specs.Links.{Delivery, OpenSet, LinkState, set_bytes, delivery_bytes, how_many, left_open, has_id, is_covered, tells, told_by, receiver_settles, sender_settled_by}
 
 -- One delivery. -----------------------------------------------------------------------------------------------
 
@@ -56,16 +55,9 @@ counts s d = counts_by s.settler s.ids.first s.ids.last d
 abbrev pub settled_list : Settling → List Delivery → List Delivery
 settled_list s ds = map (turned s) (filter (λ d. not (ends s d)) ds)
 
--- What is known of where the one stands that has one of the ids: among these it is no second one, or there is none.
-abbrev pub IsHint : Hint → ℕ → ℕ → List Delivery → Type 0
-IsHint Unknown first last ds = Unit {0}
-IsHint Nowhere first last ds = count_by (is_covered first last) ds ≡ 0
-IsHint (At place) first last ds = count_by (is_covered first last) ds ≤ 1
-
--- the same of those that were handed up and of those that are ready
-pub record AreHints (hints : Hints) (first last : ℕ) (o : OpenSet) : Type 0 where
-  pub awaiting : IsHint hints.handed_up first last o.awaiting
-  pub ready : IsHint hints.ready first last o.ready
+-- the open deliveries once the first that is ready was handed up, which is this one
+abbrev pub taken_from : Delivery → OpenSet → OpenSet
+taken_from d o = record o { awaiting = o.awaiting ++ left_open d; ready = drop 1 o.ready }
 
 -- All of them. ---------------------------------------------------------------------------------------------------
 
@@ -103,16 +95,17 @@ module _ {A : Type 0} where
   abbrev pub at_key : Slab (OpenDelivery A) → ℕ → Delivery
   at_key slab key = delivery_in (get slab key)
 
-  -- a delivery, if it answers the question by yes
-  abbrev pub answer_of : Question → Option (OpenDelivery A) → Option Delivery
-  answer_of question None = None
-  answer_of question (Some d) = if asks_of question (delivery_of d) then Some (delivery_of d) else None
+  -- a delivery is kept under this key, and has this id
+  pub record IsUnder (slab : Slab (OpenDelivery A)) (key id : ℕ) : Type 0 where
+    pub there : ContainsKey slab key
+    pub named : has_id id (at_key slab key) ≡ true
 
-  -- the one at a place, if it does
-  abbrev pub answer_at : Slab (OpenDelivery A) → Question → Option (Option ℕ) → Option Delivery
-  answer_at slab question None = None
-  answer_at slab question (Some None) = None
-  answer_at slab question (Some (Some key)) = answer_of question (get slab key)
+  -- where one look found it
+  abbrev pub IsFound : Slab (OpenDelivery A) → List (Option ℕ) → ℕ → Option ℕ → ℕ → ℕ → Found → Type 0
+  IsFound slab places handed_up unfinished key id (HandedUp place) = IsUnder slab key id × (slice_get places place ≡ Some (Some key)) × (place < handed_up)
+  IsFound slab places handed_up unfinished key id (Ready place) = IsUnder slab key id × (slice_get places place ≡ Some (Some key)) × (handed_up ≤ place)
+  IsFound slab places handed_up unfinished key id Unfinished = IsUnder slab key id × (unfinished ≡ Some key)
+  IsFound slab places handed_up unfinished key id Unknown = Unit {0}
 
   -- the same deliveries under the same keys: what each was told of its place may differ
   pub record SameDeliveries (old new : Slab (OpenDelivery A)) : Type 0 where

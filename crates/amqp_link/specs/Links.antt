@@ -15,6 +15,8 @@ use Rattle.amqp_link.specs.declared.settlement.Standing.{Standing}
 use Rattle.amqp_link.specs.declared.settlement.Standing.TheVariants.{Absent, Untaken, Told, Awaiting}
 use Rattle.amqp_link.specs.declared.transfer.Step.{Step}
 use Rattle.amqp_link.specs.declared.transfer.Step.TheVariants.{Unfinished, Ready, Aborted}
+use Rattle.amqp_link.specs.declared.transfer.Verdict.{Verdict}
+use Rattle.amqp_link.specs.declared.transfer.Verdict.TheVariants.{Begins, GoesOn, Passes, GivesUp, Fails}
 
 -- a transfer with its payload [2.7.5]
 pub record Sent : Type 0 where
@@ -205,6 +207,18 @@ fault_of s t =
     else (if not (is_formed s.terms s.unfinished t) then Some InvalidField
     else (if lacks_credit s then Some TransferLimit
     else (if is_too_long s t then Some MessageSize else None)))
+
+-- Its first fault, where `known` says whether an open delivery of the session has the id that it states: none begins under that. [2.6.12]
+abbrev pub known_fault : Bool → LinkState → Sent → Option LinkFault
+known_fault known s t = if not t.resume && (is_none s.unfinished && known) then Some InvalidField else fault_of s t
+
+-- what it comes to, before anything is done; which key is named is left open [2.6.14]
+abbrev pub IsVerdict : Bool → LinkState → Sent → Verdict → Type 0
+IsVerdict known s t (Begins key) = (known_fault known s t ≡ None) × (s.unfinished ≡ None) × (t.aborted ≡ false)
+IsVerdict known s t GoesOn = (known_fault known s t ≡ None) × (is_none s.unfinished ≡ false) × (t.aborted ≡ false)
+IsVerdict known s t Passes = (known_fault known s t ≡ None) × (s.unfinished ≡ None) × (t.aborted ≡ true)
+IsVerdict known s t (GivesUp id) = (known_fault known s t ≡ None) × (option_map (λ d. d.delivery_id) s.unfinished ≡ Some id) × (t.aborted ≡ true)
+IsVerdict known s t (Fails fault) = known_fault known s t ≡ Some fault
 
 -- A transfer may want memory unless it is aborted, or goes on without a payload.
 abbrev pub may_grow_at : Option Delivery → Sent → Bool

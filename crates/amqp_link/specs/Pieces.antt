@@ -1,7 +1,7 @@
 -- How a message is kept: in blocks of whole pieces, but for the last piece of the last block. No public clause names it.
 use Rattle.std.specs.Prelude.{◌≡◌, ℕ, ◌+◌, ◌-◌, ◌%◌, ◌<◌, List, [], ◌∷◌, length, ⊤}
 use Rattle.std.specs.List.{flat_map}
-use Rattle.amqp_link.specs.declared.pieces.Block.{Block}
+use Rattle.amqp_link.specs.declared.message.Block.{Block}
 
 -- the bytes of a piece that is whole
 abbrev pub piece_size : ℕ

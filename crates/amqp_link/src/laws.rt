@@ -1,5 +1,5 @@
 //! What holds of the history of a link, whoever keeps it. The calls do nothing: their contracts are the laws.
-ghost use Rattle.std.specs.Prelude.{◌≡◌, ℕ, ◌+◌, ◌*◌, ◌^◌, ◌<◌, ◌≤◌, ◌↔◌, Bool, true, List, ◌∷◌, [], length, map, filter, take, sum_by, Option, Some, None};
+ghost use Rattle.std.specs.Prelude.{◌≡◌, ℕ, ◌+◌, ◌*◌, ◌^◌, ◌<◌, ◌≤◌, ◌↔◌, true, List, ◌∷◌, [], length, map, filter, take, sum_by, Option, Some, None};
 ghost use Rattle.std.specs.List.{AllByRecursion};
 ghost use Rattle.amqp_serial.specs.Numbers.{IsInRange};
 ghost use Rattle.amqp_link.specs.declared.terms.Terms.{Terms};

@@ -8,14 +8,12 @@
 //! The tests stand in `layer_rows`.
 #![tactic(auto)]
 
-mod judge;
 pub mod laws;
 mod link;
 mod message;
 mod open_deliveries;
 mod open_delivery;
 mod open_ids;
-mod pieces;
 mod places;
 mod settlement;
 mod tag;
@@ -29,4 +27,4 @@ pub use open_ids::OpenIds;
 pub use settlement::{SettleFault, Standing};
 pub use tag::{MAX_TAG, Tag};
 pub use terms::{LinkBounds, MAX_ALLOWED, MAX_MESSAGE_SIZE, Terms};
-pub use transfer::{LinkFault, Step};
+pub use transfer::{LinkFault, Step, Verdict};

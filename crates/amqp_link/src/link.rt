@@ -1,21 +1,20 @@
 //! One link that receives.
-ghost use Rattle.std.specs.Prelude.{◌≡◌, ◌<◌, ◌≤◌, ◌+◌, ◌*◌, ◌^◌, [], length, Option, Some, None, OnOk, OnErr, IfOk, IfErr, IfSome, IfNone, IsSomeAnd, is_none, map, option_map, true, IsFalse};
-ghost use Rattle.std.specs.List.{list_any};
-ghost use Rattle.amqp_link.specs.Links.{LinkState, Delivery, sent_of, Granted, DrainAsked, Transferred, FlowStated, HandedUp, ReceiverSettled, SenderSettled, LinkMay, link_after, link_begins, link_bytes, deliveries, open_set, open_count, first_ready, has_id, fault_of, step_of, is_drained, is_beyond, IsRefusal, with_delivery, delivery_after, may_grow_at, set_bytes, named_count, newly_settled, settle_fault, standing_of, IsAwaiting, IsOnce};
 ghost use Rattle.amqp_link.specs.Links as spec;
+ghost use Rattle.std.specs.Prelude.{◌≡◌, ◌<◌, ◌≤◌, ◌+◌, ◌*◌, ◌^◌, [], length, Option, Some, None, OnOk, OnErr, IfOk, IfErr, IfSome, IfNone, IsSomeAnd, is_none, map, option_map, Bool, true, IsFalse, nat_lt, false};
+ghost use Rattle.std.specs.List.{list_any};
+ghost use Rattle.amqp_link.specs.Links.{LinkState, sent_of, Granted, DrainAsked, Transferred, FlowStated, HandedUp, ReceiverSettled, SenderSettled, LinkMay, link_after, link_begins, link_bytes, deliveries, open_set, open_count, first_ready, has_id, fault_of, IsVerdict, step_of, is_drained, is_beyond, IsRefusal, with_delivery, delivery_after, may_grow_at, set_bytes, named_count, newly_settled, settle_fault, standing_of, IsAwaiting, IsOnce};
 ghost use Rattle.amqp_link.specs.HandedUps.{IsHandedUp};
-ghost use Rattle.amqp_link.specs.Keeping.{delivery_of, AreHints};
+ghost use Rattle.amqp_link.specs.Keeping.{delivery_of};
 
-use crate::judge;
 use crate::message::Message;
 use crate::open_deliveries::OpenDeliveries;
-use crate::open_delivery::{Hints, Ids, OpenDelivery, UNKNOWN, one};
+use crate::open_delivery::{Ids, OpenDelivery};
 use crate::open_ids::OpenIds;
 use crate::settlement::{SettleFault, Standing};
-use crate::tag::Tag;
+use crate::tag::{MAX_TAG, Tag};
 use crate::terms::{LinkBounds, Terms};
-use crate::transfer::{LinkFault, Step};
-use amqp_perform::Transfer;
+use crate::transfer::{LinkFault, Step, Verdict, is_settled};
+use amqp_perform::{ReceiverSettleMode, Transfer};
 use amqp_serial::Serial;
 use std::alloc::{AllocError, Allocator, Global};
 use std::marker::Model;
@@ -43,7 +42,6 @@ pub struct Taken<A: Allocator + Copy = Global> {
 /// settled [2.6.7, 2.6.12].
 #[derive(Drop)]
 pub struct Link<A: Allocator + Copy = Global> {
-    alloc: A,
     terms: Terms,
     credit: u32,
     delivery_count: u32,
@@ -52,7 +50,7 @@ pub struct Link<A: Allocator + Copy = Global> {
 }
 
 impl<A: Allocator + Copy> Model for Link<A> {
-    ghost use Rattle.amqp_link.specs.Links.{LinkState, OpenSet};
+    ghost use Rattle.amqp_link.specs.Links.{LinkState};
 
     ghost Value = { LinkState };
 
@@ -71,7 +69,6 @@ impl<A: Allocator + Copy> Link<A> {
         let delivery_count = terms.initial_delivery_count;
         let deliveries = OpenDeliveries::new(alloc);
         Link {
-            alloc,
             terms,
             credit: 0,
             delivery_count,
@@ -166,7 +163,6 @@ impl<A: Allocator + Copy> Link<A> {
         ensures most { result ≤ self.now.terms.bounds.allowed * (self.now.terms.bounds.max_message_size + 96) }
     {
         let Link {
-            alloc: _,
             terms: _,
             credit: _,
             delivery_count: _,
@@ -229,18 +225,13 @@ impl<A: Allocator + Copy> Link<A> {
 
     /// Hands up the first ready delivery, in the order in which they began; `None` where none is. Unless its
     /// sender has settled it, it stays open until it is settled. Takes no memory.
+    // For `telemetry` and `gateway` (docs/PERF.md).
+    #[inline(always)]
     pub fn take(&mut self) -> Option<Taken<A>>
         ensures none { IfNone result ((first_ready self.old ≡ None) × (self.new ≡ self.old)) }
         ensures some { IfSome result (λ taken. IsSomeAnd (first_ready self.old) (λ d. IsHandedUp taken d × (self.new ≡ link_after self.old (HandedUp d)))) }
     {
-        let delivery = self.deliveries.take()?;
-        Some(Taken {
-            delivery_id: delivery.delivery_id,
-            delivery_tag: delivery.delivery_tag,
-            message_format: delivery.message_format,
-            settled: delivery.settled,
-            message: delivery.message,
-        })
+        self.deliveries.take()
     }
 
     /// How the delivery with this id stands, as to its settlement by the receiver. No other open delivery has
@@ -284,25 +275,14 @@ impl<A: Allocator + Copy> Link<A> {
         }
     }
 
-    /// The same of ids that are known to have no such fault.
+    /// [`Link::settle`] of ids in which [`Link::settle_fault`] finds none.
     pub fn settle_faultless(&mut self, first: u32, last: u32) -> u32
         requires { settle_fault first last (open_set self.old) ≡ None }
         ensures may { LinkMay self.old (ReceiverSettled first last) }
         ensures new { self.new ≡ link_after self.old (ReceiverSettled first last) }
         ensures count { result ≡ named_count first last (open_set self.old) }
     {
-        self.settle_by(UNKNOWN, Ids { first, last })
-    }
-
-    /// The same where this is known of them.
-    fn settle_by(&mut self, hints: Hints, ids: Ids) -> u32
-        requires faultless { settle_fault ids.first ids.last (open_set self.old) ≡ None }
-        requires hints { AreHints hints ids.first ids.last (open_set self.old) }
-        ensures may { LinkMay self.old (ReceiverSettled ids.first ids.last) }
-        ensures new { self.new ≡ link_after self.old (ReceiverSettled ids.first ids.last) }
-        ensures count { result ≡ named_count ids.first ids.last (open_set self.old) }
-    {
-        self.deliveries.settle_by_receiver(hints, ids) as u32
+        self.deliveries.settle_by_receiver(Ids { first, last }) as u32
     }
 
     /// The sender settles the ids from `first` to `last` [2.6.12, 2.7.6], also those of deliveries that were
@@ -313,17 +293,7 @@ impl<A: Allocator + Copy> Link<A> {
         ensures count { result ≡ newly_settled first last (open_set self.old) }
         ensures most { result ≤ open_count self.old }
     {
-        self.peer_settled_by(UNKNOWN, Ids { first, last })
-    }
-
-    /// The same where this is known of them.
-    fn peer_settled_by(&mut self, hints: Hints, ids: Ids) -> u32
-        requires { AreHints hints ids.first ids.last (open_set self.old) }
-        ensures new { self.new ≡ link_after self.old (SenderSettled ids.first ids.last) }
-        ensures count { result ≡ newly_settled ids.first ids.last (open_set self.old) }
-        ensures most { result ≤ open_count self.old }
-    {
-        self.deliveries.settle_by_sender(hints, ids) as u32
+        self.deliveries.settle_by_sender(Ids { first, last }) as u32
     }
 
     /// The key under which the next delivery is kept, if one begins now.
@@ -340,13 +310,13 @@ impl<A: Allocator + Copy> Link<A> {
         requires { IsOnce id id (open_set self.now) }
         ensures { result ≡ standing_of id (open_set self.now) }
     {
-        let ids = one(id);
-        let hints = self.deliveries.locate(key, ids);
-        self.deliveries.standing_by(hints, id)
+        self.deliveries.standing_at(key, id)
     }
 
     /// [`Link::settle`] of the delivery with this id, which may be kept under this key, if it awaits that: it can then be
     /// settled, and no other open delivery of the link has the id. Else nothing changes. Answers how it stood.
+    // For `telemetry` and `gateway` (docs/PERF.md).
+    #[inline(always)]
     pub fn settle_at(&mut self, key: usize, id: u32) -> Standing
         requires once { IsOnce id id (open_set self.old) }
         requires faultless { IsAwaiting (standing_of id (open_set self.old)) → settle_fault id id (open_set self.old) ≡ None }
@@ -355,13 +325,7 @@ impl<A: Allocator + Copy> Link<A> {
         ensures new { IsAwaiting result → self.new ≡ link_after self.old (ReceiverSettled id id) }
         ensures same { ¬ (IsAwaiting result) → self.new ≡ self.old }
     {
-        let ids = one(id);
-        let hints = self.deliveries.locate(key, ids);
-        let standing = self.deliveries.standing_by(hints, id);
-        if let Standing::Awaiting(_) = standing {
-            self.settle_by(hints, ids);
-        }
-        standing
+        self.deliveries.settle_at(key, id)
     }
 
     /// [`Link::peer_settled`] of the delivery with this id, which may be kept under this key. No other open
@@ -372,9 +336,7 @@ impl<A: Allocator + Copy> Link<A> {
         ensures count { result ≡ newly_settled id id (open_set self.old) }
         ensures most { result ≤ open_count self.old }
     {
-        let ids = one(id);
-        let hints = self.deliveries.locate(key, ids);
-        self.peer_settled_by(hints, ids)
+        self.deliveries.peer_settled_at(key, id) as u32
     }
 
     /// Takes a transfer and its payload [2.6.14]. A refused one changes nothing. The faults are looked
@@ -399,7 +361,6 @@ impl<A: Allocator + Copy> Link<A> {
 
     /// [`Link::transfer`] of a transfer in which [`Link::judge`] finds no fault now, and which is not judged again. Nothing
     /// is then refused but for want of memory.
-    #[inline(always)]
     pub fn transfer_judged(
         &mut self,
         transfer: &Transfer<'_>,
@@ -413,49 +374,87 @@ impl<A: Allocator + Copy> Link<A> {
         ensures err { OnErr result (self.new ≡ self.old) }
     {
         let begins = self.next_is_head();
-        apply(
-            self.alloc,
-            &mut self.deliveries,
-            &self.terms,
-            transfer,
-            payload,
-        )?;
+        let step = apply(&mut self.deliveries, &self.terms, transfer, payload)?;
         if begins {
             self.credit -= 1;
             self.delivery_count = self.delivery_count.wrapping_add(1);
         }
-        Ok(judge::step(transfer))
+        Ok(step)
     }
 
     /// The fault with which [`Link::transfer`] would refuse a transfer and its payload now, but for want of memory;
     /// `None` where it would find none. Takes no memory.
-    #[inline(always)]
     pub fn judge(&self, transfer: &Transfer<'_>, payload: &[u8]) -> Option<LinkFault>
         ensures { result ≡ fault_of self.now (sent_of transfer.now payload.now) }
     {
-        let unfinished = self.deliveries.unfinished();
+        match self.verdict(false, transfer, payload) {
+            Verdict::Fails(fault) => Some(fault),
+            Verdict::Begins(_) => None,
+            Verdict::GoesOn => None,
+            Verdict::Passes => None,
+            Verdict::GivesUp(_) => None,
+        }
+    }
+
+    /// What a transfer and its payload come to now [2.6.14], but for want of memory, where `known` says whether an open
+    /// delivery of the session has the id that the transfer states: none begins under that [2.6.12]. It is refused by the
+    /// first fault in the order of [`Link::transfer`]; a known id is one of the malformed fields. Where a delivery is unfinished
+    /// `known` makes no difference. Takes no memory.
+    pub fn verdict(&self, known: bool, transfer: &Transfer<'_>, payload: &[u8]) -> Verdict
+        ensures { IsVerdict known self.now (sent_of transfer.now payload.now) result }
+    {
         if transfer.resume {
-            return Some(LinkFault::NotImplemented);
+            return Verdict::Fails(LinkFault::NotImplemented);
         }
-        let formed = match unfinished {
-            None => judge::is_formed_head(&self.terms, transfer),
-            Some(delivery) => judge::is_formed_continuation(delivery, transfer),
-        };
-        if !formed {
-            return Some(LinkFault::InvalidField);
+        match self.deliveries.unfinished() {
+            None => self.verdict_of_head(known, transfer, payload),
+            Some(delivery) => self.verdict_of_part(delivery, transfer, payload),
         }
-        if unfinished.is_none() && self.credit == 0 {
-            return Some(LinkFault::TransferLimit);
+    }
+
+    /// [`Link::verdict`] of one that begins a delivery.
+    fn verdict_of_head(&self, known: bool, transfer: &Transfer<'_>, payload: &[u8]) -> Verdict
+        requires none { self.now.unfinished ≡ None }
+        requires anew { IsFalse transfer.now.resume }
+        ensures { IsVerdict known self.now (sent_of transfer.now payload.now) result }
+    {
+        if known || !is_formed_head(&self.terms, transfer) {
+            return Verdict::Fails(LinkFault::InvalidField);
         }
-        let before = match unfinished {
-            None => 0,
-            Some(delivery) => delivery.message.len(),
-        };
+        if self.credit == 0 {
+            return Verdict::Fails(LinkFault::TransferLimit);
+        }
+        if transfer.aborted {
+            return Verdict::Passes;
+        }
+        if is_above(0, payload.len(), self.terms.bounds.max_message_size()) {
+            return Verdict::Fails(LinkFault::MessageSize);
+        }
+        Verdict::Begins(self.deliveries.next_key())
+    }
+
+    /// [`Link::verdict`] of one that belongs to this delivery, which is unfinished.
+    fn verdict_of_part(
+        &self,
+        delivery: &OpenDelivery<A>,
+        transfer: &Transfer<'_>,
+        payload: &[u8],
+    ) -> Verdict
+        requires unfinished { self.now.unfinished ≡ Some (delivery_of delivery.now) }
+        requires anew { IsFalse transfer.now.resume }
+        ensures { (known : Bool) → IsVerdict known self.now (sent_of transfer.now payload.now) result }
+    {
+        if !is_formed_continuation(delivery, transfer) {
+            return Verdict::Fails(LinkFault::InvalidField);
+        }
+        if transfer.aborted {
+            return Verdict::GivesUp(delivery.delivery_id);
+        }
         let most = self.terms.bounds.max_message_size();
-        if !transfer.aborted && judge::is_above(before, payload.len(), most) {
-            return Some(LinkFault::MessageSize);
+        if is_above(delivery.message.len(), payload.len(), most) {
+            return Verdict::Fails(LinkFault::MessageSize);
         }
-        None
+        Verdict::GoesOn
     }
 
     /// Drops the link with its open deliveries, and answers how many were ready and not handed up. The link's
@@ -471,81 +470,73 @@ impl<A: Allocator + Copy> Link<A> {
 // For `telemetry` and `gateway` (docs/PERF.md).
 #[inline(always)]
 fn apply<A: Allocator + Copy>(
-    alloc: A,
     deliveries: &mut OpenDeliveries<A>,
     terms: &Terms,
     transfer: &Transfer<'_>,
     payload: &[u8],
-) -> Result<(), AllocError>
+) -> Result<Step, AllocError>
     requires tag { is_none deliveries.old.unfinished ≡ true → IfSome transfer.now.delivery_tag (λ tag. length tag.now ≤ 32) }
     requires fits { IsFalse transfer.now.aborted → set_bytes deliveries.old + 96 + length payload.now < 2 ^ 64 }
     ensures ok { OnOk result (deliveries.new ≡ with_delivery deliveries.old (sent_of transfer.now payload.now) (delivery_after terms.now deliveries.old.unfinished (sent_of transfer.now payload.now))) }
+    ensures step { IfOk result (λ step. step ≡ step_of (sent_of transfer.now payload.now)) }
     ensures err { OnErr result (deliveries.new ≡ deliveries.old) }
     ensures grows { OnErr result (may_grow_at deliveries.old.unfinished (sent_of transfer.now payload.now) ≡ true) }
 {
     if transfer.aborted {
         deliveries.discard();
-        return Ok(());
+        return Ok(Step::Aborted);
     }
-    if deliveries.has_unfinished() {
-        deliveries.extend(judge::is_settled(transfer), payload)?;
-    } else {
-        begin(alloc, deliveries, terms, transfer, payload)?;
+    if !deliveries.has_unfinished() {
+        return deliveries.begin(terms, transfer, payload);
     }
-    if !transfer.more {
-        deliveries.finish();
+    deliveries.extend(is_settled(transfer), payload)?;
+    if transfer.more {
+        return Ok(Step::Unfinished);
     }
-    Ok(())
+    deliveries.finish();
+    Ok(Step::Ready)
 }
 
-/// A delivery begins, with the transfer's payload. Memory for it and its place is taken before the payload is copied: where it
-/// is refused no work has grown with the payload.
-// For `telemetry` and `gateway` (docs/PERF.md).
-#[inline(always)]
-fn begin<A: Allocator + Copy>(
-    alloc: A,
-    deliveries: &mut OpenDeliveries<A>,
-    terms: &Terms,
-    transfer: &Transfer<'_>,
-    payload: &[u8],
-) -> Result<(), AllocError>
-    requires none { deliveries.old.unfinished ≡ None }
-    requires tag { IfSome transfer.now.delivery_tag (λ tag. length tag.now ≤ 32) }
-    requires whole { IsFalse transfer.now.aborted }
-    requires fits { set_bytes deliveries.old + 96 + length payload.now < 2 ^ 64 }
-    ensures ok { OnOk result (deliveries.new ≡ record deliveries.old { unfinished = Some (spec.begun terms.now (sent_of transfer.now payload.now)) }) }
-    ensures err { OnErr result (deliveries.new ≡ deliveries.old) }
+/// Whether a transfer is well formed as the first of a delivery.
+fn is_formed_head(terms: &Terms, transfer: &Transfer<'_>) -> bool
+    ensures { result ≡ spec.is_formed_head terms.now (sent_of transfer.now []) }
 {
-    deliveries.make_room()?;
-    let message = Message::of(alloc, payload)?;
-    deliveries.begin(begun(terms, transfer, message))
-}
-
-/// The delivery that a transfer begins, with these bytes.
-// For `telemetry` and `gateway` (docs/PERF.md).
-#[inline(always)]
-fn begun<A: Allocator + Copy>(
-    terms: &Terms,
-    transfer: &Transfer<'_>,
-    message: Message<A>,
-) -> OpenDelivery<A>
-    requires tag { IfSome transfer.now.delivery_tag (λ tag. length tag.now ≤ 32) }
-    requires whole { IsFalse transfer.now.aborted }
-    ensures { delivery_of result ≡ spec.begun terms.now (sent_of transfer.now message) }
-{
-    let settled = judge::is_settled(transfer);
-    let rcv_settle_mode = match transfer.rcv_settle_mode {
-        Some(mode) if !settled => mode,
-        _ => terms.rcv_settle_mode,
+    let tagged = match transfer.delivery_tag {
+        None => false,
+        Some(tag) => tag.len() <= MAX_TAG,
     };
-    OpenDelivery {
-        delivery_id: transfer.delivery_id.unwrap_or(0),
-        delivery_tag: Tag::new(transfer.delivery_tag.unwrap_or(&[])),
-        message_format: transfer.message_format.unwrap_or(0),
-        rcv_settle_mode,
-        settled,
-        told: false,
-        message,
-        place: 0,
-    }
+    let mode = is_settled(transfer)
+        || !(matches!(terms.rcv_settle_mode, ReceiverSettleMode::First)
+            && matches!(transfer.rcv_settle_mode, Some(ReceiverSettleMode::Second)));
+    transfer.delivery_id.is_some() && tagged && mode
+}
+
+/// Whether a transfer is well formed as a later one of this delivery.
+fn is_formed_continuation<A: Allocator + Copy>(
+    delivery: &OpenDelivery<A>,
+    transfer: &Transfer<'_>,
+) -> bool
+    ensures { result ≡ spec.is_formed_continuation (delivery_of delivery.now) (sent_of transfer.now []) }
+{
+    let id = match transfer.delivery_id {
+        None => true,
+        Some(id) => delivery.delivery_id == id,
+    };
+    let tag = match transfer.delivery_tag {
+        None => true,
+        Some(tag) => tag == delivery.delivery_tag.as_bytes(),
+    };
+    let format = match transfer.message_format {
+        None => true,
+        Some(format) => delivery.message_format == format,
+    };
+    id && tag && format
+}
+
+/// Whether `a + b` is above `most`.
+fn is_above(a: usize, b: usize, most: u32) -> bool
+    ensures { result ≡ nat_lt most (a + b) }
+{
+    let most = most as usize;
+    a > most || b > most - a
 }

@@ -1,13 +1,21 @@
 //! The open deliveries of a link.
-ghost use Rattle.std.specs.Prelude.{◌≡◌, ◌≤◌, ◌<◌, ◌+◌, ◌^◌, ◌||◌, ◌++◌, ◌∷◌, [], List, length, drop, slice_get, OnOk, OnErr, IfSome, IfNone, IsOk, is_some, option_map, option_to_list, Some, None, true, find, map, count_by, not, ◌&&◌};
+ghost use Rattle.std.specs.Prelude.{◌≡◌, ◌≤◌, ◌<◌, ◌+◌, ◌^◌, ◌||◌, ◌++◌, ◌∷◌, [], length, slice_get, OnOk, OnErr, IfOk, IfSome, IfNone, IsOk, IsSomeAnd, IsFalse, IsTrue, is_some, option_map, option_to_list, Some, None, find, map, count_by, not, ◌&&◌};
 ghost use Rattle.std.specs.List.{list_any};
-ghost use Rattle.amqp_link.specs.Links.{Delivery, OpenSet, in_order, set_bytes, delivery_bytes, left_open, has_id, how_many, untaken, is_covered, IsOnce, sender_settled_by, names_untaken, names_told, named_count, newly_settled, receiver_settled_in, sender_settled_in, standing_of};
-ghost use Rattle.amqp_link.specs.Keeping.{delivery_of, asks_of, counts, settled_list, AreHints, IsHint};
+ghost use Rattle.amqp_link.specs.Links.{Delivery, OpenSet, sent_of, step_of, with_delivery, in_order, set_bytes, has_id, how_many, untaken, is_covered, IsOnce, sender_settled_by, names_untaken, names_told, named_count, newly_settled, receiver_settled_in, sender_settled_in, standing_of, IsAwaiting};
+ghost use Rattle.amqp_link.specs.Links as spec;
+ghost use Rattle.amqp_link.specs.HandedUps.{IsHandedUp};
+ghost use Rattle.amqp_link.specs.Keeping.{delivery_of, taken_from, asks_of, counts, settled_list};
 
-use crate::open_delivery::{Hint, Hints, Ids, OpenDelivery, Question, Settler, Settling, UNKNOWN};
+use crate::link::Taken;
+use crate::message::Message;
+use crate::open_delivery::{Ids, OpenDelivery, Question, Settler, Settling};
 use crate::open_ids::OpenIds;
-use crate::places;
+use crate::places::{self, Found};
 use crate::settlement::Standing;
+use crate::tag::Tag;
+use crate::terms::Terms;
+use crate::transfer::{Step, is_settled};
+use amqp_perform::Transfer;
 use slab::Slab;
 use std::alloc::{AllocError, Allocator, Global};
 use std::marker::Model;
@@ -58,29 +66,35 @@ impl<A: Allocator + Copy> OpenDeliveries<A> {
         }
     }
 
-    /// Makes room for one more and for its place among the others, so that the next one that begins takes no memory here.
-    pub fn make_room(&mut self) -> Result<(), AllocError>
-        ensures { self.new ≡ self.old }
-    {
-        self.slab.reserve(1)?;
-        self.order.reserve(1)
-    }
-
-    /// A delivery begins. All the memory that it needs is taken before anything changes: that for it, and for its place
-    /// among the others.
-    // For `telemetry` and `gateway` (docs/PERF.md).
-    #[inline(always)]
-    pub fn begin(&mut self, delivery: OpenDelivery<A>) -> Result<(), AllocError>
+    /// A delivery begins with the payload of a first transfer, and is ready unless more is to come. All the memory that it needs
+    /// is taken before anything changes: that for it, for its place among the others, and then for the payload, so that where
+    /// one of the first two is refused no work has grown with the payload.
+    pub fn begin(
+        &mut self,
+        terms: &Terms,
+        transfer: &Transfer<'_>,
+        payload: &[u8],
+    ) -> Result<Step, AllocError>
         requires none { self.old.unfinished ≡ None }
-        requires fits { set_bytes self.old + delivery_bytes (delivery_of delivery) < 2 ^ 64 }
-        ensures ok { OnOk result (self.new ≡ record self.old { unfinished = Some (delivery_of delivery) }) }
+        requires tag { IfSome transfer.now.delivery_tag (λ tag. length tag.now ≤ 32) }
+        requires whole { IsFalse transfer.now.aborted }
+        requires fits { set_bytes self.old + 96 + length payload.now < 2 ^ 64 }
+        ensures ok { OnOk result (self.new ≡ with_delivery self.old (sent_of transfer.now payload.now) (spec.begun terms.now (sent_of transfer.now payload.now))) }
+        ensures step { IfOk result (λ step. step ≡ step_of (sent_of transfer.now payload.now)) }
         ensures err { OnErr result (self.new ≡ self.old) }
     {
         self.slab.reserve(1)?;
         self.order.reserve(1)?;
+        let message = Message::of(self.alloc, payload)?;
+        let delivery = begun(terms, transfer, message, self.order.len());
         self.bytes += delivery.bytes();
-        self.unfinished = Some(self.slab.insert_reserved(delivery));
-        Ok(())
+        let key = self.slab.insert_reserved(delivery);
+        if transfer.more {
+            self.unfinished = Some(key);
+            return Ok(Step::Unfinished);
+        }
+        self.order.push_reserved(Some(key));
+        Ok(Step::Ready)
     }
 
     /// One transfer more of the delivery that is unfinished.
@@ -119,25 +133,37 @@ impl<A: Allocator + Copy> OpenDeliveries<A> {
         }
     }
 
-    /// The first ready delivery, with its message moved out. It stays open unless it is settled.
-    pub fn take(&mut self) -> Option<OpenDelivery<A>>
+    /// Hands up the first ready delivery. It stays open, without its message, unless it is settled.
+    // For `telemetry` and `gateway` (docs/PERF.md).
+    #[inline(always)]
+    pub fn take(&mut self) -> Option<Taken<A>>
         ensures none { IfNone result ((slice_get self.old.ready 0 ≡ None) × (self.new ≡ self.old)) }
-        ensures first { IfSome result (λ delivery. slice_get self.old.ready 0 ≡ Some (delivery_of delivery)) }
-        ensures some { IfSome result (λ delivery. self.new ≡ record self.old { awaiting = self.old.awaiting ++ left_open (delivery_of delivery); ready = drop 1 self.old.ready }) }
+        ensures some { IfSome result (λ taken. IsSomeAnd (slice_get self.old.ready 0) (λ d. IsHandedUp taken d × (self.new ≡ taken_from d self.old))) }
     {
         let key = (*self.order.get(self.handed_up)?)?;
         if self.slab[key].settled {
-            self.order[self.handed_up] = None;
-            self.handed_up += 1;
-            let delivery = self.slab.remove(key);
-            self.bytes -= delivery.bytes();
-            places::close_up(&mut self.slab, &mut self.order, &mut self.handed_up);
-            return Some(delivery);
+            return self.take_settled();
         }
+        let taken = self.slab[key].hand_up(self.alloc);
         self.handed_up += 1;
-        let delivery = self.slab[key].hand_up(self.alloc);
-        self.bytes -= delivery.message.size();
-        Some(delivery)
+        self.bytes -= taken.message.size();
+        Some(taken)
+    }
+
+    /// [`OpenDeliveries::take`] of one that is settled, which is then open no longer.
+    #[inline(never)]
+    fn take_settled(&mut self) -> Option<Taken<A>>
+        requires { IfSome (slice_get self.old.ready 0) (λ d. IsTrue d.settled) }
+        ensures none { IfNone result ((slice_get self.old.ready 0 ≡ None) × (self.new ≡ self.old)) }
+        ensures some { IfSome result (λ taken. IsSomeAnd (slice_get self.old.ready 0) (λ d. IsHandedUp taken d × (self.new ≡ taken_from d self.old))) }
+    {
+        let key = (*self.order.get(self.handed_up)?)?;
+        self.order[self.handed_up] = None;
+        self.handed_up += 1;
+        let mut delivery = self.slab.remove(key);
+        self.bytes -= delivery.bytes();
+        places::close_up(&mut self.slab, &mut self.order, &mut self.handed_up);
+        Some(delivery.hand_up(self.alloc))
     }
 
     /// The bytes that count as kept of all open deliveries. All fields are named, so that a new one is listed here.
@@ -243,7 +269,14 @@ impl<A: Allocator + Copy> OpenDeliveries<A> {
     pub fn standing(&self, id: u32) -> Standing
         ensures { result ≡ standing_of id self.now }
     {
-        self.standing_by(UNKNOWN, id)
+        let question = Question::HasId(id);
+        if self.is_untaken(question) {
+            return Standing::Untaken;
+        }
+        match self.find_handed_up(question) {
+            None => Standing::Absent,
+            Some(delivery) => delivery.standing(),
+        }
     }
 
     /// Whether one that was not handed up has one of these ids.
@@ -265,103 +298,126 @@ impl<A: Allocator + Copy> OpenDeliveries<A> {
         self.slab.vacant_key()
     }
 
-    /// Where the delivery stands that has one of these ids, of which the key may be this one: it is looked for there.
-    #[inline(always)]
-    pub fn locate(&self, key: usize, ids: Ids) -> Hints
-        requires { IsOnce ids.first ids.last self.now }
-        ensures { AreHints result ids.first ids.last self.now }
-    {
-        let named = Question::IsCovered(ids);
-        if self.is_unfinished(named) {
-            return Hints {
-                handed_up: Hint::Nowhere,
-                ready: Hint::Nowhere,
-            };
-        }
-        let place = self.place_under(key);
-        if place < self.handed_up && self.is_handed_up_at(place, named) {
-            return Hints {
-                handed_up: Hint::At(place),
-                ready: Hint::Nowhere,
-            };
-        }
-        if place >= self.handed_up && self.is_ready_at(place - self.handed_up, named) {
-            return Hints {
-                handed_up: Hint::Nowhere,
-                ready: Hint::At(place - self.handed_up),
-            };
-        }
-        UNKNOWN
-    }
-
-    /// The place that the delivery under a key was told.
-    fn place_under(&self, key: usize) -> usize {
-        match self.slab.get(key) {
-            Some(delivery) => delivery.place,
-            None => 0,
-        }
-    }
-
-    /// Whether one that was handed up answers a question by yes, that at a place.
-    fn is_handed_up_at(&self, place: usize, question: Question) -> bool
-        ensures { result ≡ true → list_any (asks_of question) self.now.awaiting ≡ true }
-    {
-        places::is_answering(&self.slab, &self.order[..self.handed_up], place, question)
-    }
-
-    /// The same of one that is ready.
-    fn is_ready_at(&self, place: usize, question: Question) -> bool
-        ensures { result ≡ true → list_any (asks_of question) self.now.ready ≡ true }
-    {
-        places::is_answering(&self.slab, &self.order[self.handed_up..], place, question)
-    }
-
-    /// How the delivery with this id stands, of which this is known.
-    #[inline(always)]
-    pub fn standing_by(&self, hints: Hints, id: u32) -> Standing
-        requires { AreHints hints id id self.now }
+    /// How the delivery with this id stands, which may be kept under this key. No other has the id.
+    pub fn standing_at(&self, key: usize, id: u32) -> Standing
+        requires { IsOnce id id self.now }
         ensures { result ≡ standing_of id self.now }
     {
-        if self.is_untaken_by(hints.ready, id) {
-            return Standing::Untaken;
+        match places::look(
+            &self.slab,
+            &self.order,
+            self.handed_up,
+            self.unfinished,
+            key,
+            id,
+        ) {
+            Found::HandedUp(_) => self.slab[key].standing(),
+            Found::Ready(_) => Standing::Untaken,
+            Found::Unfinished => Standing::Untaken,
+            Found::Unknown => self.standing(id),
         }
-        match self.find_handed_up_by(hints.handed_up, id) {
-            None => Standing::Absent,
-            Some(delivery) if delivery.told => Standing::Told,
-            Some(delivery) => Standing::Awaiting(delivery.rcv_settle_mode),
+    }
+
+    /// The receiver settles the delivery with this id, which may be kept under this key, or tells of it, if it awaits that.
+    /// No other has the id. Answers how it stood.
+    pub fn settle_at(&mut self, key: usize, id: u32) -> Standing
+        requires { IsOnce id id self.old }
+        ensures standing { result ≡ standing_of id self.old }
+        ensures new { IsAwaiting result → self.new ≡ receiver_settled_in id id self.old }
+        ensures same { ¬ (IsAwaiting result) → self.new ≡ self.old }
+    {
+        match places::look(
+            &self.slab,
+            &self.order,
+            self.handed_up,
+            self.unfinished,
+            key,
+            id,
+        ) {
+            Found::HandedUp(place) => {
+                let delivery = &self.slab[key];
+                if delivery.told {
+                    return Standing::Told;
+                }
+                let mode = delivery.rcv_settle_mode;
+                let settling = Settling {
+                    settler: Settler::Receiver,
+                    ids: Ids {
+                        first: id,
+                        last: id,
+                    },
+                };
+                let settled = places::settle_at(&mut self.slab, &mut self.order[place], settling);
+                self.bytes -= settled.freed;
+                places::close_up(&mut self.slab, &mut self.order, &mut self.handed_up);
+                Standing::Awaiting(mode)
+            }
+            Found::Ready(_) => Standing::Untaken,
+            Found::Unfinished => Standing::Untaken,
+            Found::Unknown => self.settle_anywhere(id),
         }
     }
 
-    /// Whether one that was not handed up has the id, where this is known of those that are ready.
-    fn is_untaken_by(&self, hint: Hint, id: u32) -> bool
-        requires { IsHint hint id id self.now.ready }
-        ensures { result ≡ list_any (has_id id) (untaken self.now) }
+    /// [`OpenDeliveries::settle_at`] where one look found nothing.
+    #[inline(never)]
+    fn settle_anywhere(&mut self, id: u32) -> Standing
+        ensures standing { result ≡ standing_of id self.old }
+        ensures new { IsAwaiting result → self.new ≡ receiver_settled_in id id self.old }
+        ensures same { ¬ (IsAwaiting result) → self.new ≡ self.old }
     {
-        self.find_ready_by(hint, id).is_some() || self.is_unfinished(Question::HasId(id))
+        let standing = self.standing(id);
+        if let Standing::Awaiting(_) = standing {
+            self.settle_by_receiver(Ids {
+                first: id,
+                last: id,
+            });
+        }
+        standing
     }
 
-    /// The first that was handed up and has the id, of which this is known.
-    // For `telemetry` and `gateway` (docs/PERF.md).
-    #[inline(always)]
-    fn find_handed_up_by(&self, hint: Hint, id: u32) -> Option<&OpenDelivery<A>>
-        requires { IsHint hint id id self.now.awaiting }
-        ensures { option_map (λ d. delivery_of d.now) result ≡ find (has_id id) self.now.awaiting }
+    /// The sender settles the delivery with this id, which may be kept under this key. No other has the id. Answers how many
+    /// it settles that were not settled.
+    pub fn peer_settled_at(&mut self, key: usize, id: u32) -> usize
+        requires { IsOnce id id self.old }
+        ensures count { result ≡ newly_settled id id self.old }
+        ensures new { self.new ≡ sender_settled_in id id self.old }
     {
-        places::find_by(&self.slab, &self.order[..self.handed_up], hint, id)
+        let ids = Ids {
+            first: id,
+            last: id,
+        };
+        match places::look(
+            &self.slab,
+            &self.order,
+            self.handed_up,
+            self.unfinished,
+            key,
+            id,
+        ) {
+            Found::HandedUp(place) => {
+                let settling = Settling {
+                    settler: Settler::SenderOfHandedUp,
+                    ids,
+                };
+                let settled = places::settle_at(&mut self.slab, &mut self.order[place], settling);
+                self.bytes -= settled.freed;
+                places::close_up(&mut self.slab, &mut self.order, &mut self.handed_up);
+                settled.count
+            }
+            Found::Ready(_) => {
+                let settling = Settling {
+                    settler: Settler::SenderOfUntaken,
+                    ids,
+                };
+                places::settle_at(&mut self.slab, &mut Some(key), settling).count
+            }
+            Found::Unfinished => self.settle_unfinished(ids),
+            Found::Unknown => self.settle_by_sender(ids),
+        }
     }
 
-    /// The first that is ready and has the id, of which this is known.
-    fn find_ready_by(&self, hint: Hint, id: u32) -> Option<&OpenDelivery<A>>
-        requires { IsHint hint id id self.now.ready }
-        ensures { option_map (λ d. delivery_of d.now) result ≡ find (has_id id) self.now.ready }
-    {
-        places::find_by(&self.slab, &self.order[self.handed_up..], hint, id)
-    }
-
-    /// The receiver settles these ids, or tells of them, where this is known of them. Answers how many deliveries
-    /// have one.
-    pub fn settle_by_receiver(&mut self, hints: Hints, ids: Ids) -> usize
-        requires { AreHints hints ids.first ids.last self.old }
+    /// The receiver settles these ids, or tells of them. Answers how many deliveries have one.
+    pub fn settle_by_receiver(&mut self, ids: Ids) -> usize
         ensures count { result ≡ named_count ids.first ids.last self.old }
         ensures new { self.new ≡ receiver_settled_in ids.first ids.last self.old }
     {
@@ -369,12 +425,11 @@ impl<A: Allocator + Copy> OpenDeliveries<A> {
             settler: Settler::Receiver,
             ids,
         };
-        self.settle_handed_up(hints.handed_up, settling)
+        self.settle_handed_up(settling)
     }
 
-    /// The sender settles these ids, where this is known of them. Answers how many deliveries it settles that were not.
-    pub fn settle_by_sender(&mut self, hints: Hints, ids: Ids) -> usize
-        requires { AreHints hints ids.first ids.last self.old }
+    /// The sender settles these ids. Answers how many deliveries it settles that were not.
+    pub fn settle_by_sender(&mut self, ids: Ids) -> usize
         ensures count { result ≡ newly_settled ids.first ids.last self.old }
         ensures new { self.new ≡ sender_settled_in ids.first ids.last self.old }
     {
@@ -382,29 +437,25 @@ impl<A: Allocator + Copy> OpenDeliveries<A> {
             settler: Settler::SenderOfHandedUp,
             ids,
         };
-        let handed_up = self.settle_handed_up(hints.handed_up, settling);
-        handed_up + self.settle_ready(hints.ready, ids) + self.settle_unfinished(ids)
+        let handed_up = self.settle_handed_up(settling);
+        handed_up + self.settle_ready(ids) + self.settle_unfinished(ids)
     }
 
     /// Settles those that were handed up.
-    // For `telemetry` and `gateway` (docs/PERF.md).
-    #[inline(always)]
-    fn settle_handed_up(&mut self, hint: Hint, settling: Settling) -> usize
-        requires { IsHint hint settling.ids.first settling.ids.last self.old.awaiting }
+    fn settle_handed_up(&mut self, settling: Settling) -> usize
         ensures count { result ≡ count_by (counts settling) self.old.awaiting }
         ensures new { self.new ≡ record self.old { awaiting = settled_list settling self.old.awaiting } }
         ensures fits { how_many self.old < 2 ^ 63 }
     {
         let handed_up = self.order.slice_mut(..self.handed_up);
-        let settled = places::settle(&mut self.slab, handed_up, hint, settling);
+        let settled = places::settle(&mut self.slab, handed_up, settling);
         self.bytes -= settled.freed;
         places::close_up(&mut self.slab, &mut self.order, &mut self.handed_up);
         settled.count
     }
 
     /// The sender settles those that are ready. They stay open.
-    fn settle_ready(&mut self, hint: Hint, ids: Ids) -> usize
-        requires { IsHint hint ids.first ids.last self.old.ready }
+    fn settle_ready(&mut self, ids: Ids) -> usize
         ensures count { result ≡ count_by (λ d. not d.settled && is_covered ids.first ids.last d) self.old.ready }
         ensures new { self.new ≡ record self.old { ready = map (sender_settled_by ids.first ids.last) self.old.ready } }
     {
@@ -413,7 +464,7 @@ impl<A: Allocator + Copy> OpenDeliveries<A> {
             settler: Settler::SenderOfUntaken,
             ids,
         };
-        places::settle(&mut self.slab, ready, hint, settling).count
+        places::settle(&mut self.slab, ready, settling).count
     }
 
     /// The sender settles the one that is unfinished. It stays open.
@@ -426,5 +477,33 @@ impl<A: Allocator + Copy> OpenDeliveries<A> {
             ids,
         };
         places::settle_at(&mut self.slab, &mut self.unfinished, settling).count
+    }
+}
+
+/// The delivery that a transfer begins, with these bytes, whose place would be this one.
+fn begun<A: Allocator + Copy>(
+    terms: &Terms,
+    transfer: &Transfer<'_>,
+    message: Message<A>,
+    place: usize,
+) -> OpenDelivery<A>
+    requires tag { IfSome transfer.now.delivery_tag (λ tag. length tag.now ≤ 32) }
+    requires whole { IsFalse transfer.now.aborted }
+    ensures { delivery_of result ≡ spec.begun terms.now (sent_of transfer.now message) }
+{
+    let settled = is_settled(transfer);
+    let rcv_settle_mode = match transfer.rcv_settle_mode {
+        Some(mode) if !settled => mode,
+        _ => terms.rcv_settle_mode,
+    };
+    OpenDelivery {
+        delivery_id: transfer.delivery_id.unwrap_or(0),
+        delivery_tag: Tag::new(transfer.delivery_tag.unwrap_or(&[])),
+        message_format: transfer.message_format.unwrap_or(0),
+        rcv_settle_mode,
+        settled,
+        told: false,
+        message,
+        place,
     }
 }

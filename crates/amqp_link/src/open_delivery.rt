@@ -1,9 +1,12 @@
 //! What is held of one delivery that is open, and what a settle does to it.
-ghost use Rattle.std.specs.Prelude.{◌≡◌, ◌||◌, ◌++◌, [], not, OnOk, OnErr, IsOk};
-ghost use Rattle.amqp_link.specs.Links.{delivery_bytes, is_first};
+ghost use Rattle.std.specs.Prelude.{◌≡◌, ◌||◌, ◌++◌, [], not, OnOk, OnErr, IsOk, Some};
+ghost use Rattle.amqp_link.specs.Links.{delivery_bytes, is_first, standing_at};
+ghost use Rattle.amqp_link.specs.HandedUps.{IsHandedUp};
 ghost use Rattle.amqp_link.specs.Keeping.{delivery_of, asks_of, ends, turned, counts};
 
+use crate::link::Taken;
 use crate::message::Message;
+use crate::settlement::Standing;
 use crate::tag::Tag;
 use amqp_perform::ReceiverSettleMode;
 use amqp_serial::Serial;
@@ -32,41 +35,6 @@ pub struct Ids {
     pub first: u32,
     pub last: u32,
 }
-
-/// One id.
-pub fn one(id: u32) -> Ids
-    ensures first { result.first ≡ id }
-    ensures last { result.last ≡ id }
-{
-    Ids {
-        first: id,
-        last: id,
-    }
-}
-
-/// What is known of where a delivery stands, of which alone a settle may speak.
-#[derive(Clone, Copy)]
-pub enum Hint {
-    /// Nothing.
-    Unknown,
-    /// Elsewhere: it is none of these.
-    Nowhere,
-    /// It may stand at this place: that is looked at.
-    At(usize),
-}
-
-/// The same of those that were handed up, and of those that are ready.
-#[derive(Clone, Copy)]
-pub struct Hints {
-    pub handed_up: Hint,
-    pub ready: Hint,
-}
-
-/// Nothing is known.
-pub const UNKNOWN: Hints = Hints {
-    handed_up: Hint::Unknown,
-    ready: Hint::Unknown,
-};
 
 /// What is asked of a delivery.
 #[derive(Clone, Copy)]
@@ -126,20 +94,19 @@ impl<A: Allocator + Copy> OpenDelivery<A> {
         Ok(())
     }
 
-    /// Moves the message out, and leaves none.
-    pub fn hand_up(&mut self, alloc: A) -> OpenDelivery<A>
-        ensures result { delivery_of result ≡ delivery_of self.old }
+    /// Hands it up: its message is moved out, and none is left.
+    // For `telemetry` and `gateway` (docs/PERF.md).
+    #[inline(always)]
+    pub fn hand_up(&mut self, alloc: A) -> Taken<A>
+        ensures taken { IsHandedUp result (delivery_of self.old) }
         ensures left { delivery_of self.new ≡ record (delivery_of self.old) { message = [] } }
     {
-        OpenDelivery {
+        Taken {
             delivery_id: self.delivery_id,
             delivery_tag: self.delivery_tag,
             message_format: self.message_format,
-            rcv_settle_mode: self.rcv_settle_mode,
             settled: self.settled,
-            told: self.told,
             message: mem::replace(&mut self.message, Message::new(alloc)),
-            place: self.place,
         }
     }
 
@@ -148,6 +115,17 @@ impl<A: Allocator + Copy> OpenDelivery<A> {
         ensures { delivery_of self.new ≡ delivery_of self.old }
     {
         self.place = place;
+    }
+
+    /// How it stands, if it was handed up.
+    pub fn standing(&self) -> Standing
+        ensures { result ≡ standing_at (Some (delivery_of self.now)) }
+    {
+        if self.told {
+            Standing::Told
+        } else {
+            Standing::Awaiting(self.rcv_settle_mode)
+        }
     }
 
     /// Whether it has one of the ids.

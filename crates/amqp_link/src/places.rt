@@ -1,16 +1,29 @@
 //! The places of deliveries in link order, each with the key of its delivery, or empty.
-ghost use Rattle.std.specs.Prelude.{◌≡◌, ◌<◌, ◌≤◌, ◌+◌, ◌*◌, ◌^◌, ◌∷◌, [], length, drop, find, map, option_map, option_to_list, slice_get, sum_by, vec_capacity, IsSome, is_some};
+ghost use Rattle.std.specs.Prelude.{◌≡◌, ◌<◌, ◌≤◌, ◌+◌, ◌*◌, ◌^◌, ◌∷◌, [], length, drop, find, map, option_map, option_to_list, slice_get, sum_by, vec_capacity, IsSome, IsTrue, Some};
 ghost use Rattle.std.specs.List.{AllByRecursion};
 ghost use Rattle.slab.specs.Slab.{ContainsKey, slab_len};
-ghost use Rattle.amqp_link.specs.Links.{delivery_bytes, has_id};
-ghost use Rattle.amqp_link.specs.Keeping.{delivery_of, at_key, keys_of, AreKeys, SameKeys, SameDeliveries, asks_of, answer_at, IsHint, Settles};
+ghost use Rattle.amqp_link.specs.Links.{delivery_bytes};
+ghost use Rattle.amqp_link.specs.Keeping.{delivery_of, at_key, keys_of, AreKeys, SameKeys, SameDeliveries, asks_of, IsFound, Settles};
 
-use crate::open_delivery::{Hint, Ids, OpenDelivery, Question, Settling};
+use crate::open_delivery::{OpenDelivery, Question, Settling};
 use slab::Slab;
 use std::alloc::Allocator;
 
 /// Open deliveries beyond which empty places are closed up: of fewer places it is not worth while.
 const FEW: usize = 4;
+
+/// Where one look found a delivery.
+#[derive(Clone, Copy)]
+pub enum Found {
+    /// It was handed up, and stands at this place.
+    HandedUp(usize),
+    /// It is ready, and stands at this place.
+    Ready(usize),
+    /// It is unfinished.
+    Unfinished,
+    /// Not there.
+    Unknown,
+}
 
 /// What a settle came to.
 #[derive(Clone, Copy)]
@@ -41,85 +54,49 @@ pub fn find<'a, A: Allocator + Copy>(
     None
 }
 
-/// The first delivery at these places that has the id, where that is known of it.
-pub fn find_by<'a, A: Allocator + Copy>(
-    slab: &'a Slab<OpenDelivery<A>, A>,
-    places: &[Option<usize>],
-    hint: Hint,
-    id: u32,
-) -> Option<&'a OpenDelivery<A>>
-    requires keys { AllByRecursion (ContainsKey slab.now) (keys_of places.now) }
-    requires hint { IsHint hint id id (map (at_key slab.now) (keys_of places.now)) }
-    ensures { option_map (λ d. delivery_of d.now) result ≡ find (has_id id) (map (at_key slab.now) (keys_of places.now)) }
-{
-    match hint {
-        Hint::Nowhere => None,
-        Hint::At(place) => match answering(slab, places, place, Question::HasId(id)) {
-            Some(delivery) => Some(delivery),
-            None => find(slab, places, Question::HasId(id)),
-        },
-        Hint::Unknown => find(slab, places, Question::HasId(id)),
-    }
-}
-
-/// The delivery at one place, if it answers a question by yes.
-fn answering<'a, A: Allocator + Copy>(
-    slab: &'a Slab<OpenDelivery<A>, A>,
-    places: &[Option<usize>],
-    place: usize,
-    question: Question,
-) -> Option<&'a OpenDelivery<A>>
-    ensures { option_map (λ d. delivery_of d.now) result ≡ answer_at slab.now question (slice_get places.now place) }
-{
-    match places.get(place) {
-        Some(Some(key)) => match slab.get(*key) {
-            Some(delivery) if delivery.answers(question) => Some(delivery),
-            _ => None,
-        },
-        _ => None,
-    }
-}
-
-/// Settles the deliveries at these places, of which this is known. One that is open no longer leaves its place empty.
-#[inline(always)]
-pub fn settle<A: Allocator + Copy>(
-    slab: &mut Slab<OpenDelivery<A>, A>,
-    places: &mut [Option<usize>],
-    hint: Hint,
-    settling: Settling,
-) -> Settled
-    requires keys { AreKeys slab.old (keys_of places.old) }
-    requires fits { sum_by delivery_bytes (map (at_key slab.old) (keys_of places.old)) < 2 ^ 64 }
-    requires hint { IsHint hint settling.ids.first settling.ids.last (map (at_key slab.old) (keys_of places.old)) }
-    ensures { Settles settling slab.old slab.new places.old places.new result.count result.freed }
-{
-    match hint {
-        Hint::Nowhere => Settled { count: 0, freed: 0 },
-        Hint::At(place) => {
-            if is_answering(slab, places, place, Question::IsCovered(settling.ids)) {
-                settle_at(slab, &mut places[place], settling)
-            } else {
-                settle_all(slab, places, settling)
-            }
-        }
-        Hint::Unknown => settle_all(slab, places, settling),
-    }
-}
-
-/// Whether the delivery at one place answers a question by yes.
-pub fn is_answering<A: Allocator + Copy>(
+/// Where the delivery with an id stands, if it is the one under this key: it is looked at once, and at its place.
+pub fn look<A: Allocator + Copy>(
     slab: &Slab<OpenDelivery<A>, A>,
     places: &[Option<usize>],
-    place: usize,
-    question: Question,
-) -> bool
-    ensures { result ≡ is_some (answer_at slab.now question (slice_get places.now place)) }
+    handed_up: usize,
+    unfinished: Option<usize>,
+    key: usize,
+    id: u32,
+) -> Found
+    ensures { IsFound slab.now places.now handed_up unfinished key id result }
 {
-    answering(slab, places, place, question).is_some()
+    let Some(delivery) = slab.get(key) else {
+        return Found::Unknown;
+    };
+    if delivery.delivery_id != id {
+        return Found::Unknown;
+    }
+    let place = delivery.place;
+    if !holds(places, place, key) {
+        return match unfinished {
+            Some(other) if other == key => Found::Unfinished,
+            _ => Found::Unknown,
+        };
+    }
+    if place < handed_up {
+        Found::HandedUp(place)
+    } else {
+        Found::Ready(place)
+    }
 }
 
-/// Settles the deliveries at these places, one after another.
-fn settle_all<A: Allocator + Copy>(
+/// Whether this key stands at a place.
+fn holds(places: &[Option<usize>], place: usize, key: usize) -> bool
+    ensures { IsTrue result → slice_get places.now place ≡ Some (Some key) }
+{
+    match places.get(place) {
+        Some(Some(other)) => *other == key,
+        _ => false,
+    }
+}
+
+/// Settles the deliveries at these places, one after another. One that is open no longer leaves its place empty.
+pub fn settle<A: Allocator + Copy>(
     slab: &mut Slab<OpenDelivery<A>, A>,
     places: &mut [Option<usize>],
     settling: Settling,
@@ -138,6 +115,7 @@ fn settle_all<A: Allocator + Copy>(
 }
 
 /// Settles the delivery at one place, if there is one.
+// For `benches endpoint`.
 #[inline(always)]
 pub fn settle_at<A: Allocator + Copy>(
     slab: &mut Slab<OpenDelivery<A>, A>,
@@ -162,6 +140,7 @@ pub fn settle_at<A: Allocator + Copy>(
 
 /// Closes up empty places, if there are many, and then tells each delivery its place. So many places are of
 /// deliveries that were handed up; those behind them are of ready ones.
+// For `benches endpoint`.
 #[tactic(auto, using(crate::proofs::Hints::same_deliveries))]
 #[inline(always)]
 pub fn close_up<A: Allocator + Copy>(

@@ -1,5 +1,5 @@
 //! What the attach fixes for as long as the link lives.
-ghost use Rattle.std.specs.Prelude.{◌≡◌, ◌↔◌, ◌≤◌, ◌^◌, IsSome, IfSome};
+ghost use Rattle.std.specs.Prelude.{◌≡◌, ◌↔◌, IsSome, IfSome};
 ghost use Rattle.amqp_link.specs.Bounds.{IsBounded};
 
 use amqp_perform::ReceiverSettleMode;

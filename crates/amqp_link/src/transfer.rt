@@ -1,7 +1,8 @@
 //! What becomes of a transfer.
-ghost use Rattle.std.specs.Prelude.{◌≡◌};
+ghost use Rattle.std.specs.Prelude.{◌≡◌, false, unwrap_or};
 ghost use Rattle.amqp_link.specs.declared.transfer.LinkFault.TheVariants.{NoMemory};
 
+use amqp_perform::Transfer;
 use std::alloc::AllocError;
 
 /// Why a link refuses a transfer or a flow. The link is then as it was.
@@ -31,10 +32,32 @@ pub enum Step {
     Aborted,
 }
 
+/// What a transfer comes to on its link, before anything is done [2.6.14].
+#[derive(Clone, Copy, Debug, PartialEq, Eq)]
+pub enum Verdict {
+    /// It begins a delivery, which will be kept under this key: a hint, as [`crate::Link::next_key`] answers.
+    Begins(usize),
+    /// It goes on with the unfinished delivery, or ends it.
+    GoesOn,
+    /// It begins a delivery and gives it up at once.
+    Passes,
+    /// It gives up the unfinished delivery, which has this id.
+    GivesUp(u32),
+    /// It is refused with this fault, never for want of memory.
+    Fails(LinkFault),
+}
+
 impl From<AllocError> for LinkFault {
     ghost from_gives = { λ _ e. e ≡ NoMemory };
 
     fn from(_e: AllocError) -> LinkFault {
         LinkFault::NoMemory
     }
+}
+
+/// Whether a transfer says that its sender settled the delivery.
+pub fn is_settled(transfer: &Transfer<'_>) -> bool
+    ensures { result ≡ unwrap_or transfer.now.settled false }
+{
+    transfer.settled.unwrap_or(false)
 }

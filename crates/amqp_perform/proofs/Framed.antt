@@ -1,9 +1,10 @@
 -- A canonical frame: its parts, and that it is one frame of the stream.
-use Rattle.std.proofs.Common.{◌≡◌, ℕ, ◌+◌, ◌^◌, ◌<◌, ◌≤◌, ◌==◌, ◌&&◌, nat_lt, Bool, true, false, if◌then◌else◌, List, [], ◌∷◌, ◌++◌, length, drop, Option, Some, None, refl, sym, ap, subst, ◌∙◌}
-use Rattle.std.proofs.Common.{length-append, arith}
+use Rattle.std.proofs.Common.{◌≡◌, ℕ, ◌+◌, ◌^◌, ◌<◌, ◌≤◌, ◌==◌, ◌&&◌, nat_lt, Bool, true, false, if◌then◌else◌, List, [], ◌∷◌, ◌++◌, length, take, drop, Option, Some, None, refl, sym, ap, subst, ◌∙◌}
+use Rattle.std.proofs.Common.{◌-◌, ◌%◌, append_assoc, length-append, arith}
+use Rattle.std.proofs.Math.Seq.{drop-append_seam}
 use Rattle.std.specs.List.{concat}
-use Rattle.std.proofs.lemmas.Bool.{lt-ltb, eqb-true}
-use Rattle.std.proofs.lemmas.List.{length-map, nil_from_length}
+use Rattle.std.proofs.lemmas.Bool.{lt-ltb, eqb-true, ne_eqb}
+use Rattle.std.proofs.lemmas.List.{append-nil, length-map, length-take-le, nil_from_length}
 use Rattle.byteorder.specs.Endian.{big_bytes}
 use Rattle.byteorder.specs.Numbers.{big_number-reads_back}
 use Rattle.amqp_types.specs.declared.kind.Kind.TheVariants as kind
@@ -58,13 +59,15 @@ no_texts : (texts : List (List ℕ)) → length texts ≡ 0 → concat texts ≡
 no_texts texts e = ap concat (nil_from_length texts e)
 
 -- how long the list is
+texts_len : (texts : List (List ℕ)) → length texts < 256 → length (list_text texts) ≡ length (list_head (length texts) (length (concat texts))) + length (concat texts)
+texts_len texts few = ap length (list_parts (length texts) (concat texts) few (no_texts texts)) ∙ length-append (list_head (length texts) (length (concat texts))) (concat texts)
+
 pub list_len : (values : List FieldText) (content : ℕ) → length values < 256 → content ≡ length (concat (field_spellings values))
     → length (list_text (field_spellings values)) ≡ length (list_head (length values) content) + length (concat (field_spellings values))
 list_len values content few is =
     let texts = field_spellings values in
     let count : length texts ≡ length values = length-map values field_spelling in
-    ap length (list_parts (length texts) (concat texts) (omega arith) (no_texts texts))
-    ∙ length-append (list_head (length texts) (length (concat texts))) (concat texts)
+    texts_len texts (omega arith)
     ∙ ap (λ (n : ℕ). length (list_head n (length (concat texts))) + length (concat texts)) count
     ∙ ap (λ (n : ℕ). length (list_head (length values) n) + length (concat texts)) (sym is)
 
@@ -90,21 +93,27 @@ unfolding list_frame
 frame_len channel d texts used payload same =
     ap (λ (body : List ℕ). length (frame_text channel body)) (body_parts d texts used payload same) ∙ omega (arith, length-append (list_text used) payload)
 
-frame_parts : (channel : ℕ) (d : Descriptor) (texts : List (List ℕ)) (values : List FieldText) (payload : List ℕ) (content len : ℕ)
-    → trimmed texts ≡ field_spellings values → length values < 256 → content ≡ length (concat (field_spellings values))
-    → len ≡ 11 + length (list_text (field_spellings values)) + length payload
-    → list_frame channel d texts payload ≡ ((head_text len channel d ++ list_head (length values) content) ++ concat (field_spellings values)) ++ payload
+texts_parts : (channel : ℕ) (d : Descriptor) (texts used : List (List ℕ)) (payload : List ℕ) (len : ℕ) → trimmed texts ≡ used → length used < 256
+    → len ≡ 11 + length (list_text used) + length payload
+    → list_frame channel d texts payload ≡ ((head_text len channel d ++ list_head (length used) (length (concat used))) ++ concat used) ++ payload
 unfolding list_frame head_text
-frame_parts channel d texts values payload content len same few is_content is =
-    let used = field_spellings values in
-    let count : length used ≡ length values = length-map values field_spelling in
+texts_parts channel d texts used payload len same few is =
     let body = 0 ∷ 0x53 ∷ code_of d ∷ (list_text used ++ payload) in
     let size : 8 + length body ≡ len = omega (arith, length-append (list_text used) payload) in
     ap (frame_text channel) (body_parts d texts used payload same)
     ∙ ap (λ (n : ℕ). big_bytes 4 n ++ (2 ∷ 0 ∷ big_bytes 2 channel) ++ body) size
-    ∙ ap (λ (list : List ℕ). head_text len channel d ++ (list ++ payload)) (list_parts (length used) (concat used) (omega arith) (no_texts used))
-    ∙ ap (λ (n : ℕ). head_text len channel d ++ ((list_head n (length (concat used)) ++ concat used) ++ payload)) count
-    ∙ ap (λ (n : ℕ). head_text len channel d ++ ((list_head (length values) n ++ concat used) ++ payload)) (sym is_content)
+    ∙ ap (λ (list : List ℕ). head_text len channel d ++ (list ++ payload)) (list_parts (length used) (concat used) few (no_texts used))
+
+frame_parts : (channel : ℕ) (d : Descriptor) (texts : List (List ℕ)) (values : List FieldText) (payload : List ℕ) (content len : ℕ)
+    → trimmed texts ≡ field_spellings values → length values < 256 → content ≡ length (concat (field_spellings values))
+    → len ≡ 11 + length (list_text (field_spellings values)) + length payload
+    → list_frame channel d texts payload ≡ ((head_text len channel d ++ list_head (length values) content) ++ concat (field_spellings values)) ++ payload
+frame_parts channel d texts values payload content len same few is_content is =
+    let used = field_spellings values in
+    let count : length used ≡ length values = length-map values field_spelling in
+    texts_parts channel d texts used payload len same (omega arith) is
+    ∙ ap (λ (n : ℕ). ((head_text len channel d ++ list_head n (length (concat used))) ++ concat used) ++ payload) count
+    ∙ ap (λ (n : ℕ). ((head_text len channel d ++ list_head (length values) n) ++ concat used) ++ payload) (sym is_content)
 
 head_len : (len channel : ℕ) (d : Descriptor) → length (head_text len channel d) ≡ 11
 unfolding head_text
@@ -135,6 +144,54 @@ frame_written channel d texts values payload content len p q r n old a b c new s
       behind ∙ sym l4 ∙ ap length (sym whole),
       s4 ∙ ap (λ (k : ℕ). (((head ++ front) ++ items) ++ payload) ++ drop k old) (omega arith) ∙ ap (λ (x : List ℕ). x ++ drop n old) (sym whole),
     )
+
+-- The items first. ----------------------------------------------------------------------------------------------------
+
+-- what stands in front of a few items
+front_len : (count content : ℕ) → 0 < count → content < 255 → length (list_head count content) ≡ 3
+unfolding list_head
+front_len count content some few = rw (ne_eqb count 0 (λ e. omega arith), lt-ltb content 255 few) refl
+
+-- it is one text with the head
+pub front_is : (n channel count : ℕ) (d : Descriptor) → 0 < count → count < 256 → 14 ≤ n → n < 256
+    → (big_bytes 4 n ++ (2 ∷ 0 ∷ big_bytes 2 channel)) ++ (0 ∷ 0x53 ∷ code_of d ∷ 0xc0 ∷ (n - 14 + 1) ∷ count ∷ []) ≡ head_text n channel d ++ list_head count (n - 14)
+unfolding head_text list_head
+front_is n channel count d some few least most =
+    let size : (1 + (n - 14)) % 256 ≡ n - 14 + 1 = omega arith in
+    let items : count % 256 ≡ count = omega arith in
+    rw (ne_eqb count 0 (λ e. omega arith), lt-ltb (n - 14) 255 (omega arith), size, items) refl
+
+-- a text is written at its place, and then what stands in front of it
+front_last : (at : ℕ) (front text old mid new : List ℕ) → at + length text ≤ length old → length front ≡ at → Writes at text old mid → Writes 0 front mid new
+    → new ≡ (front ++ text) ++ drop (at + length text) old
+front_last at front text old mid new room e first second =
+    let rest = drop (at + length text) old in
+    let len : length (take at old) ≡ at = length-take-le at old (omega arith) in
+    let kept : drop (0 + length front) mid ≡ text ++ rest =
+    ap (λ (x : List ℕ). drop (0 + length front) x) first ∙ ap (λ (n : ℕ). drop n (take at old ++ (text ++ rest))) (omega (arith, e, len)) ∙ drop-append_seam (take at old) (text ++ rest) in
+    second ∙ ap (λ (x : List ℕ). front ++ x) kept ∙ sym (append_assoc front text rest)
+
+-- so are the items of a frame
+pub items_first : (channel : ℕ) (d : Descriptor) (texts used : List (List ℕ)) (count n : ℕ) (old mid new : List ℕ)
+    → trimmed texts ≡ used → length used ≡ count → 0 < count → count < 256 → n ≡ 14 + length (concat used) → n < 256 → n ≤ length old
+    → Writes 14 (concat used) old mid → Writes 0 (head_text n channel d ++ list_head count (n - 14)) mid new → IsWritten (list_frame channel d texts []) (Some n) old new
+items_first channel d texts used count n old mid new same many some few is short room items_in front_in =
+    let items = concat used in
+    let head = head_text n channel d in
+    let front = list_head (length used) (length items) in
+    let behind : n - 14 ≡ length items = omega arith in
+    let fronts : head ++ list_head count (n - 14) ≡ head ++ front =
+    ap (λ (k : ℕ). head ++ list_head k (n - 14)) (sym many) ∙ ap (λ (k : ℕ). head ++ list_head (length used) k) behind in
+    let three : length front ≡ 3 = front_len (length used) (length items) (omega arith) (omega arith) in
+    let whole = texts_parts channel d texts used [] n same (omega arith) (omega (arith, texts_len used (omega arith), three)) in
+    let fourteen : length (head ++ front) ≡ 14 = length-append head front ∙ omega (arith, head_len n channel d, three) in
+    let written = front_last 14 (head ++ front) items old mid new (omega arith) fourteen items_in (subst (λ (x : List ℕ). Writes 0 x mid new) fronts front_in) in
+    let frame : list_frame channel d texts [] ≡ (head ++ front) ++ items = whole ∙ append-nil ((head ++ front) ++ items) in
+    let len : length (list_frame channel d texts []) ≡ n = ap length frame ∙ length-append (head ++ front) items ∙ omega (arith, fourteen) in record {
+      written = (sym len, written ∙ ap (λ (k : ℕ). ((head ++ front) ++ items) ++ drop k old) (sym is) ∙ ap (λ (x : List ℕ). x ++ drop n old) (sym frame));
+      fits = (λ _. (omega (arith, len), omega (arith, len)), λ _. refl);
+      unchanged = tt;
+    }
 
 -- a frame that fits has no more bytes in its values
 pub values_fit : (channel : ℕ) (d : Descriptor) (texts : List (List ℕ)) (values : List FieldText) (payload : List ℕ) (room : ℕ)

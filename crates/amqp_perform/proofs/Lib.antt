@@ -26,3 +26,5 @@ pub mod SizeLaws
 pub mod RuleLaws
 pub mod ValueLaws
 pub mod Tellings
+pub mod Fronts
+pub mod Receiving

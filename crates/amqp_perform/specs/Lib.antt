@@ -10,5 +10,6 @@ pub mod Conditions
 pub mod Outcomes
 pub mod Again
 pub mod Said
+pub mod Receivers
 pub mod Sizes
 pub mod Rules

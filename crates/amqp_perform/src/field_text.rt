@@ -1,12 +1,12 @@
 //! What is written in a field: the canonical spelling of its value. [1.6]
 
-ghost use Rattle.std.specs.Prelude.{◌≡◌, ◌+◌, ◌≤◌, length};
+ghost use Rattle.std.specs.Prelude.{◌≡◌, ◌+◌, ◌≤◌, length, ◌++◌};
 ghost use Rattle.amqp_types.specs.declared.kind.Kind.{Kind};
 ghost use Rattle.amqp_types.specs.Canonical.{canonical};
 ghost use Rattle.amqp_types.specs.Trees.{Number, Octets};
 ghost use Rattle.amqp_perform.specs.Frames.{octets_text, Writes};
 
-use crate::bytes::{put, put_both};
+use crate::fields::NULL;
 
 /// What is written in a field.
 #[derive(Clone, Copy)]
@@ -22,9 +22,6 @@ pub enum FieldText<'a> {
     /// A value that is spelled already.
     Span(&'a [u8]),
 }
-
-/// The code of null.
-const NULL: u8 = 0x40;
 
 impl<'a> FieldText<'a> {
     ghost use Rattle.std.specs.Prelude.{◌≡◌, ◌+◌, ◌≤◌, length, option_copied};
@@ -175,9 +172,8 @@ impl<'a> FieldText<'a> {
 
 /// How many bytes spell a uint. [1.6.7]
 #[inline(always)]
-pub fn uint_width(number: u32) -> usize
-    ensures value { result ≡ length (canonical (Number Kind.Uint number)) }
-    ensures most { result ≤ 5 }
+fn uint_width(number: u32) -> usize
+    ensures { result ≡ length (canonical (Number Kind.Uint number)) }
 {
     match number {
         0 => 1,
@@ -224,4 +220,27 @@ fn put_octets(out: &mut [u8], at: usize, small: u8, large: u8, octets: &[u8]) ->
     } else {
         put_both(out, at, &[large, first, second, third, last], octets)
     }
+}
+
+/// Puts the bytes into `out` at `at`, and answers the place behind them.
+#[inline(always)]
+pub fn put(out: &mut [u8], at: usize, bytes: &[u8]) -> usize
+    requires { at + length bytes.now ≤ length out.old }
+    ensures behind { result ≡ at + length bytes.now }
+    ensures written { Writes at bytes.now out.old out.new }
+{
+    let end = at + bytes.len();
+    out[at..end].copy_from_slice(bytes);
+    end
+}
+
+/// Puts some bytes into `out` at `at` and others behind them, and answers the place behind both.
+#[inline(always)]
+pub fn put_both(out: &mut [u8], at: usize, first: &[u8], second: &[u8]) -> usize
+    requires { at + length first.now + length second.now ≤ length out.old }
+    ensures behind { result ≡ at + length first.now + length second.now }
+    ensures written { Writes at (first.now ++ second.now) out.old out.new }
+{
+    let end = put(out, at, first);
+    put(out, end, second)
 }

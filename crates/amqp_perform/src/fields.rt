@@ -29,7 +29,6 @@ pub struct Fields<'a> {
 impl<'a> Fields<'a> {
     ghost use Rattle.std.specs.Prelude.{◌≡◌, ◌≤◌, ◌==◌, ◌&&◌, length, option_copied, IfSome};
     ghost use Rattle.std.specs.Option.{option_map};
-    ghost use Rattle.amqp_perform.specs.Cells.{Whole};
     ghost use Rattle.amqp_perform.specs.Outcomes.{true_at};
     ghost use Rattle.amqp_perform.specs.Performatives.{flag, is_receiver, sender_mode, receiver_mode, optional_flag, optional_whole, optional_bytes, span};
     ghost use Rattle.amqp_perform.specs.BodyReading.{TakesFrom, code_at, typed_at, value_at};
@@ -52,6 +51,13 @@ impl<'a> Fields<'a> {
         ensures items { result.1.now ≡ self.now.items.bytes.now }
     {
         (self.left, self.items.bytes)
+    }
+
+    /// Whether all items were taken.
+    pub fn is_empty(&self) -> bool
+        ensures { result ≡ (self.now.left == 0) }
+    {
+        self.left == 0
     }
 
     /// Whether all items were taken, and no byte is left behind them.
@@ -266,9 +272,31 @@ pub struct DescribedList<'a> {
 }
 
 /// The described list that the bytes begin with, where what describes it is known.
-#[tactic(auto, unfolding(crate::specs::BodyReading::described_at))]
+#[tactic(auto, using(crate::proofs::Fronts::usual_front))]
 #[inline(always)]
 pub fn described_list(bytes: &[u8]) -> Option<DescribedList<'_>>
+    ensures { MatchOption result (described_at bytes.now ≡ None)
+        (λ x. described_at bytes.now ≡ Some (x.descriptor, record { count = x.fields.left; items = x.fields.items.bytes.now; behind = x.rest.now })) }
+{
+    match bytes {
+        [0, 0x53, code, 0xc0, size, behind @ ..] => {
+            let descriptor = Descriptor::of_code(*code as u64)?;
+            let (list, rest) = behind.split_at_checked(*size as usize)?;
+            let (count, items) = list.split_first()?;
+            Some(DescribedList {
+                descriptor,
+                fields: Fields::of(*count as usize, items),
+                rest,
+            })
+        }
+        _ => any_described_list(bytes),
+    }
+}
+
+/// [`described_list`] of any spelling.
+#[tactic(auto, unfolding(crate::specs::BodyReading::described_at))]
+#[inline(never)]
+fn any_described_list(bytes: &[u8]) -> Option<DescribedList<'_>>
     ensures { MatchOption result (described_at bytes.now ≡ None)
         (λ x. described_at bytes.now ≡ Some (x.descriptor, record { count = x.fields.left; items = x.fields.items.bytes.now; behind = x.rest.now })) }
 {

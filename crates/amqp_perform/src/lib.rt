@@ -7,7 +7,6 @@
 //! The tests stand in `codec_rows`.
 #![tactic(auto)]
 
-mod bytes;
 mod condition;
 mod cursor;
 mod descriptor;
@@ -34,4 +33,6 @@ pub use performative::{
 };
 pub use reader::{read_body, read_transfer_body, read_transfer_into};
 pub use telling::is_performative;
-pub use writer::{write_disposition, write_flow, write_frame};
+pub use writer::{
+    LinkFlow, write_disposition, write_flow, write_frame, write_link_flow, write_settlement,
+};

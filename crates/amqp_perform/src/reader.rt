@@ -8,13 +8,13 @@ ghost use Rattle.amqp_perform.specs.declared.descriptor.Descriptor.{Descriptor};
 ghost use Rattle.amqp_perform.specs.declared.performative.Performative.TheVariants as performative;
 ghost use Rattle.amqp_perform.specs.Bodies.{Body, BodyOf, IsFaultOf};
 ghost use Rattle.amqp_perform.specs.Cells.{Cell, Whole};
-ghost use Rattle.amqp_perform.specs.Performatives.{span, flag, optional_whole, open_cells, begin_cells, attach_cells, flow_cells, transfer_cells, disposition_cells, detach_cells, end_cells, close_cells, type_of, performative_cells};
+ghost use Rattle.amqp_perform.specs.Performatives.{span, optional_whole, open_cells, begin_cells, attach_cells, flow_cells, transfer_cells, disposition_cells, detach_cells, end_cells, close_cells, type_of, performative_cells};
 ghost use Rattle.amqp_perform.specs.BodyReading.{TakesFrom, value_at, fields_at, IsPerformativeAt, body_at, fault_of, IsRead, IsOfOther, performative_at};
 ghost use Rattle.amqp_perform.specs.Tables.{uint_from, default, open_fields, begin_fields, attach_fields, flow_fields, transfer_fields, disposition_fields, detach_fields, end_fields, close_fields};
 
 use crate::descriptor::Descriptor;
 use crate::fault::BodyFault;
-use crate::fields::{DEPTH, Fields, described_list};
+use crate::fields::{DEPTH, DescribedList, Fields, described_list};
 use crate::modes::{ReceiverSettleMode, SenderSettleMode};
 use crate::performative::{
     Attach, Begin, Close, Detach, Disposition, End, Flow, Open, Performative, Transfer,
@@ -184,17 +184,10 @@ fn read_flow<'a>(fields: &mut Fields<'a>) -> Option<Flow<'a>>
     })
 }
 
-fn read_transfer<'a>(fields: &mut Fields<'a>) -> Option<Transfer<'a>>
-    ensures { TakesFrom transfer_cells (fields_at transfer_fields) fields.old fields.new result }
-{
-    let mut transfer: Transfer<'a> = Transfer::blank();
-    fill_transfer(fields, &mut transfer)?;
-    Some(transfer)
-}
-
 /// Reads the fields of a transfer into it. They are put where they are wanted, since a transfer that is handed back is moved
 /// there over the stack.
 // Without the mark `telemetry` takes 1.5 in 100 more instructions, `gateway` 1.4.
+#[tactic(auto, using(crate::proofs::Optionals::optional_is), unfolding(crate::specs::BodyReading::typed_at))]
 #[inline(always)]
 fn fill_transfer<'a>(fields: &mut Fields<'a>, transfer: &mut Transfer<'a>) -> Option<()>
     ensures { TakesFrom (λ _. transfer_cells transfer.new) (fields_at transfer_fields) fields.old fields.new result }
@@ -205,25 +198,20 @@ fn fill_transfer<'a>(fields: &mut Fields<'a>, transfer: &mut Transfer<'a>) -> Op
     transfer.message_format = fields.uint()?;
     transfer.settled = fields.boolean()?;
     transfer.more = fields.flag()?;
+    if fields.is_empty() {
+        transfer.rcv_settle_mode = None;
+        transfer.state = &[];
+        transfer.resume = false;
+        transfer.aborted = false;
+        transfer.batchable = &[];
+        return Some(());
+    }
     transfer.rcv_settle_mode = fields.receiver_mode()?;
-    let (state, resume, aborted, batchable) = read_transfer_state(fields)?;
-    transfer.state = state;
-    transfer.resume = resume;
-    transfer.aborted = aborted;
-    transfer.batchable = batchable;
+    transfer.state = fields.span()?;
+    transfer.resume = fields.flag()?;
+    transfer.aborted = fields.flag()?;
+    transfer.batchable = fields.span()?;
     Some(())
-}
-
-/// The last fields of a transfer: its state, and whether it resumes, is aborted and may be batched.
-#[inline(always)]
-fn read_transfer_state<'a>(fields: &mut Fields<'a>) -> Option<(&'a [u8], bool, bool, &'a [u8])>
-    ensures { TakesFrom (λ x. span x.0.now ∷ flag x.1 ∷ flag x.2 ∷ span x.3.now ∷ []) (fields_at (drop 7 transfer_fields)) fields.old fields.new result }
-{
-    let state = fields.span()?;
-    let resume = fields.flag()?;
-    let aborted = fields.flag()?;
-    let batchable = fields.span()?;
-    Some((state, resume, aborted, batchable))
 }
 
 fn read_disposition<'a>(fields: &mut Fields<'a>) -> Option<Disposition<'a>>
@@ -277,7 +265,11 @@ fn read_performative<'a>(
         Descriptor::Begin => Performative::Begin(read_begin(fields)?),
         Descriptor::Attach => Performative::Attach(read_attach(fields)?),
         Descriptor::Flow => Performative::Flow(read_flow(fields)?),
-        Descriptor::Transfer => Performative::Transfer(read_transfer(fields)?),
+        Descriptor::Transfer => {
+            let mut transfer: Transfer<'a> = Transfer::blank();
+            fill_transfer(fields, &mut transfer)?;
+            Performative::Transfer(transfer)
+        }
         Descriptor::Disposition => Performative::Disposition(read_disposition(fields)?),
         Descriptor::Detach => Performative::Detach(read_detach(fields)?),
         Descriptor::End => Performative::End(read_end(fields)?),
@@ -291,49 +283,35 @@ fn read_performative<'a>(
     }
 }
 
-/// Reads the transfer that all of these items spell, so many; `None` where they spell none.
-#[tactic(auto, unfolding(crate::specs::BodyReading::performative_at))]
-#[inline(never)]
-fn whole_transfer<'a>(count: usize, items: &'a [u8], transfer: &mut Transfer<'a>) -> Option<()>
-    ensures { MatchOption result (performative_at Descriptor.Transfer count items.now ≡ None) (λ _. performative_at Descriptor.Transfer count items.now ≡ Some (transfer_cells transfer.new)) }
-{
-    let mut fields = Fields::of(count, items);
-    fill_transfer(&mut fields, transfer)?;
-    if !fields.ended() {
-        return None;
-    }
-    Some(())
-}
-
-/// Reads the transfer that a body begins with, and answers what follows it.
-#[tactic(auto, unfolding(crate::specs::BodyReading::body_at))]
-#[inline(always)]
-fn transfer_at<'a>(bytes: &'a [u8], transfer: &mut Transfer<'a>) -> Option<&'a [u8]>
-    ensures { MatchOption result (IsOfOther Descriptor.Transfer (body_at bytes.now)) (λ rest. body_at bytes.now ≡ Some (Descriptor.Transfer, transfer_cells transfer.new, rest.now)) }
-{
-    let list = described_list(bytes)?;
-    match list.descriptor {
-        Descriptor::Transfer => {}
-        _ => return None,
-    }
-    let (count, items) = list.fields.parts();
-    whole_transfer(count, items, transfer)?;
-    Some(list.rest)
-}
-
 /// Reads the transfer that a frame's body begins with into `transfer`, and answers how many bytes it takes, as [`read_body`]
 /// reads it; `None` where the body begins with none, and what stands in `transfer` then says nothing. [2.7.5]
+#[tactic(auto, unfolding(crate::specs::BodyReading::body_at, crate::specs::BodyReading::performative_at))]
+#[inline(never)]
 pub fn read_transfer_into<'a>(bytes: &'a [u8], transfer: &mut Transfer<'a>) -> Option<usize>
     ensures within { IfSome result (λ n. n ≤ length bytes.now) }
     ensures exact { IfSome result (λ n. IsRead bytes.now (Ok (performative.Transfer transfer.new, n))) }
     ensures none { IfNone result (IsOfOther Descriptor.Transfer (body_at bytes.now)) }
 {
-    let rest = transfer_at(bytes, transfer)?;
+    let DescribedList {
+        descriptor,
+        mut fields,
+        rest,
+    } = described_list(bytes)?;
+    match descriptor {
+        Descriptor::Transfer => {}
+        _ => return None,
+    }
+    fill_transfer(&mut fields, transfer)?;
+    if !fields.ended() {
+        return None;
+    }
     Some(bytes.len() - rest.len())
 }
 
 /// The transfer that a frame's body begins with, and how many bytes it takes, as [`read_body`] reads it; `None` where
 /// the body begins with none. [2.7.5]
+///
+/// For a caller that keeps the transfer as a value.
 pub fn read_transfer_body(bytes: &[u8]) -> Option<(Transfer<'_>, usize)>
     ensures within { IfSome result (λ r. r.1 ≤ length bytes.now) }
     ensures exact { IfSome result (λ r. IsRead bytes.now (Ok (performative.Transfer r.0, r.1))) }
@@ -349,9 +327,13 @@ pub fn read_transfer_body(bytes: &[u8]) -> Option<(Transfer<'_>, usize)>
 fn body_at(bytes: &[u8]) -> Option<(Performative<'_>, &[u8])>
     ensures { MatchOption result (body_at bytes.now ≡ None) (λ x. body_at bytes.now ≡ Some (type_of x.0, performative_cells x.0, x.1.now)) }
 {
-    let mut list = described_list(bytes)?;
-    let performative = read_performative(list.descriptor, &mut list.fields)?;
-    Some((performative, list.rest))
+    let DescribedList {
+        descriptor,
+        mut fields,
+        rest,
+    } = described_list(bytes)?;
+    let performative = read_performative(descriptor, &mut fields)?;
+    Some((performative, rest))
 }
 
 /// The performative that a frame's body begins with, and how many bytes it takes; the payload follows. [2.7]

@@ -3,27 +3,38 @@
 //! Each function lists the fields of one performative in their order. A field that is equal to its default is
 //! null.
 
-ghost use Rattle.std.specs.Prelude.{◌≡◌, ◌↔◌, ℕ, ◌+◌, ◌*◌, ◌^◌, ◌<◌, ◌≤◌, List, ◌++◌, length, take, drop, IsSome, IfSome, IfNone};
+ghost use Rattle.std.specs.Prelude.{◌≡◌, ◌↔◌, ℕ, ◌+◌, ◌-◌, ◌*◌, ◌^◌, ◌<◌, ◌≤◌, false, List, [], ◌++◌, length, take, drop, Some, IsSome, IfSome, IfNone};
 ghost use Rattle.std.specs.List.{concat};
 ghost use Rattle.std.specs.Option.{SomeIff, option_map};
 ghost use Rattle.amqp_types.specs.declared.shell.Shell.{Shell};
 ghost use Rattle.amqp_types.specs.Canonical.{shortest};
 ghost use Rattle.amqp_perform.specs.declared.descriptor.Descriptor.{Descriptor};
 ghost use Rattle.amqp_perform.specs.declared.performative.Performative.TheVariants as performative;
-ghost use Rattle.amqp_perform.specs.Frames.{cell_text, field_texts, field_spelling, field_spellings, number_values, trimmed, list_text, last_written, disposition_written, head_text, list_head, list_frame, frame_of, Writes, FitsFrame, IsWritten};
+ghost use Rattle.amqp_perform.specs.Frames.{cell_text, field_texts, field_spelling, field_spellings, trimmed, list_text, last_written, disposition_written, head_text, list_head, list_frame, frame_of, Writes, FitsFrame, IsWritten};
+ghost use Rattle.amqp_perform.specs.Receivers.{state_said, disposition_said, link_flow_said, stated_said};
+ghost use Rattle.amqp_perform.specs.Said.{said, said_frame};
 ghost use Rattle.amqp_perform.specs.Performatives.{receiver_mode, optional_whole, open_cells, begin_cells, attach_cells, flow_cells, transfer_cells, detach_cells, end_cells, close_cells};
 ghost use Rattle.amqp_perform.specs.Tables.{uint, receiver_settle_mode, open_fields, begin_fields, attach_fields, flow_fields, transfer_fields, disposition_fields, detach_fields, end_fields, close_fields};
 
-use crate::bytes::put;
 use crate::descriptor::Descriptor;
-use crate::field_text::{FieldText, put_uint, uint_width};
-use crate::modes::ReceiverSettleMode;
+use crate::field_text::{FieldText, put, put_uint};
+use crate::modes::{ReceiverSettleMode, Role};
+use crate::outcome::Outcome;
 use crate::performative::{
     Attach, Begin, Close, Detach, Disposition, End, Flow, Open, Performative, Transfer,
 };
 
 /// How many bytes stand in front of the list of a frame: the frame header and the descriptor.
 const HEAD_LEN: usize = 11;
+
+/// How many bytes stand in front of the items of a list whose size takes one.
+const SHORT_LEN: usize = HEAD_LEN + 3;
+
+/// The most that the disposition of one delivery takes, its state being four bytes.
+const ONE_SETTLED: usize = SHORT_LEN + 12;
+
+/// The most that a frame of seven numbers takes.
+const SEVEN_NUMBERS: usize = SHORT_LEN + 7 * 5;
 
 /// The largest frame whose size can be stated. [2.3.1]
 const MAX_FRAME: usize = 0xffff_ffff;
@@ -106,29 +117,6 @@ fn flow_texts<'a>(p: &Flow<'a>) -> [FieldText<'a>; 11]
     ]
 }
 
-/// All that stands in a flow that states each number of its session and its link up to the credit, and nothing else.
-#[inline(always)]
-fn numbers_of_link(p: &Flow<'_>) -> Option<[u32; 7]>
-    ensures { IfSome result (λ numbers. trimmed (field_texts flow_fields (flow_cells p.now)) ≡ field_spellings (number_values numbers)) }
-{
-    if p.available.is_some() || p.drain || p.echo || !p.properties.is_empty() {
-        return None;
-    }
-    let next_incoming_id = p.next_incoming_id?;
-    let handle = p.handle?;
-    let delivery_count = p.delivery_count?;
-    let link_credit = p.link_credit?;
-    Some([
-        next_incoming_id,
-        p.incoming_window,
-        p.next_outgoing_id,
-        p.outgoing_window,
-        handle,
-        delivery_count,
-        link_credit,
-    ])
-}
-
 fn transfer_texts<'a>(p: &Transfer<'a>) -> [FieldText<'a>; 11]
     ensures { field_spellings result ≡ field_texts transfer_fields (transfer_cells p.now) }
 {
@@ -157,19 +145,6 @@ fn disposition_texts<'a>(p: &Disposition<'a>) -> [FieldText<'a>; 6]
         FieldText::flag(p.settled),
         FieldText::span(p.state),
         FieldText::span(p.batchable),
-    ]
-}
-
-/// The same without the last field.
-fn stated_texts<'a>(p: &Disposition<'a>) -> [FieldText<'a>; 5]
-    ensures { field_spellings result ≡ take 5 (field_texts disposition_fields (disposition_written p.now)) }
-{
-    [
-        FieldText::Boolean(p.role.is_receiver()),
-        FieldText::Uint(p.first),
-        last_text(p.first, p.last),
-        FieldText::flag(p.settled),
-        FieldText::span(p.state),
     ]
 }
 
@@ -283,7 +258,7 @@ fn write_attach(head: Head, p: &Attach<'_>, payload: &[u8], out: &mut [u8]) -> O
     write_list(head, &attach_texts(p), payload, out)
 }
 
-/// Writes the frame of a flow, as [`write_frame`] does. One that ends with the credit of a link is written quicker.
+/// Writes the frame of a flow, as [`write_frame`] does.
 pub fn write_flow(channel: u16, p: &Flow<'_>, payload: &[u8], out: &mut [u8]) -> Option<usize>
     ensures { IsWritten (frame_of channel (performative.Flow p.now) payload.now) result out.old out.new }
 {
@@ -291,18 +266,77 @@ pub fn write_flow(channel: u16, p: &Flow<'_>, payload: &[u8], out: &mut [u8]) ->
         channel,
         descriptor: Descriptor::Flow,
     };
-    match numbers_of_link(p) {
-        Some(numbers) => write_numbers(head, &numbers, payload, out),
-        None => write_eleven(head, p, payload, out),
+    write_list(head, &flow_texts(p), payload, out)
+}
+
+/// What the flow of a link says, of a receiver that sends nothing. [2.7.4]
+#[derive(Clone, Copy, Debug, PartialEq, Eq)]
+pub struct LinkFlow {
+    pub next_incoming_id: u32,
+    pub incoming_window: u32,
+    pub handle: u32,
+    pub delivery_count: u32,
+    pub link_credit: u32,
+    pub drain: bool,
+}
+
+impl LinkFlow {
+    /// The flow as a performative.
+    pub fn flow(self) -> Flow<'static>
+        ensures { said (performative.Flow result) ≡ stated_said self }
+    {
+        Flow {
+            next_incoming_id: Some(self.next_incoming_id),
+            incoming_window: self.incoming_window,
+            next_outgoing_id: 0,
+            outgoing_window: 0,
+            handle: Some(self.handle),
+            delivery_count: Some(self.delivery_count),
+            link_credit: Some(self.link_credit),
+            available: None,
+            drain: self.drain,
+            echo: false,
+            properties: &[],
+        }
     }
 }
 
-/// The same of any flow.
-#[inline(never)]
-fn write_eleven(head: Head, p: &Flow<'_>, payload: &[u8], out: &mut [u8]) -> Option<usize>
-    ensures { IsWritten (list_frame head.channel head.descriptor (field_texts flow_fields (flow_cells p.now)) payload.now) result out.old out.new }
+/// Writes the frame of the flow of a link at the front of `out`, and answers its length. It says of this side that it sends
+/// nothing, and asks for no echo. Where the frame doesn't fit, the answer is `None` and `out` is unchanged. Takes no memory.
+/// [2.7.4]
+pub fn write_link_flow(channel: u16, flow: LinkFlow, out: &mut [u8]) -> Option<usize>
+    ensures { IsWritten (said_frame channel (stated_said flow) []) result out.old out.new }
 {
-    write_list(head, &flow_texts(p), payload, out)
+    if flow.drain || out.len() < SEVEN_NUMBERS {
+        write_any_link_flow(channel, flow, out)
+    } else {
+        Some(write_credit(channel, flow, out))
+    }
+}
+
+/// Writes the flow of a link that is not to drain, where any such fits, and answers its length.
+#[tactic(auto, using(crate::proofs::Receiving::number_short))]
+fn write_credit(channel: u16, flow: LinkFlow, out: &mut [u8]) -> usize
+    requires { SEVEN_NUMBERS ≤ length out.old }
+    ensures { IsWritten (said_frame channel (link_flow_said flow.next_incoming_id flow.incoming_window flow.handle flow.delivery_count flow.link_credit false) []) (Some result) out.old out.new }
+{
+    let at = put_uint(out, SHORT_LEN, flow.next_incoming_id);
+    let at = put_uint(out, at, flow.incoming_window);
+    let at = put_uint(out, at, 0);
+    let at = put_uint(out, at, 0);
+    let at = put_uint(out, at, flow.handle);
+    let at = put_uint(out, at, flow.delivery_count);
+    let end = put_uint(out, at, flow.link_credit);
+    write_front(channel, Descriptor::Flow, 7, end, out);
+    end
+}
+
+/// Writes any flow of a link.
+#[inline(never)]
+fn write_any_link_flow(channel: u16, flow: LinkFlow, out: &mut [u8]) -> Option<usize>
+    ensures { IsWritten (said_frame channel (stated_said flow) []) result out.old out.new }
+{
+    write_flow(channel, &flow.flow(), &[], out)
 }
 
 fn write_transfer(head: Head, p: &Transfer<'_>, payload: &[u8], out: &mut [u8]) -> Option<usize>
@@ -342,19 +376,95 @@ pub fn write_disposition(
         channel,
         descriptor: Descriptor::Disposition,
     };
-    if p.batchable.is_empty() && !FieldText::span(p.state).is_null() {
-        write_full_list(head, &stated_texts(p), payload, out)
-    } else {
-        write_six(head, p, payload, out)
+    write_list(head, &disposition_texts(p), payload, out)
+}
+
+/// Writes the frame of the disposition with which a receiver tells what became of the deliveries with the ids from `first` to
+/// `last`, settled or not, at the front of `out`, and answers its length. Where the frame doesn't fit, the answer is `None` and
+/// `out` is unchanged. Takes no memory. [2.7.6; 3.4]
+pub fn write_settlement(
+    channel: u16,
+    first: u32,
+    last: u32,
+    settled: bool,
+    outcome: Outcome,
+    out: &mut [u8],
+) -> Option<usize>
+    ensures { IsWritten (said_frame channel (disposition_said first last settled outcome) []) result out.old out.new }
+{
+    let state = outcome.span();
+    match state {
+        [a, b, c, d] if first == last && out.len() >= ONE_SETTLED => {
+            Some(write_one(channel, first, settled, [*a, *b, *c, *d], out))
+        }
+        _ => write_state(channel, first, last, settled, state, out),
     }
 }
 
-/// The same of any disposition.
-#[inline(never)]
-fn write_six(head: Head, p: &Disposition<'_>, payload: &[u8], out: &mut [u8]) -> Option<usize>
-    ensures { IsWritten (list_frame head.channel head.descriptor (field_texts disposition_fields (disposition_written p.now)) payload.now) result out.old out.new }
+/// Writes the disposition of one delivery with a state of four bytes, where any such fits, and answers its length.
+fn write_one(channel: u16, id: u32, settled: bool, state: [u8; 4], out: &mut [u8]) -> usize
+    requires { ONE_SETTLED ≤ length out.old }
+    ensures { IsWritten (said_frame channel (state_said id id settled state) []) (Some result) out.old out.new }
 {
-    write_list(head, &disposition_texts(p), payload, out)
+    let at = FieldText::Boolean(true).write(out, SHORT_LEN);
+    let at = FieldText::Uint(id).write(out, at);
+    let at = FieldText::Null.write(out, at);
+    let at = FieldText::flag(settled).write(out, at);
+    let end = put(out, at, &state);
+    write_front(channel, Descriptor::Disposition, 5, end, out);
+    end
+}
+
+/// Writes the disposition of any deliveries with any state.
+#[inline(never)]
+fn write_state(
+    channel: u16,
+    first: u32,
+    last: u32,
+    settled: bool,
+    state: &[u8],
+    out: &mut [u8],
+) -> Option<usize>
+    ensures { IsWritten (said_frame channel (state_said first last settled state.now) []) result out.old out.new }
+{
+    let told = Disposition {
+        role: Role::Receiver,
+        first,
+        last: Some(last),
+        settled,
+        state,
+        batchable: &[],
+    };
+    write_disposition(channel, &told, &[], out)
+}
+
+/// Writes the front of a frame whose items, so many, are there already and end at `end`.
+fn write_front(channel: u16, descriptor: Descriptor, count: u8, end: usize, out: &mut [u8])
+    requires some { 0 < count }
+    requires least { SHORT_LEN ≤ end }
+    requires most { end < 256 }
+    requires room { end ≤ length out.old }
+    ensures { (texts used : List (List ℕ)) (old : List ℕ) → trimmed texts ≡ used → length used ≡ count → end ≡ 14 + length (concat used) → length old ≡ length out.old
+        → Writes 14 (concat used) old out.old → IsWritten (list_frame channel descriptor texts []) (Some end) old out.new }
+{
+    put(out, 0, &front(channel, descriptor, count, end));
+}
+
+/// The frame header, the descriptor, and what stands in front of so many items that end the frame at `end`. [2.3.1; 1.6.22]
+// One array: a constant one would be copied behind a test for an overlap.
+fn front(channel: u16, descriptor: Descriptor, count: u8, end: usize) -> [u8; 14]
+    requires some { 0 < count }
+    requires least { SHORT_LEN ≤ end }
+    requires most { end < 256 }
+    ensures { result ≡ head_text end channel descriptor ++ list_head count (end - 14) }
+{
+    let [len3, len2, len1, len0] = (end as u32).to_be_bytes();
+    let [high, low] = channel.to_be_bytes();
+    let code = descriptor.code();
+    let size = (end - SHORT_LEN) as u8 + 1;
+    [
+        len3, len2, len1, len0, 2, 0, high, low, 0, 0x53, code, 0xc0, size, count,
+    ]
 }
 
 /// Writes the frame of a list of values, where it fits.
@@ -369,89 +479,10 @@ fn write_list(head: Head, values: &[FieldText<'_>], payload: &[u8], out: &mut [u
     write_many(head, &values[..used], content, payload, out)
 }
 
-/// Writes the frame of any values of so many bytes, where it fits. Apart, so that the compiler takes its caller into
-/// each writer, where it knows how many values there are.
+/// Writes the frame of a list of values of so many bytes, where it fits.
+// Apart, so that the compiler takes its caller into each writer, where it knows how many values there are.
 #[inline(never)]
 fn write_many(
-    head: Head,
-    values: &[FieldText<'_>],
-    content: usize,
-    payload: &[u8],
-    out: &mut [u8],
-) -> Option<usize>
-    requires few { length values.now < 256 }
-    requires content { content ≡ length (concat (field_spellings values.now)) }
-    requires stated { content < 2 ^ 32 }
-    ensures { (texts : List (List ℕ)) → trimmed texts ≡ field_spellings values.now → IsWritten (list_frame head.channel head.descriptor texts payload.now) result out.old out.new }
-{
-    write_sized(head, values, content, payload, out)
-}
-
-/// Writes the frame of a list of values, none of them to be left out, where it fits.
-#[inline(always)]
-fn write_full_list(
-    head: Head,
-    values: &[FieldText<'_>],
-    payload: &[u8],
-    out: &mut [u8],
-) -> Option<usize>
-    requires { length values.now < 256 }
-    ensures { (texts : List (List ℕ)) → trimmed texts ≡ field_spellings values.now → IsWritten (list_frame head.channel head.descriptor texts payload.now) result out.old out.new }
-{
-    let room = out.len().min(MAX_FRAME);
-    let content = total_width(values, room)?;
-    write_sized(head, values, content, payload, out)
-}
-
-/// Writes the frame of a list of numbers, where it fits.
-#[inline(always)]
-fn write_numbers(head: Head, numbers: &[u32], payload: &[u8], out: &mut [u8]) -> Option<usize>
-    requires { length numbers.now < 256 }
-    ensures { (texts : List (List ℕ)) → trimmed texts ≡ field_spellings (number_values numbers.now) → IsWritten (list_frame head.channel head.descriptor texts payload.now) result out.old out.new }
-{
-    let content = numbers_width(numbers);
-    let len = HEAD_LEN + list_width(numbers.len(), content) + payload.len();
-    let room = out.len().min(MAX_FRAME);
-    if room < len {
-        return None;
-    }
-    let at = write_head(head, len as u32, out);
-    let at = write_list_head(numbers.len(), content, out, at);
-    let at = put_numbers(numbers, out, at);
-    Some(put(out, at, payload))
-}
-
-/// How many bytes spell these numbers.
-#[inline(always)]
-fn numbers_width(numbers: &[u32]) -> usize
-    requires { length numbers.now < 256 }
-    ensures value { result ≡ length (concat (field_spellings (number_values numbers.now))) }
-    ensures bound { result ≤ 5 * length numbers.now }
-{
-    let mut width = 0;
-    for number in numbers {
-        width += uint_width(*number);
-    }
-    width
-}
-
-/// Writes these numbers at `at`, and answers the place behind them.
-#[inline(always)]
-fn put_numbers(numbers: &[u32], out: &mut [u8], at: usize) -> usize
-    requires { at + length (concat (field_spellings (number_values numbers.now))) ≤ length out.old }
-    ensures behind { result ≡ at + length (concat (field_spellings (number_values numbers.now))) }
-    ensures written { Writes at (concat (field_spellings (number_values numbers.now))) out.old out.new }
-{
-    let mut end = at;
-    for number in numbers {
-        end = put_uint(out, end, *number);
-    }
-    end
-}
-
-/// Writes the frame of a list of values of so many bytes, where it fits.
-#[inline(always)]
-fn write_sized(
     head: Head,
     values: &[FieldText<'_>],
     content: usize,
@@ -589,36 +620,8 @@ fn write_list_head(count: usize, content: usize, out: &mut [u8], at: usize) -> u
     put(out, at, &head)
 }
 
-/// Writes the values at `at`, and answers the place behind them. Five, as a disposition has, are written without a
-/// loop: where the compiler knows what each is, it writes that alone.
-#[inline(always)]
+/// Writes the values at `at`, and answers the place behind them.
 fn write_values(values: &[FieldText<'_>], out: &mut [u8], at: usize) -> usize
-    requires { at + length (concat (field_spellings values.now)) ≤ length out.old }
-    ensures behind { result ≡ at + length (concat (field_spellings values.now)) }
-    ensures written { Writes at (concat (field_spellings values.now)) out.old out.new }
-{
-    if values.len() == 5 {
-        write_five(values, out, at)
-    } else {
-        write_each(values, out, at)
-    }
-}
-
-#[inline(always)]
-fn write_five(values: &[FieldText<'_>], out: &mut [u8], at: usize) -> usize
-    requires five { length values.now ≡ 5 }
-    requires room { at + length (concat (field_spellings values.now)) ≤ length out.old }
-    ensures behind { result ≡ at + length (concat (field_spellings values.now)) }
-    ensures written { Writes at (concat (field_spellings values.now)) out.old out.new }
-{
-    let first = values[0].write(out, at);
-    let second = values[1].write(out, first);
-    let third = values[2].write(out, second);
-    let fourth = values[3].write(out, third);
-    values[4].write(out, fourth)
-}
-
-fn write_each(values: &[FieldText<'_>], out: &mut [u8], at: usize) -> usize
     requires { at + length (concat (field_spellings values.now)) ≤ length out.old }
     ensures behind { result ≡ at + length (concat (field_spellings values.now)) }
     ensures written { Writes at (concat (field_spellings values.now)) out.old out.new }

@@ -1,22 +1,9 @@
 //! What `amqp_endpoint` promises of settings.
 
-ghost use Rattle.std.specs.Prelude.{◌≡◌, ◌↔◌, [], IsTrue, ℕ, List, slice_index, ◌+◌, ◌≤◌, ◌++◌, ◌^◌, ◌<◌, min, length, take, drop, true, false, None, option_map, IfOk, OnOk, IfErr, IsSome, IfSome, map};
-ghost use Rattle.amqp_frame.specs.Splits.{IsOver, TakesNothing};
-ghost use Rattle.amqp_session.specs.Calls.{Widen, Grant, Drain, Take, Settle, SettleRange, Detach};
-ghost use Rattle.amqp_session.specs.Places.{live_in};
-ghost use Rattle.amqp_endpoint.specs.Connections.{slot_at, is_dead};
-ghost use Rattle.amqp_endpoint.specs.Endpoints.{IsLinkAt, accepted_by, dropped_by, named_by, handed_by, call_of, answer_of, IsReplay};
-ghost use Rattle.amqp_endpoint.specs.Held.{held};
-ghost use Rattle.amqp_endpoint.specs.Runs.{IsStart, IsMoved, IsFinished, CallDone, CloseDone, BeatDone, end_of, Does, may_want};
-ghost use Rattle.amqp_session.specs.Lacking.{IsFirstLacking};
-ghost use Rattle.amqp_endpoint.specs.Takings.{link_at};
-ghost use Rattle.amqp_endpoint.specs.Steps.{AsksFor, MayRead, IsFed};
-ghost use Rattle.amqp_endpoint.specs.RoomLending.{LendsRoom};
-ghost use Rattle.std.specs.Borrow.{sem};
+ghost use Rattle.std.specs.Prelude.{◌≡◌, ◌↔◌, [], ◌+◌, ◌≤◌, ◌^◌, ◌<◌, length, IfOk, OnOk, IfErr, IsSome, IfSome};
 ghost use Rattle.std.specs.String.{string_bytes};
 ghost use Rattle.amqp_endpoint.specs.Configs.{IsConfigured, IsAsked, bounds_for};
 ghost use Rattle.amqp_endpoint.specs.Limits.{IsTable, IsFault};
-ghost use Rattle.amqp_endpoint.specs.Traces.{IsWholeRun};
 
 use amqp_endpoint::{Answer, Call, CallFault, Config, End, Endpoint, Fed, LimitFault, LinkLimit};
 use amqp_link::{LinkBounds, Taken};

@@ -1,6 +1,6 @@
 //! What `amqp_endpoint` promises.
 
-ghost use Rattle.std.specs.Prelude.{◌≡◌, ◌↔◌, [], IsTrue, ℕ, List, slice_index, ◌+◌, ◌≤◌, ◌++◌, ◌^◌, ◌<◌, min, length, take, drop, true, false, None, option_map, IfOk, OnOk, IfErr, IsSome, IfSome, map};
+ghost use Rattle.std.specs.Prelude.{◌≡◌, ◌↔◌, [], IsTrue, ℕ, List, slice_index, ◌+◌, ◌≤◌, ◌++◌, ◌<◌, min, length, take, drop, true, false, option_map, IfOk, IfErr, map};
 ghost use Rattle.amqp_frame.specs.Splits.{IsOver, TakesNothing};
 ghost use Rattle.amqp_session.specs.Calls.{Widen, Grant, Drain, Take, Settle, SettleRange, Detach};
 ghost use Rattle.amqp_session.specs.Places.{live_in};
@@ -13,9 +13,6 @@ ghost use Rattle.amqp_endpoint.specs.Takings.{link_at};
 ghost use Rattle.amqp_endpoint.specs.Steps.{AsksFor, MayRead, IsFed};
 ghost use Rattle.amqp_endpoint.specs.RoomLending.{LendsRoom};
 ghost use Rattle.std.specs.Borrow.{sem};
-ghost use Rattle.std.specs.String.{string_bytes};
-ghost use Rattle.amqp_endpoint.specs.Configs.{IsConfigured, IsAsked, bounds_for};
-ghost use Rattle.amqp_endpoint.specs.Limits.{IsTable, IsFault};
 ghost use Rattle.amqp_endpoint.specs.Traces.{IsWholeRun};
 
 use amqp_endpoint::{Answer, Call, CallFault, Config, End, Endpoint, Fed, LimitFault, LinkLimit};

@@ -2,7 +2,7 @@
 
 ghost use Rattle.std.specs.Prelude.{◌≡◌, ◌<◌, ◌≤◌, ◌+◌, ◌*◌, [], length, Option, Some, None, OnOk, OnErr, IfOk, IfErr, IfSome, IfNone, IsSomeAnd, is_none, map, option_map, true, ◌++◌, ℕ, List, drop, IsErr, IsTrue, ◌↔◌, false, IsSome};
 ghost use Rattle.std.specs.List.{list_any};
-ghost use Rattle.amqp_link.specs.Links.{sent_of, Granted, DrainAsked, Transferred, FlowStated, HandedUp, ReceiverSettled, SenderSettled, LinkMay, link_after, link_begins, link_bytes, deliveries, open_set, open_count, first_ready, has_id, fault_of, step_of, is_drained, is_beyond, IsRefusal, named_count, newly_settled, settle_fault, standing_of, IsAwaiting, IsOnce};
+ghost use Rattle.amqp_link.specs.Links.{sent_of, Granted, DrainAsked, Transferred, FlowStated, HandedUp, ReceiverSettled, SenderSettled, LinkMay, link_after, link_begins, link_bytes, deliveries, open_set, open_count, first_ready, has_id, fault_of, IsVerdict, step_of, is_drained, is_beyond, IsRefusal, named_count, newly_settled, settle_fault, standing_of, IsAwaiting, IsOnce};
 ghost use Rattle.amqp_link.specs.HandedUps.{IsHandedUp};
 ghost use Rattle.std.specs.Io.KnownBytes.{Appends};
 ghost use Rattle.amqp_frame.specs.Devices.{device_inner, has_failed, has_ended, is_flushed, reads_left, AppendsFront};
@@ -11,7 +11,7 @@ ghost use Rattle.amqp_link.specs.Bounds.{IsBounded};
 use amqp_frame::Device;
 use amqp_link::{
     Link, LinkBounds, LinkFault, Message, OpenIds, SettleFault, Standing, Step, Tag, Taken, Terms,
-    TooMuchCredit,
+    TooMuchCredit, Verdict,
 };
 use amqp_perform::Transfer;
 use std::alloc::{AllocError, Allocator};
@@ -270,6 +270,19 @@ pub fn judge<A: Allocator + Copy>(
     ensures { result ≡ fault_of link.now (sent_of transfer.now payload.now) }
 {
     link.judge(transfer, payload)
+}
+
+/// What a transfer and its payload come to now [2.6.14], but for want of memory, where `known` says whether an open delivery of the
+/// session has the id that the transfer states.
+pub fn verdict<A: Allocator + Copy>(
+    link: &Link<A>,
+    known: bool,
+    transfer: &Transfer<'_>,
+    payload: &[u8],
+) -> Verdict
+    ensures { IsVerdict known link.now (sent_of transfer.now payload.now) result }
+{
+    link.verdict(known, transfer, payload)
 }
 
 /// Drops the link with its open deliveries, and answers how many were ready and not handed up.

@@ -1,6 +1,6 @@
 //! What `amqp_perform` promises.
 
-ghost use Rattle.std.specs.Prelude.{◌≡◌, ℕ, ◌≤◌, List, length, drop, None, Ok, IfOk, IfErr, IfSome, IfNone, IsOkAnd, ◌↔◌, ◌+◌, ◌<◌, ◌++◌, IsSome, is_some};
+ghost use Rattle.std.specs.Prelude.{◌≡◌, ℕ, ◌≤◌, List, [], length, drop, Ok, IfOk, IfErr, IfSome, IfNone, IsOkAnd, ◌↔◌, ◌+◌, ◌<◌, ◌++◌, IsSome, is_some};
 ghost use Rattle.amqp_perform.specs.declared.descriptor.Descriptor.{Descriptor};
 ghost use Rattle.amqp_perform.specs.declared.performative.Performative.TheVariants as performative;
 ghost use Rattle.amqp_perform.specs.Bodies.{BeginsWithin, Body, BodyOf, IsFaultOf};
@@ -8,8 +8,10 @@ ghost use Rattle.amqp_perform.specs.Cells.{Cell};
 ghost use Rattle.amqp_perform.specs.Performatives.{type_of, performative_cells};
 ghost use Rattle.amqp_perform.specs.BodyReading.{body_at, IsRead, IsOfOther};
 ghost use Rattle.amqp_perform.specs.Frames.{frame_of, Writes, FitsFrame, IsWritten};
+ghost use Rattle.amqp_perform.specs.Receivers.{disposition_said, stated_said};
+ghost use Rattle.amqp_perform.specs.Said.{said, said_frame};
 
-use amqp_perform::{BodyFault, Disposition, Flow, Performative, Transfer};
+use amqp_perform::{BodyFault, Disposition, Flow, LinkFlow, Outcome, Performative, Transfer};
 
 /// Reads the transfer that a frame's body begins with into `transfer`, and answers how many bytes it takes, as [`read_body`] reads it
 /// [2.7.5].
@@ -85,4 +87,33 @@ pub fn write_disposition(
     ensures { IsWritten (frame_of channel (performative.Disposition p.now) payload.now) result out.old out.new }
 {
     amqp_perform::write_disposition(channel, p, payload, out)
+}
+
+/// The flow of a link as a performative.
+pub fn flow(flow: LinkFlow) -> Flow<'static>
+    ensures { said (performative.Flow result) ≡ stated_said flow }
+{
+    flow.flow()
+}
+
+/// Writes the frame of the flow of a link, of a receiver that sends nothing [2.7.4], as [`write_frame`] does.
+pub fn write_link_flow(channel: u16, flow: LinkFlow, out: &mut [u8]) -> Option<usize>
+    ensures { IsWritten (said_frame channel (stated_said flow) []) result out.old out.new }
+{
+    amqp_perform::write_link_flow(channel, flow, out)
+}
+
+/// Writes the frame of the disposition with which a receiver tells what became of the deliveries with the ids from `first` to
+/// `last` [2.7.6], as [`write_frame`] does.
+pub fn write_settlement(
+    channel: u16,
+    first: u32,
+    last: u32,
+    settled: bool,
+    outcome: Outcome,
+    out: &mut [u8],
+) -> Option<usize>
+    ensures { IsWritten (said_frame channel (disposition_said first last settled outcome) []) result out.old out.new }
+{
+    amqp_perform::write_settlement(channel, first, last, settled, outcome, out)
 }

@@ -1,6 +1,6 @@
 //! What `amqp_send` promises.
 
-ghost use Rattle.std.specs.Prelude.{◌≡◌, ◌≤◌, ◌<◌, ◌++◌, min, length, take, drop, IfOk, IfErr, OnOk, IsTrue, IsFalse, Some, None, true, false};
+ghost use Rattle.std.specs.Prelude.{◌≡◌, ◌≤◌, ◌<◌, ◌++◌, min, length, take, drop, IfOk, IfErr, OnOk, IsTrue, IsFalse, Some, None, false};
 ghost use Rattle.std.specs.String.{string_bytes};
 ghost use Rattle.amqp_send.specs.Keeping.{terms_of};
 ghost use Rattle.amqp_send.specs.Runs.{Offer, Output, Close, TakenOver, Refused, MovedOut, Closed, Does, IsFed, IsStart};

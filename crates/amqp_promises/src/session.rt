@@ -1,25 +1,27 @@
 //! What `amqp_session` promises.
 
-ghost use Rattle.std.specs.Prelude.{◌≡◌, ◌≤◌, ◌<◌, ◌+◌, ◌^◌, [], ◌∷◌, Option, Some, None, OnOk, IfOk, OnErr, IfErr, true};
+ghost use Rattle.std.specs.Prelude.{◌≡◌, ◌≤◌, ◌<◌, ◌+◌, ◌^◌, [], ◌∷◌, Option, Some, None, OnOk, IfOk, OnErr, IfErr};
 ghost use Rattle.amqp_link.specs.Links.{sent_of};
 ghost use Rattle.amqp_perform.specs.declared.performative.Performative.{Performative};
 ghost use Rattle.amqp_perform.specs.declared.performative.Performative.TheVariants as performative;
 ghost use Rattle.amqp_perform.specs.Frames.{IsWritten};
 ghost use Rattle.amqp_perform.specs.declared.outcome.Outcome.{Outcome};
-ghost use Rattle.amqp_session.specs.Calls.{Widen, Grant, Drain, Take, Settle, SettleRange, Detach as DetachCall, call_fault, call_event, call_answer};
+ghost use Rattle.amqp_session.specs.Calls.{Widen, Grant, Drain, Take, Settle, SettleRange, Detach as DetachCall, call_fault, call_event, call_answer, range_fault, settles_at_once, standing_in};
 ghost use Rattle.amqp_session.specs.Faults.{session_fault, event_of, report_of, answer_of, IsRefusal};
 ghost use Rattle.amqp_perform.specs.Said.{said, said_frame};
-ghost use Rattle.amqp_session.specs.Frames.{Attaches, Flows, Transfers, Disposes, Detaches, attaching, flowing, disposing, frame_of, attach_said, refusal_said, failure_said};
+ghost use Rattle.amqp_session.specs.Frames.{Attaches, Flows, Transfers, Disposes, Detaches, attaching, flowing, disposing, frame_of, attach_said, refusal_said, failure_said, stated_said};
 ghost use Rattle.amqp_session.specs.Lacking.{IsFirstLacking};
-ghost use Rattle.amqp_session.specs.Sessions.{session_begins, session_after, session_bytes, session_ready, slot_at, slot_ready, SessionMay};
+ghost use Rattle.amqp_session.specs.Sessions.{session_begins, session_after, session_bytes, session_ready, slot_at, slot_ready, Settled, SessionMay};
 ghost use Rattle.amqp_session.specs.Slots.{HandsUp, IsViewAt};
 ghost use Rattle.amqp_session.specs.Laws.{named_total};
 ghost use Rattle.amqp_session.specs.Answers.{answer_said, IsOfAttach, IsPlain, IsWithin, HasDone, IsFrameRefusal};
 ghost use Rattle.amqp_link.specs.Bounds.{Bounds};
 
 use amqp_link::{LinkBounds, Taken};
-use amqp_perform::{Attach, Condition, Detach, Disposition, Flow, Outcome, Performative, Transfer};
-use amqp_session::{CallFault, Done, LinkView, Report, Session, SessionFault, SessionTerms};
+use amqp_perform::{
+    Attach, Condition, Detach, Disposition, Flow, LinkFlow, Outcome, Performative, Transfer,
+};
+use amqp_session::{CallFault, Done, LinkView, Named, Report, Session, SessionFault, SessionTerms};
 use std::alloc::Allocator;
 
 /// A session at its begin, with no link [2.5.1].
@@ -263,6 +265,22 @@ pub fn grant<A: Allocator + Copy>(
     session.grant(handle, n)
 }
 
+/// Grants the link at a handle `n` places of credit, and answers what the flow states, which the caller writes [2.6.7].
+pub fn grant_stated<A: Allocator + Copy>(
+    session: &mut Session<A>,
+    handle: u32,
+    n: u32,
+) -> Result<LinkFlow, CallFault>
+    ensures may { OnOk result (SessionMay session.old (call_event session.old (Grant handle n))) }
+    ensures new { OnOk result (session.new ≡ session_after session.old (call_event session.old (Grant handle n))) }
+    ensures accepted { OnOk result (call_fault session.old (Grant handle n) ≡ None) }
+    ensures answer { IfOk result (λ flow. call_answer session.old (Grant handle n) ≡ stated_said flow ∷ []) }
+    ensures refused { IfErr result (λ e. call_fault session.old (Grant handle n) ≡ Some e) }
+    ensures err { OnErr result (session.new ≡ session.old) }
+{
+    session.grant_stated(handle, n)
+}
+
 /// Asks the sender on the link at a handle to use its credit up, and answers the flow that says so [2.6.7].
 pub fn drain<A: Allocator + Copy>(
     session: &mut Session<A>,
@@ -326,6 +344,24 @@ pub fn settle_range<A: Allocator + Copy>(
     ensures err { OnErr result (session.new ≡ session.old) }
 {
     session.settle_range(first, last, outcome)
+}
+
+/// Settles the open deliveries whose ids stand in the range from `first` to `last`, and answers what the disposition has to say,
+/// which the caller writes [2.7.6].
+pub fn settle_named<A: Allocator + Copy>(
+    session: &mut Session<A>,
+    first: u32,
+    last: u32,
+) -> Result<Named, CallFault>
+    ensures may { OnOk result (SessionMay session.old (Settled first last)) }
+    ensures new { OnOk result (session.new ≡ session_after session.old (Settled first last)) }
+    ensures accepted { OnOk result (range_fault first last session.old ≡ None) }
+    ensures settled { IfOk result (λ named. named.settled ≡ settles_at_once (standing_in first session.old.links)) }
+    ensures count { IfOk result (λ named. named.count ≡ named_total first last session.old) }
+    ensures refused { IfErr result (λ e. range_fault first last session.old ≡ Some e) }
+    ensures err { OnErr result (session.new ≡ session.old) }
+{
+    session.settle_named(first, last)
 }
 
 /// Ends the link at a handle [2.6.6].

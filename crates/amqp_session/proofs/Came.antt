@@ -1,30 +1,42 @@
 -- The index of a session after a transfer.
-use Rattle.std.proofs.Common.{arith, ◌≡◌, ℕ, ◌+◌, ◌<◌, ◌≤◌, ◌^◌, subst, Bool, true, false, not, ◌&&◌, List, [], ◌∷◌, ◌++◌, refl, sym, ap, ◌∙◌, Option, Some, None}
-use Rattle.std.specs.Prelude.{slice_get, unwrap_or, option_map, option_to_list, is_none, is_some, nat_eq, if◌then◌else◌, IfSome}
+use Rattle.std.proofs.Common.{arith, ◌≡◌, ℕ, ◌+◌, ◌-◌, ◌%◌, ◌<◌, ◌≤◌, ◌^◌, subst, Bool, true, false, not, ◌&&◌, List, [], ◌∷◌, ◌++◌, refl, sym, ap, ◌∙◌, ne_eqb, Option, Some, None}
+use Rattle.std.specs.Prelude.{slice_get, unwrap_or, option_map, option_to_list, is_none, is_some, nat_eq, if◌then◌else◌}
 use Rattle.std.specs.List.{count_by}
-use Rattle.std.proofs.lemmas.Bool.{eqb-true, eq-eqb, and_parts, and_from}
+use Rattle.std.specs.Option.{option_map_or}
+use Rattle.std.proofs.lemmas.Bool.{eqb-true, eq-eqb, and_from}
+use Rattle.std.proofs.lemmas.Option.{same_Some}
 use Rattle.amqp_link.specs.declared.transfer.LinkFault.{LinkFault}
+use Rattle.amqp_link.specs.declared.transfer.LinkFault.TheVariants as link_fault
+use Rattle.amqp_link.specs.declared.transfer.Step.{Step}
+use Rattle.amqp_link.specs.declared.transfer.Verdict.{Verdict}
+use Rattle.amqp_link.specs.declared.transfer.Verdict.TheVariants.{Begins, GoesOn, Passes, GivesUp, Fails}
 use Rattle.amqp_link.specs.Histories.{one_if}
 use Rattle.amqp_link.specs.Laws.{id_count}
-use Rattle.amqp_link.specs.Links.{Sent, LinkState, LinkEvent, Delivery, has_id, link_after, Transferred, begun, delivery_after, goes_on, completes}
+use Rattle.amqp_link.specs.Links.{Sent, LinkState, LinkEvent, Delivery, has_id, link_after, Transferred, delivery_after, goes_on, completes, fault_of, known_fault, may_grow, step_of, IsVerdict}
+use Rattle.amqp_link.proofs.Steps.{skip_some}
 use Rattle.amqp_link.proofs.Hints.{no_true, count_append, count_cons as count_both}
+use Rattle.amqp_session.specs.declared.fault.SessionFault.TheVariants as fault
 use Rattle.amqp_session.specs.declared.index.Kept.{Kept}
 use Rattle.amqp_session.specs.declared.report.Report.{Report}
+use Rattle.amqp_session.specs.declared.report.Report.TheVariants as report
 use Rattle.amqp_session.specs.declared.slot.Slot.{Slot}
 use Rattle.amqp_session.specs.declared.slot.Slot.TheVariants.{Free, Live, Waits}
-use Rattle.amqp_session.specs.Places.{Happens, slot_after, slot_map}
+use Rattle.amqp_session.specs.Places.{slot_after, slot_map, live_in, places_after}
 use Rattle.amqp_session.specs.Places as place
-use Rattle.amqp_session.specs.Faults.{session_fault, event_of, transfer_event, transfer_report, transfer_fault, came_report, report_of, step_report}
+use Rattle.amqp_session.specs.Faults.{or_else, where_so, is_free, handle_fault, session_fault, event_of, transfer_event, transfer_report, transfer_fault, came_report, report_of, step_report, link_condition}
+use Rattle.amqp_session.specs.Faults.{slot_may_grow, frame_may_grow}
 use Rattle.amqp_session.specs.Frames.{Transfers}
-use Rattle.amqp_session.specs.Sessions.{Attached, LiveLink, live_begins, live_after, SessionState, SessionEvent, session_after, slot_at, slot_count, table_count, happens}
+use Rattle.amqp_session.specs.Sessions.{LiveLink, live_begins, live_after, SessionState, SessionEvent, session_after, slot_at, slot_count, slot_ready, table_count, is_open_id, is_transfer, widened_by, stated_by, happens}
 use Rattle.amqp_session.specs.Sessions as event
 use Rattle.amqp_session.specs.Slots.{at_place}
-use Rattle.amqp_session.specs.Indexes.{found, ids_of, gone_of, given_up, told_of, is_kept_at, IsIndexed, IsEnded, IsBegun, IsNotBegun, IsPut, slot_unfinished, slot_does_begin, does_begin}
-use Rattle.amqp_link.specs.declared.transfer.Step.TheVariants.{Unfinished, Ready, Aborted}
-use Rattle.amqp_session.proofs.Accepts.{fresh, window_handle}
+use Rattle.amqp_session.specs.Links.{link_in, link_at, with_link, counted}
+use Rattle.amqp_session.specs.Indexes.{found, ids_of, gone_of, is_kept_at, IsIndexed, IsPut, IsTaken, IsKeptBehind, is_begun}
+use Rattle.amqp_session.proofs.Accepts.{fresh}
 use Rattle.amqp_session.proofs.Ids.{new_id}
-use Rattle.amqp_session.proofs.Indexed.{went, index_by, after_kept, after_left, gone_left, nothing_counted, leaves_counted, most_one, nowhere_else}
-use Rattle.amqp_session.proofs.Lookups.{here_counted}
+use Rattle.amqp_session.proofs.Indexed.{went, index_by, after_kept, after_left, gone_left, leaves_counted, most_one, nowhere_else}
+use Rattle.amqp_session.proofs.Lent.{lives, went_on}
+use Rattle.amqp_session.proofs.Lookups.{here_counted, known_open}
+use Rattle.amqp_session.proofs.Padded.{none_after}
 use Rattle.amqp_session.proofs.Standings.{slot_within}
 use Rattle.amqp_session.proofs.Tables.{get_after}
 
@@ -123,8 +135,8 @@ begins_kept entries entries' id h q i kept none at put = ap (λ (o : Option Kept
 
 -- The unfinished one is given up. ---------------------------------------------------------------------------------------------
 
-pub given_kept : (gone q i : ℕ) (o : Option Kept) → one_if (is_kept_at i (given_up (Some gone) q o)) ≡ (if nat_eq gone q then 0 else one_if (is_kept_at i o))
-given_kept gone q i o = by (nat_eq gone q)
+pub given_kept : (gone q i : ℕ) (o p : Option Kept) → p ≡ (if nat_eq gone q then None else o) → one_if (is_kept_at i p) ≡ (if nat_eq gone q then 0 else one_if (is_kept_at i o))
+given_kept gone q i o p put = ap (λ (o : Option Kept). one_if (is_kept_at i o)) put ∙ by (nat_eq gone q)
   where
     by : (b : Bool) → one_if (is_kept_at i (if b then None else o)) ≡ (if b then 0 else one_if (is_kept_at i o))
     by true = refl
@@ -144,7 +156,33 @@ given_counted q h gone e links l i live is most away = goes_counted q h e links 
     by false true f g = let none : one_if (nat_eq gone q) ≡ 0 = ap one_if f in let was = had q h i links l live g in omega (arith, is, none, was)
     by false false f g = refl
 
--- A transfer. --------------------------------------------------------------------------------------------------------------------
+-- how the count of one link moves
+shifted : (q : ℕ) (l : LinkState) (t : Sent) (u : Option Delivery) (a : Bool) → l.unfinished ≡ u → t.aborted ≡ a →
+    id_count q (link_after l (Transferred t)) + count_by (has_id q) (option_to_list u) ≡ id_count q l + (if a then 0 else one_if (has_id q (delivery_after l.terms u t)))
+shifted q l t u a e f =
+    let first = ap (λ (o : Option Delivery). count_by (has_id q) (option_to_list o)) e in
+    let last = ap (λ (b : Bool). if b then 0 else one_if (has_id q (delivery_after l.terms l.unfinished t))) f ∙ ap (λ (o : Option Delivery). if a then 0 else one_if (has_id q (delivery_after l.terms o t))) e in
+    omega (arith, came_counted q l t, was_counted q l, first, last)
+
+-- What a transfer comes to. -------------------------------------------------------------------------------------------------------
+
+-- where it is not refused it has no fault
+pub taken_of : (known : Bool) (l : LinkState) (t : Sent) (v : Verdict) → ((f : LinkFault) → v ≡ Fails f → ⊥) → IsVerdict known l t v → (known_fault known l t ≡ None) × IsTaken l t v
+taken_of known l t (Begins key) other is = (is.0, ((skip_some (not t.resume && (is_none l.unfinished && known)) link_fault.InvalidField (fault_of l t) is.0).1, is.1, is.2))
+taken_of known l t GoesOn other is = (is.0, ((skip_some (not t.resume && (is_none l.unfinished && known)) link_fault.InvalidField (fault_of l t) is.0).1, is.1, is.2))
+taken_of known l t Passes other is = (is.0, ((skip_some (not t.resume && (is_none l.unfinished && known)) link_fault.InvalidField (fault_of l t) is.0).1, is.1, is.2))
+taken_of known l t (GivesUp id) other is = (is.0, ((skip_some (not t.resume && (is_none l.unfinished && known)) link_fault.InvalidField (fault_of l t) is.0).1, is.1, is.2))
+taken_of known l t (Fails f) other is = absurd (other f refl)
+
+-- what begins a delivery is a head
+pub begun_head : (l : LinkState) (t : Sent) (v : Verdict) → IsTaken l t v → is_begun v ≡ true → l.unfinished ≡ None
+begun_head l t (Begins key) taken e = taken.1
+begun_head l t GoesOn taken e = absurd (no_true e)
+begun_head l t Passes taken e = absurd (no_true e)
+begun_head l t (GivesUp id) taken e = absurd (no_true e)
+begun_head l t (Fails f) taken e = absurd (no_true e)
+
+-- The index. ---------------------------------------------------------------------------------------------------------------------
 
 -- an id that no place has is not in the index
 none_kept : (entries : List (ℕ × Kept)) (links : List (Slot LiveLink)) → IsIndexed entries links → (id : ℕ) → id < 2 ^ 32 → table_count id links ≡ 0 → found entries id ≡ None
@@ -160,135 +198,155 @@ none_kept entries links indexed id low none = by (found entries id) refl
         let one = here_counted entries links indexed id low kept (sym e) in
         let most = within kept.handle (slice_get links kept.handle) refl in absurd (omega (arith, one, most, none))
 
-none_of : (o : Option LinkFault) → is_none o ≡ true → o ≡ None
-none_of None e = refl
-none_of (Some f) e = absurd (no_true e)
-
--- a delivery that begins has an id that is not in the index
-pub begun_free : (entries : List (ℕ × Kept)) (s : SessionState) (h : ℕ) (t : Sent) → IsIndexed entries s.links → unwrap_or t.delivery_id 0 < 2 ^ 32 → does_begin s h t ≡ true →
+-- a delivery that begins has an id that is not in it
+pub begun_free : (entries : List (ℕ × Kept)) (s : SessionState) (l : LinkState) (t : Sent) → IsIndexed entries s.links → unwrap_or t.delivery_id 0 < 2 ^ 32 → transfer_fault s l t ≡ None → l.unfinished ≡ None →
     found entries (unwrap_or t.delivery_id 0) ≡ None
-begun_free entries s h t indexed low e = by (slot_at s h) (and_parts (not (nat_eq s.window 0)) (slot_does_begin s t (slot_at s h)) e).1
+begun_free entries s l t indexed low none head =
+    let ok = fresh s l t none in
+    none_kept entries s.links indexed (unwrap_or t.delivery_id 0) low
+    (new_id (unwrap_or t.delivery_id 0) s l t ok.0 ok.1 (and_from (is_none l.unfinished) (nat_eq (unwrap_or t.delivery_id 0) (unwrap_or t.delivery_id 0)) (ap is_none head) (eq-eqb (unwrap_or t.delivery_id 0) (unwrap_or t.delivery_id 0) refl)))
+
+-- it holds behind a transfer that was taken
+pub came_indexed : (entries after : List (ℕ × Kept)) (s new : SessionState) (h : ℕ) (t : Sent) (l : LiveLink) (v : Verdict) → slot_at s h ≡ Live l → IsTaken l.link t v → new ≡ session_after s (event.TransferCame h t) →
+    (is_begun v ≡ true → found entries (unwrap_or t.delivery_id 0) ≡ None) → IsKeptBehind v h (unwrap_or t.delivery_id 0) entries after → IsIndexed entries s.links → IsIndexed after new.links
+came_indexed entries after s new h t l (Begins key) here taken is free put was =
+    subst (λ (u : SessionState). IsIndexed after u.links) (sym is)
+    (index_by (λ q i n. n + one_if (nat_eq (unwrap_or t.delivery_id 0) q && nat_eq h i)) entries after s.links (went (place.GoesOn h (Transferred t)) s.links)
+    (λ q i n. begins_counted q h (unwrap_or t.delivery_id 0) (Transferred t) s.links l i here (let one = shifted q l.link t None false taken.1 taken.2 in omega (arith, one)))
+    (λ q i n. begins_kept entries after (unwrap_or t.delivery_id 0) h q i (record { handle = h; key = key }) (free refl) refl put)
+    was)
+came_indexed entries after s new h t l GoesOn here taken is free put was = by l.link.unfinished refl taken.1
   where
-    by : (x : Slot LiveLink) → slot_does_begin s t x ≡ true → found entries (unwrap_or t.delivery_id 0) ≡ None
-    by Free f = absurd (no_true f)
-    by (Live l) f =
-        let two = and_parts (is_none l.link.unfinished && not t.aborted) (is_none (transfer_fault s l.link t)) f in
-        let one = and_parts (is_none l.link.unfinished) (not t.aborted) two.0 in
-        let ok = fresh s l.link t (none_of (transfer_fault s l.link t) two.1) in
-        none_kept entries s.links indexed (unwrap_or t.delivery_id 0) low
-        (new_id (unwrap_or t.delivery_id 0) s l.link t ok.0 ok.1 (and_from (is_none l.link.unfinished) (nat_eq (unwrap_or t.delivery_id 0) (unwrap_or t.delivery_id 0)) one.0 (eq-eqb (unwrap_or t.delivery_id 0) (unwrap_or t.delivery_id 0) refl)))
-    by Waits f = absurd (no_true f)
-
-pub begins_free : (entries : List (ℕ × Kept)) (s : SessionState) (h : ℕ) (t : Sent) (begins : Option Kept) → IsIndexed entries s.links → unwrap_or t.delivery_id 0 < 2 ^ 32 → is_some begins ≡ does_begin s h t →
-    IfSome begins (λ kept. found entries (unwrap_or t.delivery_id 0) ≡ None)
-begins_free entries s h t None indexed low e = tt
-begins_free entries s h t (Some kept) indexed low e = begun_free entries s h t indexed low (sym e)
-
--- one that did not begin after all was taken out again
-pub refused_indexed : (entries e1 e2 : List (ℕ × Kept)) (s new : SessionState) (h : ℕ) (t : Sent) (begins : Option Kept) → new ≡ s → unwrap_or t.delivery_id 0 < 2 ^ 32 →
-    is_some begins ≡ does_begin s h t → IsBegun entries e1 (unwrap_or t.delivery_id 0) begins → IsNotBegun e1 e2 (unwrap_or t.delivery_id 0) begins → IsIndexed entries s.links → IsIndexed e2 new.links
-refused_indexed entries e1 e2 s new h t begins is low some begun gone was =
-    subst (λ (u : SessionState). IsIndexed e2 u.links) (sym is) (by begins some begun gone)
+    by : (u : Option Delivery) → l.link.unfinished ≡ u → is_none l.link.unfinished ≡ false → IsIndexed after new.links
+    by None e some = absurd (no_true (sym (sym (ap is_none e) ∙ some)))
+    by (Some d) e some =
+        after_kept entries after s new (event.TransferCame h t) is
+        (λ q i. same_counted q h (Transferred t) s.links l i here (let one = shifted q l.link t (Some d) false e taken.2 in let two = count_both (has_id q) d [] in omega (arith, one, two)))
+        (λ q low. ap (λ (es : List (ℕ × Kept)). found es q) put) was
+came_indexed entries after s new h t l Passes here taken is free put was =
+    after_kept entries after s new (event.TransferCame h t) is
+    (λ q i. same_counted q h (Transferred t) s.links l i here (let one = shifted q l.link t None true taken.1 taken.2 in omega (arith, one)))
+    (λ q low. ap (λ (es : List (ℕ × Kept)). found es q) put) was
+came_indexed entries after s new h t l (GivesUp gone) here taken is free put was = by l.link.unfinished refl taken.1
   where
-    by : (o : Option Kept) → is_some o ≡ does_begin s h t → IsBegun entries e1 (unwrap_or t.delivery_id 0) o → IsNotBegun e1 e2 (unwrap_or t.delivery_id 0) o → IsIndexed e2 s.links
-    by None e f g = subst (λ (es : List (ℕ × Kept)). IsIndexed es s.links) (sym (g ∙ f)) was
-    by (Some kept) e f g =
-        index_by (λ q i n. n) entries e2 s.links s.links (λ q i m. refl) (λ q i m. ap (λ (o : Option Kept). one_if (is_kept_at i o)) (same q (nat_eq (unwrap_or t.delivery_id 0) q) refl)) was
-      where
-        free : found entries (unwrap_or t.delivery_id 0) ≡ None
-        free = begun_free entries s h t was low (sym e)
+    none_some : None ≡ Some gone → ⊥
+    none_some e = cc
 
-        same : (q : ℕ) (b : Bool) → nat_eq (unwrap_or t.delivery_id 0) q ≡ b → found e2 q ≡ found entries q
-        same q true m =
-            g q ∙ ap (λ (b : Bool). if b then None else found e1 q) m ∙ sym (ap (found entries) (sym (eqb-true (unwrap_or t.delivery_id 0) q m)) ∙ free)
-        same q false m =
-            g q ∙ ap (λ (b : Bool). if b then None else found e1 q) m ∙ f q ∙ ap (λ (b : Bool). if b then Some kept else found entries q) m
-
--- how the count of one link moves
-shifted : (q : ℕ) (l : LinkState) (t : Sent) (u : Option Delivery) (a : Bool) → l.unfinished ≡ u → t.aborted ≡ a →
-    id_count q (link_after l (Transferred t)) + count_by (has_id q) (option_to_list u) ≡ id_count q l + (if a then 0 else one_if (has_id q (delivery_after l.terms u t)))
-shifted q l t u a e f =
-    let first = ap (λ (o : Option Delivery). count_by (has_id q) (option_to_list o)) e in
-    let last = ap (λ (b : Bool). if b then 0 else one_if (has_id q (delivery_after l.terms l.unfinished t))) f ∙ ap (λ (o : Option Delivery). if a then 0 else one_if (has_id q (delivery_after l.terms o t))) e in
-    omega (arith, came_counted q l t, was_counted q l, first, last)
-
--- a transfer that was accepted
-pub transferred_indexed : (entries e1 e2 : List (ℕ × Kept)) (s new : SessionState) (h : ℕ) (t : Sent) (told : Report) (ended : Option LiveLink) (begins : Option Kept) → new ≡ session_after s (event_of s (Transfers h t)) →
-    session_fault s (Transfers h t) ≡ None → told ≡ report_of s (Transfers h t) → IsEnded s told ended → unwrap_or t.delivery_id 0 < 2 ^ 32 → is_some begins ≡ does_begin s h t → IfSome begins (λ kept. kept.handle ≡ h) →
-    IsBegun entries e1 (unwrap_or t.delivery_id 0) begins → ((id : ℕ) → id < 2 ^ 32 → found e2 id ≡ told_of told ended (slot_unfinished (slot_at s h)) id (found e1 id)) → IsIndexed entries s.links →
-    IsIndexed e2 new.links
-transferred_indexed entries e1 e2 s new h t told ended begins is accepted tells end low first_some at begun left was =
-    by (slot_at s h) refl is (subst (λ (r : Report). IsEnded s r ended) tells end) (λ id m. left id m ∙ ap (λ (r : Report). told_of r ended (slot_unfinished (slot_at s h)) id (found e1 id)) tells)
-    (first_some ∙ ap (λ (b : Bool). not b && slot_does_begin s t (slot_at s h)) (window_handle s h t accepted).0)
-  where
-    none_begun : (o : Option Kept) → IsBegun entries e1 (unwrap_or t.delivery_id 0) o → is_some o ≡ false → e1 ≡ entries
-    none_begun None b e = b
-    none_begun (Some kept) b e = absurd (no_true (sym e))
-
-    shut : (a b : Bool) → b ≡ false → (a && b) ≡ false
-    shut true b e = e
-    shut false b e = refl
-
-    unmoved : (e : SessionEvent) → happens e ≡ place.Nothing → new ≡ session_after s e → ((id : ℕ) → id < 2 ^ 32 → found e2 id ≡ found e1 id) → is_some begins ≡ false → IsIndexed e2 new.links
-    unmoved e none is same nothing =
-        after_kept entries e2 s new e is (λ id i. ap (λ (x : Happens Attached LinkEvent). slot_count id (at_place (went x s.links) i)) none ∙ nothing_counted id s.links i)
-        (λ id m. same id m ∙ ap (λ (es : List (ℕ × Kept)). found es id) (none_begun begins begun nothing)) was
-
-    by_came : (l : LiveLink) (u : Option Delivery) (a m : Bool) → slot_at s h ≡ Live l → transfer_fault s l.link t ≡ None → l.link.unfinished ≡ u → t.aborted ≡ a → new ≡ session_after s (event.TransferCame h t) →
-        ((id : ℕ) → id < 2 ^ 32 → found e2 id ≡ told_of (step_report h (if a then Aborted else (if m then Unfinished else Ready))) ended (option_map (λ d. d.delivery_id) u) id (found e1 id)) →
-        is_some begins ≡ (is_none u && not a && true) → IsIndexed e2 new.links
-    by_came l None true m here none e f is left some =
-        after_kept entries e2 s new (event.TransferCame h t) is
-        (λ id i. same_counted id h (Transferred t) s.links l i here (let one = shifted id l.link t None true e f in omega (arith, one)))
-        (λ id n. left id n ∙ ap (λ (es : List (ℕ × Kept)). found es id) (none_begun begins begun some)) was
-    by_came l None false m here none e f is left some = by_begun begins begun at some
-      where
-        stays : (b : Bool) (id : ℕ) (o : Option Kept) → told_of (step_report h (if b then Unfinished else Ready)) ended None id o ≡ o
-        stays true id o = refl
-        stays false id o = refl
-
-        begins_it : does_begin s h t ≡ true
-        begins_it = sym first_some ∙ some
-
-        by_begun : (o : Option Kept) → IsBegun entries e1 (unwrap_or t.delivery_id 0) o → IfSome o (λ kept. kept.handle ≡ h) → is_some o ≡ true → IsIndexed e2 new.links
-        by_begun None b at e = absurd (no_true e)
-        by_begun (Some kept) b at one =
-            subst (λ (u : SessionState). IsIndexed e2 u.links) (sym is)
-            (index_by (λ q i n. n + one_if (nat_eq (unwrap_or t.delivery_id 0) q && nat_eq h i)) entries e2 s.links (went (place.GoesOn h (Transferred t)) s.links)
-            (λ q i n. begins_counted q h (unwrap_or t.delivery_id 0) (Transferred t) s.links l i here (let one = shifted q l.link t None false e f in omega (arith, one)))
-            (λ q i n. ap (λ (o : Option Kept). one_if (is_kept_at i o)) (left q n ∙ stays m q (found e1 q)) ∙ begins_kept entries e1 (unwrap_or t.delivery_id 0) h q i kept (begun_free entries s h t was low begins_it) at b)
-            was)
-    by_came l (Some d) true m here none e f is left some =
-        subst (λ (u : SessionState). IsIndexed e2 u.links) (sym is)
-        (index_by (λ q i n. if nat_eq d.delivery_id q then 0 else n) entries e2 s.links (went (place.GoesOn h (Transferred t)) s.links)
-        (λ q i n. given_counted q h d.delivery_id (Transferred t) s.links l i here
-        (let one = shifted q l.link t (Some d) true e f in let two = count_both (has_id q) d [] in omega (arith, one, two))
+    by : (u : Option Delivery) → l.link.unfinished ≡ u → option_map (λ (d : Delivery). d.delivery_id) l.link.unfinished ≡ Some gone → IsIndexed after new.links
+    by None e some = absurd (none_some (sym (ap (option_map (λ (d : Delivery). d.delivery_id)) e) ∙ some))
+    by (Some d) e some =
+        let same : d.delivery_id ≡ gone = same_Some d.delivery_id gone (sym (ap (option_map (λ (d : Delivery). d.delivery_id)) e) ∙ some) in
+        subst (λ (u : SessionState). IsIndexed after u.links) (sym is)
+        (index_by (λ q i n. if nat_eq gone q then 0 else n) entries after s.links (went (place.GoesOn h (Transferred t)) s.links)
+        (λ q i n. given_counted q h gone (Transferred t) s.links l i here
+        (let one = shifted q l.link t (Some d) true e taken.2 in let two = count_both (has_id q) d [] in let three = ap (λ (k : ℕ). one_if (nat_eq k q)) same in omega (arith, one, two, three))
         (most_one entries s.links was q h n) (λ j away more. nowhere_else entries s.links was q h n more j away))
-        (λ q i n. ap (λ (o : Option Kept). one_if (is_kept_at i o)) (left q n ∙ ap (λ (es : List (ℕ × Kept)). given_up (Some d.delivery_id) q (found es q)) (none_begun begins begun some))
-        ∙ given_kept d.delivery_id q i (found entries q))
+        (λ q i n. given_kept gone q i (found entries q) (found after q) (put q))
         was)
-    by_came l (Some d) false m here none e f is left some =
-        after_kept entries e2 s new (event.TransferCame h t) is
-        (λ id i. same_counted id h (Transferred t) s.links l i here
-        (let one = shifted id l.link t (Some d) false e f in let two = count_both (has_id id) d [] in omega (arith, one, two)))
-        (λ id n. left id n ∙ stays m id (found e1 id) ∙ ap (λ (es : List (ℕ × Kept)). found es id) (none_begun begins begun some)) was
-      where
-        stays : (b : Bool) (id : ℕ) (o : Option Kept) → told_of (step_report h (if b then Unfinished else Ready)) ended (Some d.delivery_id) id o ≡ o
-        stays true id o = refl
-        stays false id o = refl
+came_indexed entries after s new h t l (Fails f) here taken is free put was = absurd taken
 
-    by_fault : (l : LiveLink) (o : Option LinkFault) → slot_at s h ≡ Live l → transfer_fault s l.link t ≡ o → new ≡ session_after s (if is_none o then event.TransferCame h t else event.TransferEnded h) → IsEnded s (came_report h l.link t o) ended →
-        ((id : ℕ) → id < 2 ^ 32 → found e2 id ≡ told_of (came_report h l.link t o) ended (slot_unfinished (Live l)) id (found e1 id)) →
-        is_some begins ≡ (is_none l.link.unfinished && not t.aborted && is_none o) → IsIndexed e2 new.links
-    by_fault l None here e is end left some = by_came l l.link.unfinished t.aborted t.more here e refl refl is left some
-    by_fault l (Some f) here e is end left some =
-        after_left h entries e2 s new (event.TransferEnded h) is (λ id i. leaves_counted id h s.links i)
-        (λ id m. left id m
-        ∙ ap (λ (es : List (ℕ × Kept)). gone_of (ids_of ended) id (found es id)) (none_begun begins begun (some ∙ shut (is_none l.link.unfinished && not t.aborted) false refl))
-        ∙ gone_left h id ended entries s.links was m end) was
+-- What a transfer is. --------------------------------------------------------------------------------------------------------------
 
-    by : (x : Slot LiveLink) → slot_at s h ≡ x → new ≡ session_after s (transfer_event s h t x) → IsEnded s (transfer_report s h t x) ended →
-        ((id : ℕ) → id < 2 ^ 32 → found e2 id ≡ told_of (transfer_report s h t x) ended (slot_unfinished x) id (found e1 id)) → is_some begins ≡ slot_does_begin s t x → IsIndexed e2 new.links
-    by Free here is end left some = unmoved event.Ignored refl is left some
-    by (Live l) here is end left some = by_fault l (transfer_fault s l.link t) here refl is end left some
-    by Waits here is end left some = unmoved (event.TransferDropped h) refl is left some
+-- the session with a place of its window and a number less
+abbrev parts : SessionState → ℕ → ℕ → List (Slot LiveLink) → SessionState
+parts s w n ls = record { terms = s.terms; window = w; next_incoming_id = n; links = ls }
+
+counted_is : (s : SessionState) (w n : ℕ) (ls : List (Slot LiveLink)) (e : SessionEvent) → w - 1 ≡ s.window + widened_by e - one_if (is_transfer e) →
+    (n + 1) % 2 ^ 32 ≡ (unwrap_or (stated_by e) s.next_incoming_id + one_if (is_transfer e)) % 2 ^ 32 → ls ≡ places_after live_begins live_after s.links (happens e) →
+    parts s (w - 1) ((n + 1) % 2 ^ 32) ls ≡ session_after s e
+counted_is s w n ls e a b c =
+    ap (λ (m : ℕ). parts s m ((n + 1) % 2 ^ 32) ls) a
+    ∙ ap (λ (m : ℕ). parts s (s.window + widened_by e - one_if (is_transfer e)) m ls) b
+    ∙ ap (λ (ks : List (Slot LiveLink)). parts s (s.window + widened_by e - one_if (is_transfer e)) ((unwrap_or (stated_by e) s.next_incoming_id + one_if (is_transfer e)) % 2 ^ 32) ks) c
+
+-- where no link is live
+module _ (s : SessionState) (h : ℕ) (t : Sent) (some : 1 ≤ s.window) where
+  by_handle : session_fault s (Transfers h t) ≡ handle_fault s h
+  by_handle = ap (λ (b : Bool). or_else (where_so b fault.WindowViolation) (handle_fault s h)) (ne_eqb s.window 0 (λ e. absurd (omega (arith, e, some))))
+
+  pub has_one : is_free (slot_at s h) ≡ false → session_fault s (Transfers h t) ≡ None
+  has_one used = by_handle ∙ ap (λ (b : Bool). where_so b fault.UnattachedHandle) used
+
+  pub waits : None ≡ link_at s h → is_free (slot_at s h) ≡ false → slot_at s h ≡ Waits
+  waits none used = by (slot_at s h) none used
+    where
+      by : (x : Slot LiveLink) → None ≡ link_in x → is_free x ≡ false → x ≡ Waits
+      by Free none used = absurd (no_true (sym used))
+      by (Live l) none used = absurd (grind (arith, none))
+      by Waits none used = refl
+
+  pub dropped : s.next_incoming_id < 2 ^ 32 → slot_at s h ≡ Waits → counted s ≡ session_after s (event_of s (Transfers h t))
+  dropped short here =
+      counted_is s s.window s.next_incoming_id s.links (event.TransferDropped h) (omega arith) refl (sym (none_after s.links))
+      ∙ ap (λ (x : Slot LiveLink). session_after s (transfer_event s h t x)) (sym here)
+
+-- whether an open delivery has its id
+pub known_is : (entries : List (ℕ × Kept)) (s : SessionState) (o : Option ℕ) → IsIndexed entries s.links → unwrap_or o 0 < 2 ^ 32 →
+    option_map_or (λ id. is_some (found entries id)) o false ≡ option_map_or (is_open_id s) o false
+known_is entries s None indexed low = refl
+known_is entries s (Some id) indexed low = known_open entries s.links indexed id low
+
+-- where a link is
+module _ (s : SessionState) (h : ℕ) (t : Sent) (u : LinkState) (at : Some u ≡ link_at s h) (some : 1 ≤ s.window) where
+  pub live : (l : LiveLink) × (slot_at s h ≡ Live l) × (u ≡ l.link)
+  live = lives (slot_at s h) u at
+
+  pub is_used : is_free (slot_at s h) ≡ false
+  is_used = ap is_free live.1
+
+  pub accepted : session_fault s (Transfers h t) ≡ None
+  accepted = has_one s h t some is_used
+
+  pub fault_is : (known : Bool) → known ≡ option_map_or (is_open_id s) t.delivery_id false → known_fault known u t ≡ transfer_fault s live.0.link t
+  fault_is known is =
+      ap (λ (b : Bool). known_fault b u t) is ∙ ap (λ (l : LinkState). known_fault (option_map_or (is_open_id s) t.delivery_id false) l t) live.2
+
+  -- it is taken
+  module _ (none : transfer_fault s live.0.link t ≡ None) where
+    pub event_is : event_of s (Transfers h t) ≡ event.TransferCame h t
+    event_is = ap (λ (x : Slot LiveLink). transfer_event s h t x) live.1 ∙ ap (λ (o : Option LinkFault). if is_none o then event.TransferCame h t else event.TransferEnded h) none
+
+    pub came : (new : LinkState) → s.next_incoming_id < 2 ^ 32 → new ≡ link_after u (Transferred t) → counted (with_link s h new) ≡ session_after s (event_of s (Transfers h t))
+    came new short is =
+        ap (λ (w : LinkState). counted (with_link s h w)) is ∙ ap counted (went_on s h u (Transferred t) short at)
+        ∙ counted_is s (s.window + 0 - 0) ((s.next_incoming_id + 0) % 2 ^ 32) (session_after s (event.Called h (Transferred t))).links (event.TransferCame h t) (omega arith) (omega (arith, short)) refl
+        ∙ ap (λ (e : SessionEvent). session_after s e) (sym event_is)
+
+    pub came_told : (step : Step) → step ≡ step_of t → step_report h step ≡ report_of s (Transfers h t)
+    came_told step is =
+        ap (step_report h) is ∙ sym (ap (λ (x : Slot LiveLink). transfer_report s h t x) live.1 ∙ ap (λ (o : Option LinkFault). came_report h live.0.link t o) none)
+
+    pub grows : may_grow u t ≡ true → frame_may_grow s (Transfers h t) ≡ true
+    grows more =
+        ap (λ (x : Slot LiveLink). slot_may_grow s t x) live.1
+        ∙ and_from (is_none (transfer_fault s live.0.link t)) (may_grow live.0.link t) (ap is_none none) (ap (λ (l : LinkState). may_grow l t) (sym live.2) ∙ more)
+
+  -- it ends its link
+  module _ (f : LinkFault) (fails : transfer_fault s live.0.link t ≡ Some f) where
+    pub ends_is : event_of s (Transfers h t) ≡ event.TransferEnded h
+    ends_is = ap (λ (x : Slot LiveLink). transfer_event s h t x) live.1 ∙ ap (λ (o : Option LinkFault). if is_none o then event.TransferCame h t else event.TransferEnded h) fails
+
+    pub ended : (old new : SessionState) → old ≡ s → s.next_incoming_id < 2 ^ 32 → new ≡ session_after old (event.Detached h) → counted new ≡ session_after s (event_of s (Transfers h t))
+    ended old new same short is =
+        ap counted (is ∙ ap (λ (u : SessionState). session_after u (event.Detached h)) same)
+        ∙ counted_is s (s.window + 0 - 0) ((s.next_incoming_id + 0) % 2 ^ 32) (session_after s (event.Detached h)).links (event.TransferEnded h) (omega arith) (omega (arith, short)) refl
+        ∙ ap (λ (e : SessionEvent). session_after s e) (sym ends_is)
+
+    pub ended_told : (old : SessionState) (told : Report) → old ≡ s → told ≡ report.Failed h (link_condition f) (slot_ready (slot_at old h)) → told ≡ report_of s (Transfers h t)
+    ended_told old told same is =
+        is ∙ ap (λ (v : SessionState). report.Failed h (link_condition f) (slot_ready (slot_at v h))) same
+        ∙ ap (λ (x : Slot LiveLink). report.Failed h (link_condition f) (slot_ready x)) live.1
+        ∙ sym (ap (λ (x : Slot LiveLink). transfer_report s h t x) live.1 ∙ ap (λ (o : Option LinkFault). came_report h live.0.link t o) fails)
+
+-- the index behind it
+pub ended_indexed : (entries after : List (ℕ × Kept)) (s old new : SessionState) (h : ℕ) → old ≡ s → new ≡ session_after s (event.TransferEnded h) →
+    ((id : ℕ) → id < 2 ^ 32 → found after id ≡ gone_of (ids_of (live_in (slot_at old h))) id (found entries id)) → IsIndexed entries s.links → IsIndexed after new.links
+ended_indexed entries after s old new h same is left was =
+    after_left h entries after s new (event.TransferEnded h) is (λ id i. leaves_counted id h s.links i)
+    (λ id low. left id low ∙ gone_left h id (live_in (slot_at old h)) entries s.links was low (ap (λ (v : SessionState). live_in (slot_at v h)) same)) was
+
+-- and behind one that was refused memory
+pub still_indexed : (entries after : List (ℕ × Kept)) (s new : SessionState) → new ≡ s → ((id : ℕ) → found after id ≡ found entries id) → IsIndexed entries s.links → IsIndexed after new.links
+still_indexed entries after s new same still was =
+    subst (λ (v : SessionState). IsIndexed after v.links) (sym same)
+    (index_by (λ q i n. n) entries after s.links s.links (λ q i low. refl) (λ q i low. ap (λ (o : Option Kept). one_if (is_kept_at i o)) (still q)) was)

@@ -211,7 +211,7 @@ settled_indexed entries entries' s id h x t new closed apart low short at stands
         (λ q i n. given_counted q h id (ReceiverSettled id id) s.links live.0 i live.1
         (ap (λ (b : Bool). id_count q (link_after live.0.link (ReceiverSettled id id)) + (if b && nat_eq id q then 1 else 0)) e ∙ step q)
         (most_one entries s.links was q h n) (λ j away more. nowhere_else entries s.links was q h n more j away))
-        (λ q i n. ap (λ (o : Option Kept). one_if (is_kept_at i o)) (shut q n) ∙ given_kept id q i (found entries q))
+        (λ q i n. given_kept id q i (found entries q) (found entries' q) (shut q n))
         was
     by false shut e =
         index_by (λ q i n. n) entries entries' s.links (went (place.GoesOn h (ReceiverSettled id id)) s.links)

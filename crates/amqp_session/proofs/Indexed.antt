@@ -347,16 +347,16 @@ after_kept entries entries' s new e is counts same was =
 
 -- what is told of it is what happens to the index
 pub flow_indexed : (entries entries' : List (ℕ × Kept)) (s new : SessionState) (f : Flowing) (told : Report) (ended : Option LiveLink) → new ≡ session_after s (event_of s (Flows f)) → told ≡ report_of s (Flows f) → IsEnded s told ended →
-    ((id : ℕ) → id < 2 ^ 32 → found entries' id ≡ told_of told ended None id (found entries id)) → IsIndexed entries s.links → IsIndexed entries' new.links
+    ((id : ℕ) → id < 2 ^ 32 → found entries' id ≡ told_of told ended id (found entries id)) → IsIndexed entries s.links → IsIndexed entries' new.links
 flow_indexed entries entries' s new f told ended is tells end left was =
-    by_handle f.handle is (subst (λ (r : Report). IsEnded s r ended) tells end) (λ id low. left id low ∙ ap (λ (r : Report). told_of r ended None id (found entries id)) tells)
+    by_handle f.handle is (subst (λ (r : Report). IsEnded s r ended) tells end) (λ id low. left id low ∙ ap (λ (r : Report). told_of r ended id (found entries id)) tells)
   where
     unmoved : (e : SessionEvent) → happens e ≡ place.Nothing → new ≡ session_after s e → ((id : ℕ) → id < 2 ^ 32 → found entries' id ≡ found entries id) → IsIndexed entries' new.links
     unmoved e none is same =
         after_kept entries entries' s new e is (λ id i. ap (λ (x : Happens Attached LinkEvent). slot_count id (at_place (went x s.links) i)) none ∙ nothing_counted id s.links i) same was
 
     by_drained : (h : ℕ) (b : Bool) → new ≡ session_after s (event.LinkFlowCame h f.next_outgoing_id f.delivery_count) →
-        ((id : ℕ) → id < 2 ^ 32 → found entries' id ≡ told_of (if b then report.Drained h else report.Nothing) ended None id (found entries id)) → IsIndexed entries' new.links
+        ((id : ℕ) → id < 2 ^ 32 → found entries' id ≡ told_of (if b then report.Drained h else report.Nothing) ended id (found entries id)) → IsIndexed entries' new.links
     by_drained h true is same = after_kept entries entries' s new (event.LinkFlowCame h f.next_outgoing_id f.delivery_count) is
         (λ id i. on_counted id h (FlowStated f.delivery_count) s.links i (λ l. refl)) same was
     by_drained h false is same = after_kept entries entries' s new (event.LinkFlowCame h f.next_outgoing_id f.delivery_count) is
@@ -365,7 +365,7 @@ flow_indexed entries entries' s new f told ended is tells end left was =
     by_beyond : (h n : ℕ) (drained b : Bool) → new ≡ session_after s (if b then event.LinkFlowEnded h f.next_outgoing_id else event.LinkFlowCame h f.next_outgoing_id f.delivery_count) →
         IsEnded s (if b then report.Failed h condition.TransferLimitExceeded n else (if drained then report.Drained h else report.Nothing)) ended →
         ((id : ℕ) → id < 2 ^ 32 →
-        found entries' id ≡ told_of (if b then report.Failed h condition.TransferLimitExceeded n else (if drained then report.Drained h else report.Nothing)) ended None id (found entries id)) →
+        found entries' id ≡ told_of (if b then report.Failed h condition.TransferLimitExceeded n else (if drained then report.Drained h else report.Nothing)) ended id (found entries id)) →
         IsIndexed entries' new.links
     by_beyond h n drained true is end same =
         after_left h entries entries' s new (event.LinkFlowEnded h f.next_outgoing_id) is (λ id i. leaves_counted id h s.links i)
@@ -373,13 +373,13 @@ flow_indexed entries entries' s new f told ended is tells end left was =
     by_beyond h n drained false is end same = by_drained h drained is same
 
     by_slot : (h : ℕ) (x : Slot LiveLink) → new ≡ session_after s (flow_event h f x) → IsEnded s (flow_report h f x) ended →
-        ((id : ℕ) → id < 2 ^ 32 → found entries' id ≡ told_of (flow_report h f x) ended None id (found entries id)) → IsIndexed entries' new.links
+        ((id : ℕ) → id < 2 ^ 32 → found entries' id ≡ told_of (flow_report h f x) ended id (found entries id)) → IsIndexed entries' new.links
     by_slot h Free is end same = unmoved event.Ignored refl is same
     by_slot h (Live l) is end same = by_beyond h (length l.link.ready) (is_drained l.link f.delivery_count) (is_beyond l.link.delivery_count l.link.credit f.delivery_count) is end same
     by_slot h Waits is end same = unmoved event.Ignored refl is same
 
     by_handle : (o : Option ℕ) → new ≡ session_after s (named_event s f o) → IsEnded s (named_report s f o) ended →
-        ((id : ℕ) → id < 2 ^ 32 → found entries' id ≡ told_of (named_report s f o) ended None id (found entries id)) →
+        ((id : ℕ) → id < 2 ^ 32 → found entries' id ≡ told_of (named_report s f o) ended id (found entries id)) →
         IsIndexed entries' new.links
     by_handle None is end same = unmoved (event.FlowCame f.next_outgoing_id) refl is same
     by_handle (Some h) is end same = by_slot h (slot_at s h) is end same

@@ -15,7 +15,7 @@ use Rattle.amqp_session.specs.declared.fault.CallFault.{CallFault}
 use Rattle.amqp_session.specs.declared.fault.CallFault.TheVariants as refused
 use Rattle.amqp_session.specs.declared.slot.Slot.{Slot}
 use Rattle.amqp_session.specs.declared.slot.Slot.TheVariants.{Free, Live, Waits}
-use Rattle.amqp_session.specs.declared.slots.LinkStated.{LinkStated}
+use Rattle.amqp_session.specs.declared.state.LinkStated.{LinkStated}
 use Rattle.amqp_session.specs.Places.{AllGoOn, places_from}
 use Rattle.amqp_session.specs.Frames.{link_flow_said}
 use Rattle.amqp_session.specs.Faults.{where_so, link_flow}
@@ -74,12 +74,6 @@ module _ (s : SessionState) (h : ℕ) (t new : LinkState) (at : Some t ≡ link_
 -- a test of it is one of the link at the handle
 pub tested : (x : Slot LiveLink) (t : LinkState) (test : LinkState → Option CallFault) → Some t ≡ link_in x → at_link x test ≡ test t
 tested x t test at = let live = lives x t at in ap (λ (y : Slot LiveLink). at_link y test) live.1 ∙ ap test (sym live.2)
-
--- where none is live
-pub untested : (x : Slot LiveLink) (test : LinkState → Option CallFault) → None ≡ link_in x → at_link x test ≡ Some refused.NoLink
-untested Free test e = refl
-untested (Live l) test e = absurd (grind (arith, e))
-untested Waits test e = refl
 
 -- A call that its link accepted. ----------------------------------------------------------------------------------------
 
@@ -192,18 +186,6 @@ all_on k e (s ∷ slots) = ap (λ (rest : List (Slot LiveLink)). slot_called e s
 
 module _ (s : SessionState) (id h : ℕ) (x : Standing) (apart : IsApart s) (small : id < 2 ^ 32) (stands : slot_standing id (slot_at s h) ≡ x) (whole : standing_in id s.links ≡ x)
     (none : standing_fault x ≡ None) where
-  -- a link is live at the handle
-  pub one_lives : None ≡ link_at s h → ⊥
-  one_lives e = by_slot (slot_at s h) stands e
-    where
-      absent : Absent ≡ x → ⊥
-      absent e = absurd (grind (arith, none, ap standing_fault e))
-
-      by_slot : (y : Slot LiveLink) → slot_standing id y ≡ x → None ≡ link_in y → ⊥
-      by_slot Free is e = absent is
-      by_slot (Live l) is e = absurd (grind (arith, e))
-      by_slot Waits is e = absent is
-
   -- it can settle the id
   pub may_settle : (t : LinkState) → Some t ≡ link_at s h → settle_fault id id (open_set t) ≡ None
   may_settle t at =

@@ -1,9 +1,8 @@
 -- What the index of a session says of an id.
-use Rattle.std.proofs.Common.{arith, ◌≡◌, ℕ, zero, suc, ◌+◌, ◌<◌, ◌≤◌, ◌^◌, Bool, true, false, List, [], ◌∷◌, length, refl, sym, ap, ◌∙◌, Option, Some, None}
+use Rattle.std.proofs.Common.{arith, ◌≡◌, ℕ, zero, suc, ◌+◌, ◌<◌, ◌≤◌, ◌^◌, Bool, true, false, List, [], ◌∷◌, refl, sym, ap, ◌∙◌, Option, Some, None}
 use Rattle.std.specs.Prelude.{slice_get, unwrap_or, is_some, nat_eq, nat_lt, cond, if◌then◌else◌, ◌||◌}
 use Rattle.std.specs.List.{list_any, count_by}
 use Rattle.std.proofs.lemmas.Bool.{eq-eqb, ne_eqb, lt-ltb, le-ltb}
-use Rattle.std.proofs.lemmas.Option.{slice_get_past}
 use Rattle.amqp_link.specs.declared.settlement.Standing.{Standing}
 use Rattle.amqp_link.specs.declared.settlement.Standing.TheVariants.{Absent, Untaken, Told, Awaiting}
 use Rattle.amqp_link.specs.Histories.{one_if}
@@ -78,16 +77,6 @@ module _ (entries : List (ℕ × Kept)) (slots : List (Slot LiveLink)) (indexed 
 
   pub found_here : (kept : Kept) → Some kept ≡ found entries id → standing_in id slots ≡ slot_standing id (at_place slots kept.handle)
   found_here kept e = stands_at_one id slots kept.handle (other_counted kept e)
-
-  pub found_within : (kept : Kept) → Some kept ≡ found entries id → kept.handle < length slots
-  found_within kept e = by (nat_lt kept.handle (length slots)) refl
-    where
-      by : (b : Bool) → nat_lt kept.handle (length slots) ≡ b → kept.handle < length slots
-      by true f = grind (arith, f)
-      by false f =
-          let beyond : length slots ≤ kept.handle = grind (arith, f) in
-          let free : slot_count id (at_place slots kept.handle) ≡ 0 = ap (λ (o : Option (Slot LiveLink)). slot_count id (unwrap_or o Free)) (slice_get_past slots kept.handle beyond) in
-          absurd (omega (arith, free, here_counted kept e))
 
   -- an id is open exactly where the index has it
   pub known_open : is_some (found entries id) ≡ list_any (slot_has id) slots

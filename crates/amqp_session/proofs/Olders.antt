@@ -98,13 +98,6 @@ pub apart_second : (a b c : List (ℕ × Kept)) (id : ℕ) (o : Option Kept) →
 apart_second a b c id o apart none put q =
     by_id id q (λ n. IsSome (found a n) → found c n ≡ None) (λ some. absurd (false_true (ap is_some (sym none) ∙ some))) (λ is some. put_elsewhere b c id o put q is ∙ apart q some)
 
--- one is taken out of the first, and in the second that changes
-pub apart_out : (a b c d : List (ℕ × Kept)) (id : ℕ) (o : Option Kept) → AreApart a b → IsPut a c id None → IsPut b d id o → AreApart c d
-apart_out a b c d id o apart first second q =
-    by_id id q (λ n. IsSome (found c n) → found d n ≡ None)
-    (λ some. absurd (false_true (ap is_some (sym (put_there a c id None first)) ∙ some)))
-    (λ is some. put_elsewhere b d id o second q is ∙ apart q (no_more (found c q) (found a q) (put_elsewhere a c id None first q is) some))
-
 -- Answers. --------------------------------------------------------------------------------------------------------------------
 
 pub on_ok : {X E : Type 0} (r : Result X E) (P Q : Type 0) → (P → Q) → OnOk r P → OnOk r Q
@@ -121,6 +114,10 @@ still_apart (Ok y) a b c id x apart none put same = apart_second a b c id (Some 
 still_apart (Err e) a b c id x apart none put same = subst (AreApart a) (sym same) apart
 
 -- The next one. ---------------------------------------------------------------------------------------------------------------
+
+-- the first id stands in the first
+pub next_at_once : (a b : List (ℕ × Kept)) (from last : ℕ) (x : Kept) → from ≤ last → found a from ≡ Some x → IsNext (a ++ b) from last (Some (from, x))
+next_at_once a b from last x order here = (omega (arith), order, in_first a b from x here, λ q l m. absurd (omega (arith, l, m)))
 
 -- none in the first
 pub next_second : (a b : List (ℕ × Kept)) (from last : ℕ) (other : Option (ℕ × Kept)) → IsNext a from last None → IsNext b from last other → IsNext (a ++ b) from last other

@@ -160,9 +160,6 @@ table_zero id k (s ∷ slots) e =
     let here = slot_zero id s (omega (arith, e, table_cons id s slots)) in
     let rest = table_zero id (suc k) slots (omega (arith, e, table_cons id s slots)) in omega (arith, here, rest, table_cons id (settled id s) (all_settled id (suc k) slots))
 
-same_mode : (m n : ReceiverSettleMode) → Awaiting m ≡ Awaiting n → m ≡ n
-same_mode m n e = ap (λ (x : Standing). elim x [ Absent ↦ m | Untaken ↦ m | Told ↦ m | Awaiting k ↦ k ]) e
-
 table_gone : (id k : ℕ) → id < 2 ^ 32 → (slots : List (Slot LiveLink)) → table_count id slots ≤ 1 → standing_in id slots ≡ Awaiting First → table_count id (all_settled id k slots) ≡ 0
 table_gone id k l [] few e = absurd (grind (arith, e))
 table_gone id k l (s ∷ slots) few e = by (λ e. table_gone id (suc k) l slots (omega (arith, few, table_cons id s slots)) e) (slot_standing id s) refl e

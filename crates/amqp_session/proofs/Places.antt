@@ -142,7 +142,3 @@ module _ {B E T : Type 0} (start : B → T) (next : T → E → T) (state : B �
         each_place start next 0 n x (λ k. life_state state (lives k)) ∙ tabulate_same 0 n _ _ (λ j l. (each j (omega (arith, l))).0),
         λ k l. (each k l).1,
       )
-
-  -- a table where nothing has happened
-  pub places_begin : (n : ℕ) → (states state n (λ k. Free) ≡ tabulate 0 n (λ k. Free)) × AreSound Sound n (λ k. Free)
-  places_begin n = (refl, λ k l. tt)

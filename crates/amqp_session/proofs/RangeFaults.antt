@@ -20,7 +20,7 @@ use Rattle.amqp_session.specs.Sessions.{LiveLink, SessionState, IsApart}
 use Rattle.amqp_session.specs.Calls.{live_has, slot_names_untaken, slot_names_told, slot_names_first, slot_names_second, is_absent, is_behind, settles_at_once, standing_in, standing_fault, range_fault}
 use Rattle.amqp_session.specs.Indexes.{is_untaken}
 use Rattle.amqp_session.specs.Laws.{slot_named, named_total}
-use Rattle.amqp_session.specs.Surveys.{live_number, is_told, can_tell, untaken_in, told_in, to_settle_in, to_tell_in, IsSurvey, survey_fault, AreReady}
+use Rattle.amqp_session.specs.Surveys.{live_number, is_told, can_tell, untaken_in, told_in, to_settle_in, to_tell_in, IsSurvey, survey_fault}
 use Rattle.amqp_session.proofs.RangeMays.{skip_fault}
 use Rattle.amqp_session.proofs.RangeCounts.{Test, passes, counts, number, IsPart, fewer}
 use Rattle.amqp_session.proofs.RangeSteps.{covered, told_one, to_settle_one, to_tell_one, not_handed_up, handed_up, untaken_part, told_part, to_tell_part, to_settle_part, untaken_as, told_as, to_settle_as, to_tell_as}
@@ -207,9 +207,6 @@ module _ (first last : ℕ) (s : SessionState) (v : Survey) (is : IsSurvey first
   -- so many are named
   pub named_is : survey_fault v ≡ None → v.to_settle + v.to_tell ≡ named_total first last s
   named_is none = let ready = no_fault v none in omega (arith, ready.1, is.told, is.to_settle, is.to_tell, named_all first last s.links)
-
-  pub ready_is : survey_fault v ≡ None → AreReady first last s.links
-  ready_is none = let ready = no_fault v none in record { untaken = sym is.untaken ∙ ready.0; told = sym is.told ∙ ready.1 }
 
   -- and all are in the mode of the first
   module _ (apart : IsApart s) (low : first < 2 ^ 32) (ends : ends_fault first last s ≡ false) (none : survey_fault v ≡ None) where

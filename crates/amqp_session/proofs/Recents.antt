@@ -1,6 +1,6 @@
 -- Which deliveries are open among those that stand in their places, and where an id is found.
 use Rattle.std.proofs.Common.{arith, ◌≡◌, ℕ, zero, suc, ◌+◌, ◌<◌, ◌≤◌, ◌⊎◌, inl, inr, Bool, true, false, List, [], ◌∷◌, ◌++◌, length, refl, sym, ap, ◌∙◌, Option, Some, None, IsSome, subst}
-use Rattle.std.specs.Prelude.{slice_get, slice_set, option_to_list, is_some, is_none, nat_eq, cond, if◌then◌else◌, option_map}
+use Rattle.std.specs.Prelude.{IfSome, slice_get, slice_set, option_to_list, is_some, is_none, nat_eq, cond, if◌then◌else◌, option_map}
 use Rattle.std.specs.List.{cons_option}
 use Rattle.std.specs.Ordering.{nat_cmp}
 use Rattle.std.specs.BTreeMap.{is_at}
@@ -8,7 +8,7 @@ use Rattle.std.proofs.lemmas.Bool.{eqb-true, eqb-false, cases_lt, cases_order}
 use Rattle.std.proofs.lemmas.Grind.{common_steps}
 use Rattle.std.proofs.lemmas.Option.{slice_get_within}
 use Rattle.amqp_session.specs.declared.index.Kept.{Kept}
-use Rattle.amqp_session.specs.declared.recent.Begun.{Begun}
+use Rattle.amqp_session.specs.declared.index.Begun.{Begun}
 use Rattle.amqp_session.specs.Indexes.{found, IsPut, IsNext}
 use Rattle.amqp_session.specs.Recents.{open_of, has_id_at, is_closed_at, IsRising, AreBelow, AreFrom, IsPlaceOf, IsClosed, IsNotOpen}
 
@@ -113,6 +113,13 @@ open_there : (bs : List Begun) → IsRising bs → (id p : ℕ) (b : Begun) → 
 open_there bs rising id p b at same None kept =
     none_found bs id (λ i c x e. ap (λ (d : Begun). d.kept) (one_there bs i p c b x at (one_place bs rising i p c b x at (e ∙ sym same))) ∙ kept)
 open_there bs rising id p b at same (Some x) kept = ap (found (open_of bs)) (sym same) ∙ found_open bs rising p b x at kept
+
+pub some_there : (bs : List Begun) → IsRising bs → (id p : ℕ) (b : Begun) → slice_get bs p ≡ Some b → b.id ≡ id → IfSome b.kept (λ kept. found (open_of bs) id ≡ Some kept)
+some_there bs rising id p b at same = by b.kept refl
+  where
+    by : (o : Option Kept) → b.kept ≡ o → IfSome o (λ kept. found (open_of bs) id ≡ Some kept)
+    by None is = tt
+    by (Some x) is = open_there bs rising id p b at same (Some x) is
 
 pub looked : (bs : List Begun) → IsRising bs → (id p : ℕ) → IsPlaceOf id bs p → (o : Option Begun) → slice_get bs p ≡ o → found (open_of bs) id ≡ kept_at id o
 looked bs rising id p place None at = none_found bs id (λ i b x e. absurd (by i b x e (cases_lt i p)))

@@ -182,9 +182,6 @@ some_stands id s mode e = elim (cases_Bool (nat_eq (slot_count id s) 0)) [
     differ : Absent ≡ Awaiting mode → ⊥
     differ e = grind (arith, e)
 
-abbrev SlotQuiet : ℕ → Slot LiveLink → Type 0
-SlotQuiet id s = IsQuiet (slot_standing id s)
-
 quiet_slot : (id : ℕ) (mode : ReceiverSettleMode) (slots : List (Slot LiveLink)) (k : ℕ) (s : Slot LiveLink) → table_count id slots ≤ 1 → standing_in id slots ≡ Awaiting mode →
     slice_get slots k ≡ Some s → IsQuiet (slot_standing id s)
 quiet_slot id mode [] k s few stands get = absurd (grind (arith, get))

@@ -1,18 +1,12 @@
 -- A session as its parts: what stands at its handles, and what each event makes of the parts.
 use Rattle.std.proofs.Common.{arith, ◌≡◌, ℕ, ◌+◌, ◌-◌, ◌%◌, ◌^◌, ◌<◌, ◌≤◌, subst, Bool, true, false, not, ◌&&◌, List, [], ◌∷◌, length, map, refl, sym, ap, ◌∙◌, Option, Some, None, get_or}
-use Rattle.std.specs.Prelude.{nat_eq, slice_get, slice_set, unwrap_or, sum_by, is_none, if◌then◌else◌}
-use Rattle.std.specs.List.{list_any}
-use Rattle.std.specs.Option.{option_map_or}
+use Rattle.std.specs.Prelude.{slice_get, slice_set, unwrap_or, sum_by, is_none, if◌then◌else◌}
 use Rattle.std.proofs.lemmas.Option.{slice_get_past}
-use Rattle.std.proofs.lemmas.Bool.{ne_eqb, le-ltb}
+use Rattle.std.proofs.lemmas.Bool.{le-ltb}
 use Rattle.std.proofs.lemmas.List.{length-set}
 use Rattle.amqp_perform.specs.declared.condition.Condition.{Condition}
 use Rattle.amqp_perform.specs.Performatives.{is_receiver}
-use Rattle.amqp_link.specs.declared.settlement.Standing.{Standing}
-use Rattle.amqp_link.specs.declared.settlement.Standing.TheVariants.{Absent}
-use Rattle.amqp_link.specs.declared.transfer.LinkFault.{LinkFault}
-use Rattle.amqp_link.specs.Links.{Sent, LinkState, Transferred, FlowStated, SenderSettled, is_beyond, may_grow}
-use Rattle.amqp_session.specs.declared.fault.SessionFault.{SessionFault}
+use Rattle.amqp_link.specs.Links.{LinkState, FlowStated, SenderSettled, is_beyond}
 use Rattle.amqp_session.specs.declared.fault.SessionFault.TheVariants as fault
 use Rattle.amqp_session.specs.declared.report.Report.{Report}
 use Rattle.amqp_session.specs.declared.report.Report.TheVariants as told
@@ -21,21 +15,19 @@ use Rattle.amqp_session.specs.declared.slot.Slot.TheVariants.{Free, Live, Waits}
 use Rattle.amqp_session.specs.declared.terms.SessionTerms.{SessionTerms}
 use Rattle.amqp_session.specs.Places.{Begins, Leaves, live_in}
 use Rattle.amqp_perform.specs.Said.{Said}
-use Rattle.amqp_session.specs.Frames.{link_flow_said, Attaching, Flowing, Attaches, Flows, Transfers}
+use Rattle.amqp_session.specs.Frames.{link_flow_said, Attaching, Flowing, Attaches, Flows}
 use Rattle.amqp_link.specs.Histories.{one_if}
 use Rattle.amqp_session.specs.Sessions.{LiveLink, live_begins, live_after, SessionState, SessionEvent, handles, happens, is_transfer, widened_by, stated_by, session_after, slot_at}
-use Rattle.amqp_session.specs.Sessions.{slot_has, is_open_id, session_begins}
+use Rattle.amqp_session.specs.Sessions.{session_begins}
 use Rattle.amqp_session.specs.Sessions as event
-use Rattle.amqp_session.specs.Faults.{is_free, handle_fault, session_fault, transfer_fault, attached, attach_event, transfer_event, flow_event, named_event, event_of, came_report, transfer_report}
-use Rattle.amqp_session.specs.Faults.{report_of, named_report, flow_report, IsRefusal, slot_may_grow, refusal, attach_fault, or_else, where_so, slot_flow, link_flow, named_fault, attach_report}
-use Rattle.amqp_session.specs.Calls.{slot_standing, standing_in}
-use Rattle.amqp_session.specs.Slots.{padded, session_of, IsReached, is_live, came_fault, slot_reused, at_place, slot_came, slot_came_report, slot_grows, IsSlotRefusal, slot_flowed, slot_called}
-use Rattle.amqp_session.specs.Indexes.{slot_begins, slot_does_begin, does_begin, IsEnded, IsEndedAt}
-use Rattle.amqp_session.specs.Slots.{IsStated, IsFlowTold, IsFound, stated_of}
-use Rattle.amqp_session.specs.declared.slots.LinkStated.{LinkStated}
+use Rattle.amqp_session.specs.Faults.{is_free, handle_fault, session_fault, attached, attach_event, flow_event, named_event, event_of}
+use Rattle.amqp_session.specs.Faults.{report_of, named_report, flow_report, refusal, attach_fault, or_else, where_so, slot_flow, link_flow, named_fault, attach_report}
+use Rattle.amqp_session.specs.Slots.{padded, session_of, IsReached, is_live, at_place, slot_flowed, slot_called}
+use Rattle.amqp_session.specs.Indexes.{IsEnded, IsEndedAt}
+use Rattle.amqp_session.specs.Slots.{IsStated, IsFlowTold, stated_of}
+use Rattle.amqp_session.specs.declared.state.LinkStated.{LinkStated}
 use Rattle.amqp_session.specs.Links.{slot_relinked, with_link}
-use Rattle.amqp_session.specs.declared.table.Found.{Found}
-use Rattle.amqp_session.proofs.Padded.{From, padded_set, padded_get, padded_any, padded_standing, padded_sum, padded_long, padded_none, none_after, begins_at, goes_on_at, leaves_at, gone_at}
+use Rattle.amqp_session.proofs.Padded.{From, padded_set, padded_get, padded_sum, padded_long, padded_none, none_after, begins_at, goes_on_at, leaves_at, gone_at}
 use Rattle.amqp_session.proofs.Padded.{all_after}
 use Rattle.amqp_session.proofs.Tables.{there, put_again}
 
@@ -135,142 +127,11 @@ module _ (terms : SessionTerms) (w n : ℕ) (slots : List (Slot LiveLink)) (s : 
               (stays f.next_outgoing_id l) (goes_on_at (handles terms) slots h (FlowStated f.delivery_count) (Live l0) (there slots h (Live l0) at within) reached.reached)
       by_slot Waits at live = absurd (grind (arith, live))
 
-  -- the fault of a transfer is that of its link, where it is known whether it begins a delivery under an open id
-  fault_is : (l : LiveLink) (t : Sent) → transfer_fault s l.link t ≡ came_fault (slot_reused slots t.delivery_id (Live l)) l.link t
-  fault_is l t = by_id t.delivery_id refl
-    where
-      by_id : (id : Option ℕ) → t.delivery_id ≡ id → transfer_fault s l.link t ≡ came_fault (slot_reused slots t.delivery_id (Live l)) l.link t
-      by_id None e = ap (λ (o : Option ℕ). came_fault (is_none l.link.unfinished && option_map_or (is_open_id s) o false) l.link t) e
-          ∙ ap (λ (o : Option ℕ). came_fault (slot_reused slots o (Live l)) l.link t) (sym e)
-      by_id (Some id) e =
-          ap (λ (o : Option ℕ). came_fault (is_none l.link.unfinished && option_map_or (is_open_id s) o false) l.link t) e
-          ∙ ap (λ (b : Bool). came_fault (is_none l.link.unfinished && b) l.link t) (ap (λ (u : SessionState). list_any (slot_has id) u.links) (sym view)
-          ∙ padded_any (slot_has id) (handles terms) slots refl reached.reached)
-          ∙ ap (λ (o : Option ℕ). came_fault (slot_reused slots o (Live l)) l.link t) (sym e)
-
-  -- a transfer
-  pub came : (t : Sent) (h : ℕ) (x new : Slot LiveLink) (reused : Bool) → n < 2 ^ 32 → 1 ≤ w → x ≡ get_or slots h x → h < length slots → is_free x ≡ false →
-      reused ≡ slot_reused slots t.delivery_id (at_place slots h) → new ≡ slot_came reused t x → session_of terms (w - 1) ((n + 1) % 2 ^ 32) (slice_set slots h new) ≡ session_after s
-      (event_of s (Transfers h t))
-  came t h x new reused l some at within used re is =
-      ap (λ (y : Slot LiveLink). session_of terms (w - 1) ((n + 1) % 2 ^ 32) (slice_set slots h y)) (is ∙ ap (λ (b : Bool). slot_came b t x)
-      (re ∙ ap (λ (y : Slot LiveLink). slot_reused slots t.delivery_id y) placed))
-      ∙ by_slot x at used ∙ ap (λ (y : Slot LiveLink). session_after s (transfer_event s h t y)) (sym (slot_is h x at within))
-    where
-      placed : at_place slots h ≡ x
-      placed = ap (λ (o : Option (Slot LiveLink)). unwrap_or o Free) (there slots h x at within)
-
-      by_slot : (x : Slot LiveLink) → x ≡ get_or slots h x → is_free x ≡ false → session_of terms (w - 1) ((n + 1) % 2 ^ 32) (slice_set slots h (slot_came (slot_reused slots t.delivery_id x) t x)) ≡
-          session_after s (transfer_event s h t x)
-      by_slot Free at used = absurd (grind (arith, used))
-      by_slot (Live l0) at used =
-          by_test (is_none (came_fault (slot_reused slots t.delivery_id (Live l0)) l0.link t))
-          ∙ ap (λ (o : Option LinkFault). session_after s (if is_none o then event.TransferCame h t else event.TransferEnded h)) (sym (fault_is l0 t))
-        where
-          by_test : (b : Bool) → session_of terms (w - 1) ((n + 1) % 2 ^ 32) (slice_set slots h (if b then Live (live_after l0 (Transferred t)) else Waits)) ≡ session_after s
-              (if b then event.TransferCame h t else event.TransferEnded h)
-          by_test true =
-              after_is (event.TransferCame h t) (w - 1) ((n + 1) % 2 ^ 32) (slice_set slots h (Live (live_after l0 (Transferred t)))) (omega arith) refl
-              (goes_on_at (handles terms) slots h (Transferred t) (Live l0) (there slots h (Live l0) at within) reached.reached)
-          by_test false =
-              after_is (event.TransferEnded h) (w - 1) ((n + 1) % 2 ^ 32) (slice_set slots h Waits) (omega arith) refl (leaves_at (handles terms) slots h (Live l0)
-              (there slots h (Live l0) at within) reached.reached)
-      by_slot Waits at used =
-          after_is (event.TransferDropped h) (w - 1) ((n + 1) % 2 ^ 32) (slice_set slots h Waits) (omega arith) refl (none_after (padded (handles terms) slots)
-          ∙ ap (padded (handles terms)) (sym (put_again slots h Waits (there slots h Waits at within))))
-
-  pub came_told : (t : Sent) (h : ℕ) (x : Slot LiveLink) (reused : Bool) (report : Report) → x ≡ get_or slots h x → h < length slots → reused ≡ slot_reused slots t.delivery_id (at_place slots h) →
-      report ≡ slot_came_report reused h t x → report ≡ report_of s (Transfers h t)
-  came_told t h x reused report at within re is =
-      is ∙ ap (λ (b : Bool). slot_came_report b h t x) (re ∙ ap (λ (y : Slot LiveLink). slot_reused slots t.delivery_id y) placed) ∙ by_slot x
-      ∙ ap (λ (y : Slot LiveLink). transfer_report s h t y) (sym (slot_is h x at within))
-    where
-      placed : at_place slots h ≡ x
-      placed = ap (λ (o : Option (Slot LiveLink)). unwrap_or o Free) (there slots h x at within)
-
-      by_slot : (x : Slot LiveLink) → slot_came_report (slot_reused slots t.delivery_id x) h t x ≡ transfer_report s h t x
-      by_slot Free = refl
-      by_slot (Live l) = ap (λ (o : Option LinkFault). came_report h l.link t o) (sym (fault_is l t))
-      by_slot Waits = refl
-
-  pub window_is : s.window ≡ w
-  window_is = sym (ap (λ (t : SessionState). t.window) view)
-
   pub handle_free : (h : ℕ) (x : Slot LiveLink) → slot_at s h ≡ x → is_free x ≡ true → handle_fault s h ≡ Some fault.UnattachedHandle
   handle_free h x at free = ap (λ (y : Slot LiveLink). where_so (is_free y) fault.UnattachedHandle) at ∙ ap (λ (b : Bool). where_so b fault.UnattachedHandle) free
 
   pub handle_used : (h : ℕ) (x : Slot LiveLink) → slot_at s h ≡ x → is_free x ≡ false → handle_fault s h ≡ None
   handle_used h x at used = ap (λ (y : Slot LiveLink). where_so (is_free y) fault.UnattachedHandle) at ∙ ap (λ (b : Bool). where_so b fault.UnattachedHandle) used
-
-  -- a transfer that finds a place of the window has the fault of its handle
-  pub by_handle : (t : Sent) (h : ℕ) → 1 ≤ w → session_fault s (Transfers h t) ≡ handle_fault s h
-  by_handle t h some =
-      ap (λ (m : ℕ). or_else (where_so (nat_eq m 0) fault.WindowViolation) (handle_fault s h)) window_is
-      ∙ ap (λ (b : Bool). or_else (where_so b fault.WindowViolation) (handle_fault s h)) (ne_eqb w 0 (λ e. absurd (omega (arith, e, some))))
-
-  -- whether it begins a delivery
-  pub does_begin_is : (t : Sent) (h : ℕ) (x : Slot LiveLink) (reused b : Bool) → 1 ≤ w → x ≡ get_or slots h x → h < length slots → reused ≡ slot_reused slots t.delivery_id (at_place slots h) →
-      b ≡ slot_begins reused t x → b ≡ does_begin s h t
-  does_begin_is t h x reused b some at within re is =
-      is ∙ ap (λ (r : Bool). slot_begins r t x) (re ∙ ap (λ (y : Slot LiveLink). slot_reused slots t.delivery_id y) placed) ∙ by_slot x
-      ∙ ap (λ (y : Slot LiveLink). slot_does_begin s t y) (sym (slot_is h x at within)) ∙ ap (λ (e : Bool). not e && slot_does_begin s t (slot_at s h)) (sym open_window)
-    where
-      placed : at_place slots h ≡ x
-      placed = ap (λ (o : Option (Slot LiveLink)). unwrap_or o Free) (there slots h x at within)
-
-      open_window : nat_eq s.window 0 ≡ false
-      open_window = ap (λ (m : ℕ). nat_eq m 0) window_is ∙ ne_eqb w 0 (λ e. absurd (omega (arith, e, some)))
-
-      by_slot : (x : Slot LiveLink) → slot_begins (slot_reused slots t.delivery_id x) t x ≡ slot_does_begin s t x
-      by_slot Free = refl
-      by_slot (Live l) = ap (λ (o : Option LinkFault). is_none l.link.unfinished && not t.aborted && is_none o) (sym (fault_is l t))
-      by_slot Waits = refl
-
-  pub begins_shut : (t : Sent) (h : ℕ) → w ≡ 0 → false ≡ does_begin s h t
-  begins_shut t h e = sym (ap (λ (m : ℕ). not (nat_eq m 0) && slot_does_begin s t (slot_at s h)) (window_is ∙ e))
-
-  pub begins_past : (t : Sent) (h : ℕ) → length slots ≤ h → false ≡ does_begin s h t
-  begins_past t h l = by (nat_eq s.window 0) ∙ ap (λ (y : Slot LiveLink). not (nat_eq s.window 0) && slot_does_begin s t y) (sym (slot_past h l))
-    where
-      by : (b : Bool) → false ≡ (not b && false)
-      by true = refl
-      by false = refl
-
-  -- whether an open delivery has an id, of the places that were reached
-  pub known_is : (id : ℕ) (b : Bool) (table : List (Slot LiveLink)) → table ≡ slots → b ≡ is_open_id s id → b ≡ list_any (slot_has id) table
-  known_is id b table e is =
-      is ∙ ap (λ (u : SessionState). list_any (slot_has id) u.links) (sym view) ∙ padded_any (slot_has id) (handles terms) slots refl reached.reached
-      ∙ ap (λ (ls : List (Slot LiveLink)). list_any (slot_has id) ls) (sym e)
-
-  -- why a transfer is refused, and why not
-  pub came_refused : (t : Sent) (h : ℕ) (x : Slot LiveLink) (reused : Bool) (e : SessionFault) → 1 ≤ w → x ≡ get_or slots h x → h < length slots →
-      reused ≡ slot_reused slots t.delivery_id (at_place slots h) → IsSlotRefusal reused t x e → IsRefusal s (Transfers h t) e
-  came_refused t h x reused fault.UnattachedHandle some at within re is = by_handle t h some ∙ handle_free h x (slot_is h x at within) is
-  came_refused t h x reused fault.NoMemory some at within re is = (by_handle t h some ∙ handle_used h x (slot_is h x at within) (lives x is), grows)
-    where
-      lives : (x : Slot LiveLink) → slot_grows reused t x ≡ true → is_free x ≡ false
-      lives Free e = absurd (grind (arith, e))
-      lives (Live l) e = refl
-      lives Waits e = absurd (grind (arith, e))
-
-      placed : at_place slots h ≡ x
-      placed = ap (λ (o : Option (Slot LiveLink)). unwrap_or o Free) (there slots h x at within)
-
-      same : (x : Slot LiveLink) → slot_may_grow s t x ≡ slot_grows (slot_reused slots t.delivery_id x) t x
-      same Free = refl
-      same (Live l) = ap (λ (o : Option LinkFault). is_none o && may_grow l.link t) (fault_is l t)
-      same Waits = refl
-
-      grows : slot_may_grow s t (slot_at s h) ≡ true
-      grows = ap (λ (y : Slot LiveLink). slot_may_grow s t y) (slot_is h x at within) ∙ same x ∙ ap (λ (b : Bool). slot_grows b t x)
-          (sym (re ∙ ap (λ (y : Slot LiveLink). slot_reused slots t.delivery_id y) placed)) ∙ is
-  came_refused t h x reused fault.WindowViolation some at within re is = absurd is
-  came_refused t h x reused fault.HandleInUse some at within re is = absurd is
-  came_refused t h x reused fault.ResourceLimit some at within re is = absurd is
-  came_refused t h x reused fault.InvalidField some at within re is = absurd is
-
-  pub came_accepted : (t : Sent) (h : ℕ) (x : Slot LiveLink) → 1 ≤ w → x ≡ get_or slots h x → h < length slots → is_free x ≡ false → session_fault s (Transfers h t) ≡ None
-  came_accepted t h x some at within used = by_handle t h some ∙ handle_used h x (slot_is h x at within) used
 
 -- the flow that states what a link is
 pub flow_is : (s : SessionState) (h : ℕ) (x : Slot LiveLink) (stated : LinkStated) (said : Said) → slot_at s h ≡ x → IsStated x stated →
@@ -286,19 +147,6 @@ flow_is s h x stated said at is same = ap (λ (y : Slot LiveLink). slot_flow s h
 -- Standings. -----------------------------------------------------------------------------------------------------------------
 
 module _ (terms : SessionTerms) (w n : ℕ) (slots : List (Slot LiveLink)) (s : SessionState) (view : session_of terms w n slots ≡ s) (reached : IsReached terms slots) where
-  pub standing_is : (id : ℕ) (x : Standing) → x ≡ standing_in id slots → standing_in id s.links ≡ x
-  standing_is id x e = subst (λ (t : SessionState). standing_in id t.links ≡ x) view (padded_standing id (handles terms) slots reached.reached ∙ sym e)
-
-  -- what was found at the handles that were reached is found at all
-  pub found_is : (id : ℕ) (o : Option Found) → IsFound id slots o → IsFound id s.links o
-  found_is id None none = standing_is id Absent (sym none)
-  found_is id (Some found) is =
-      let long : length s.links ≡ handles terms = subst (λ (t : SessionState). length t.links ≡ handles terms) view (padded_long (handles terms) slots) in (
-        omega (arith, is.0, reached.reached, long),
-        ap (slot_standing id) (subst (λ (t : SessionState). slot_at t found.handle ≡ at_place slots found.handle) view (padded_get (handles terms) slots found.handle reached.reached)) ∙ is.1,
-        standing_is id found.standing (sym is.2),
-      )
-
   -- another state of the link at a handle that was reached
   pub relinked_at : (h : ℕ) (x : Slot LiveLink) (u : LinkState) → x ≡ get_or slots h x → h < length slots → session_of terms w n (slice_set slots h (slot_relinked x u)) ≡ with_link s h u
   relinked_at h x u at low =

@@ -1,5 +1,5 @@
 -- What a session reads of a frame, and what it says in answer, in plain numbers and lists (AMQP 1.0, part 2, section 2.7).
-use Rattle.std.specs.Prelude.{ℕ, ◌^◌, ◌<◌, ◌≤◌, Bool, true, false, ◌==◌, nat_eq, if◌then◌else◌, List, [], ◌∷◌, Option, Some, None, unwrap_or, codes, bytes_eq, Ok, Err}
+use Rattle.std.specs.Prelude.{ℕ, ◌^◌, ◌<◌, ◌≤◌, Bool, true, false, ◌==◌, if◌then◌else◌, List, [], ◌∷◌, Option, Some, None, unwrap_or, codes, bytes_eq, Ok, Err}
 use Rattle.amqp_types.specs.declared.kind.Kind.TheVariants as kind
 use Rattle.amqp_types.specs.Canonical.{canonical}
 use Rattle.amqp_types.specs.Reading.{Part, value_of}
@@ -10,7 +10,6 @@ use Rattle.amqp_perform.specs.declared.modes.Role.{Role}
 use Rattle.amqp_perform.specs.declared.modes.Role.TheVariants as of_role
 use Rattle.amqp_perform.specs.declared.modes.SenderSettleMode.{SenderSettleMode}
 use Rattle.amqp_perform.specs.declared.modes.ReceiverSettleMode.{ReceiverSettleMode}
-use Rattle.amqp_perform.specs.declared.outcome.Outcome.{Outcome}
 use Rattle.amqp_perform.specs.declared.performative.Performative.{Performative}
 use Rattle.amqp_perform.specs.declared.performative.Performative.TheVariants as performative
 use Rattle.amqp_perform.specs.declared.performative.Attach.{Attach}
@@ -18,7 +17,7 @@ use Rattle.amqp_perform.specs.declared.performative.Flow.{Flow}
 use Rattle.amqp_perform.specs.declared.performative.Disposition.{Disposition}
 use Rattle.amqp_perform.specs.Cells.{Cell, Absent, Whole, Bytes, Span}
 use Rattle.amqp_perform.specs.Conditions.{condition_span}
-use Rattle.amqp_perform.specs.Outcomes.{outcome_span}
+pub use Rattle.amqp_perform.specs.Receivers.{link_flow_said, stated_said, last_stated, disposition_said}
 use Rattle.amqp_perform.specs.Said.{Said}
 use Rattle.amqp_perform.specs.Performatives.{flag, role, sender_mode, receiver_mode, span}
 use Rattle.amqp_link.specs.Bounds.{Bounds}
@@ -156,21 +155,3 @@ failure_said handle condition = detach_said handle true (condition_span conditio
 -- the flow of a session: this side sends nothing [2.7.4]
 abbrev pub flow_said : ℕ → ℕ → Said
 flow_said next_id window = record { type = of_type.Flow; cells = Whole next_id ∷ Whole window ∷ Whole 0 ∷ Whole 0 ∷ Absent ∷ Absent ∷ Absent ∷ Absent ∷ flag false ∷ flag false ∷ Absent ∷ [] }
-
--- the flow of a link [2.6.7, 2.7.4]
-abbrev pub link_flow_said : ℕ → ℕ → ℕ → ℕ → ℕ → Bool → Said
-link_flow_said next_id window handle count credit drain = record {
-  type = of_type.Flow;
-  cells = Whole next_id ∷ Whole window ∷ Whole 0 ∷ Whole 0 ∷ Whole handle ∷ Whole count ∷ Whole credit ∷ Absent ∷ flag drain ∷ flag false ∷ Absent ∷ [];
-}
-
--- an absent last is the first [2.7.6]
-abbrev pub last_stated : ℕ → ℕ → Cell
-last_stated first last = if nat_eq first last then Absent else Whole last
-
--- what became of the deliveries with the ids from the first to the last, settled or not [2.7.6]
-abbrev pub disposition_said : ℕ → ℕ → Bool → Outcome → Said
-disposition_said first last settled outcome = record {
-  type = of_type.Disposition;
-  cells = role of_role.Receiver ∷ Whole first ∷ last_stated first last ∷ flag settled ∷ span (outcome_span outcome) ∷ Absent ∷ [];
-}

@@ -1,11 +1,13 @@
 -- Where the open deliveries of a session are kept, by their ids: which links have them, and under which keys.
-use Rattle.std.specs.Prelude.{◌≡◌, ℕ, ◌≤◌, ◌<◌, ◌^◌, Bool, true, false, not, ◌&&◌, nat_eq, nat_lt, if◌then◌else◌, List, [], ◌∷◌, map, Option, Some, None, is_none, option_map}
+use Rattle.std.specs.Prelude.{◌≡◌, ℕ, ◌≤◌, ◌<◌, ◌^◌, Bool, true, false, ◌&&◌, nat_eq, nat_lt, if◌then◌else◌, List, [], ◌∷◌, map, Option, Some, None, is_none, option_map}
 use Rattle.std.specs.List.{list_any}
 use Rattle.std.specs.Map.{lookup}
 use Rattle.std.specs.Ordering.{nat_cmp}
 use Rattle.std.specs.BTreeMap.{is_at}
 use Rattle.amqp_session.specs.declared.index.Kept.{Kept}
-use Rattle.amqp_link.specs.Links.{Sent, LinkState, ReceiverSettled, SenderSettled, deliveries, open_set, IsOnce}
+use Rattle.amqp_link.specs.declared.transfer.Verdict.{Verdict}
+use Rattle.amqp_link.specs.declared.transfer.Verdict.TheVariants.{Begins, GoesOn, Passes, GivesUp, Fails}
+use Rattle.amqp_link.specs.Links.{Sent, LinkState, ReceiverSettled, SenderSettled, deliveries, fault_of, open_set, IsOnce}
 use Rattle.amqp_session.specs.declared.slot.Slot.{Slot}
 use Rattle.amqp_session.specs.declared.slot.Slot.TheVariants.{Free, Live, Waits}
 use Rattle.amqp_link.specs.Histories.{one_if}
@@ -16,8 +18,7 @@ use Rattle.amqp_session.specs.Sessions.{LiveLink, SessionState, slot_at, slot_co
 use Rattle.amqp_link.specs.declared.settlement.Standing.{Standing}
 use Rattle.amqp_link.specs.declared.settlement.Standing.TheVariants.{Absent, Untaken, Told, Awaiting}
 use Rattle.amqp_session.specs.Calls.{slot_standing, is_absent}
-use Rattle.amqp_session.specs.Slots.{at_place, came_fault, slot_called}
-use Rattle.amqp_session.specs.Faults.{transfer_fault}
+use Rattle.amqp_session.specs.Slots.{at_place, slot_called}
 
 -- where the delivery with this id is kept
 abbrev pub found : List (ℕ × Kept) → ℕ → Option Kept
@@ -42,16 +43,6 @@ is_before id (Some other) = nat_lt id other.0
 abbrev pub IsPut : List (ℕ × Kept) → List (ℕ × Kept) → ℕ → Option Kept → Type 0
 IsPut old new id kept = (q : ℕ) → found new q ≡ (if nat_eq id q then kept else found old q)
 
--- one begins, or none
-abbrev pub IsBegun : List (ℕ × Kept) → List (ℕ × Kept) → ℕ → Option Kept → Type 0
-IsBegun old new id None = new ≡ old
-IsBegun old new id (Some kept) = IsPut old new id (Some kept)
-
--- and is taken out again
-abbrev pub IsNotBegun : List (ℕ × Kept) → List (ℕ × Kept) → ℕ → Option Kept → Type 0
-IsNotBegun old new id None = new ≡ old
-IsNotBegun old new id (Some kept) = IsPut old new id None
-
 -- the next one from an id on, up to the last: the least of those in between
 abbrev pub IsNext : List (ℕ × Kept) → ℕ → ℕ → Option (ℕ × Kept) → Type 0
 IsNext entries from last None = (q : ℕ) → from ≤ q → q ≤ last → found entries q ≡ None
@@ -70,11 +61,6 @@ left_of handle (Some kept) = if nat_eq kept.handle handle then None else Some ke
 -- what is left of it where the delivery with an id is closed, if it is
 abbrev pub closed_of : Bool → ℕ → ℕ → Option Kept → Option Kept
 closed_of closed gone id kept = if closed && nat_eq gone id then None else kept
-
--- a delivery with this id was given up
-abbrev pub given_up : Option ℕ → ℕ → Option Kept → Option Kept
-given_up None id kept = kept
-given_up (Some gone) id kept = if nat_eq gone id then None else kept
 
 -- the ids of the open deliveries of a link, if there is one
 abbrev pub ids_of : Option LiveLink → List ℕ
@@ -95,11 +81,10 @@ abbrev pub IsEndedAt : ℕ → Slot LiveLink → Report → Option LiveLink → 
 IsEndedAt at s (report.Failed handle condition dropped) ended = (handle ≡ at) × (ended ≡ live_in s)
 IsEndedAt at s report ended = Unit {0}
 
--- what is left after this was told of a transfer or a flow of a link, which was this one if it ended, and whose unfinished delivery had this id
-abbrev pub told_of : Report → Option LiveLink → Option ℕ → ℕ → Option Kept → Option Kept
-told_of (report.Failed handle condition dropped) ended unfinished id kept = gone_of (ids_of ended) id kept
-told_of (report.Aborted handle) ended unfinished id kept = given_up unfinished id kept
-told_of report ended unfinished id kept = kept
+-- what is left after this was told of a flow of a link, which was this one if it ended
+abbrev pub told_of : Report → Option LiveLink → ℕ → Option Kept → Option Kept
+told_of (report.Failed handle condition dropped) ended id kept = gone_of (ids_of ended) id kept
+told_of report ended id kept = kept
 
 -- a delivery that stands so was not handed up
 abbrev pub is_untaken : Standing → Bool
@@ -126,37 +111,32 @@ pub record IsKnown (entries : List (ℕ × Kept)) (s : SessionState) : Type 0 wh
   pub apart : IsApart s
   pub indexed : IsIndexed entries s.links
 
--- A transfer begins a delivery that stays open, where it is known whether it does so under an open id.
-abbrev pub link_begins : Bool → LinkState → Sent → Bool
-link_begins reused l t = is_none l.unfinished && not t.aborted && is_none (came_fault reused l t)
-
--- the same at one place
-abbrev pub slot_begins : Bool → Sent → Slot LiveLink → Bool
-slot_begins reused t Free = false
-slot_begins reused t (Live l) = link_begins reused l.link t
-slot_begins reused t Waits = false
-
--- the id of the unfinished delivery at a place
-abbrev pub slot_unfinished : Slot LiveLink → Option ℕ
-slot_unfinished Free = None
-slot_unfinished (Live l) = option_map (λ d. d.delivery_id) l.link.unfinished
-slot_unfinished Waits = None
-
 -- no two open deliveries of the link at a place have the id
 abbrev pub IsOnceAt : ℕ → Slot LiveLink → Type 0
 IsOnceAt id Free = Unit {0}
 IsOnceAt id (Live l) = IsOnce id id (open_set l.link)
 IsOnceAt id Waits = Unit {0}
 
--- the same of a session
-abbrev pub slot_does_begin : SessionState → Sent → Slot LiveLink → Bool
-slot_does_begin s t Free = false
-slot_does_begin s t (Live l) = is_none l.link.unfinished && not t.aborted && is_none (transfer_fault s l.link t)
-slot_does_begin s t Waits = false
+-- A transfer. -----------------------------------------------------------------------------------------------------------------
 
--- a transfer that the session accepts begins one
-abbrev pub does_begin : SessionState → ℕ → Sent → Bool
-does_begin s handle t = not (nat_eq s.window 0) && slot_does_begin s t (slot_at s handle)
+-- what a transfer without a fault comes to on its link [2.6.14]
+abbrev pub IsTaken : LinkState → Sent → Verdict → Type 0
+IsTaken l t (Begins key) = (fault_of l t ≡ None) × (l.unfinished ≡ None) × (t.aborted ≡ false)
+IsTaken l t GoesOn = (fault_of l t ≡ None) × (is_none l.unfinished ≡ false) × (t.aborted ≡ false)
+IsTaken l t Passes = (fault_of l t ≡ None) × (l.unfinished ≡ None) × (t.aborted ≡ true)
+IsTaken l t (GivesUp id) = (fault_of l t ≡ None) × (option_map (λ d. d.delivery_id) l.unfinished ≡ Some id) × (t.aborted ≡ true)
+IsTaken l t (Fails fault) = ⊥
+
+-- a delivery begins that stays open
+abbrev pub is_begun : Verdict → Bool
+is_begun (Begins key) = true
+is_begun verdict = false
+
+-- what the index has behind it, on the link at this handle, where it states this id
+abbrev pub IsKeptBehind : Verdict → ℕ → ℕ → List (ℕ × Kept) → List (ℕ × Kept) → Type 0
+IsKeptBehind (Begins key) handle id old new = IsPut old new id (Some (record { handle = handle; key = key }))
+IsKeptBehind (GivesUp gone) handle id old new = IsPut old new gone None
+IsKeptBehind verdict handle id old new = new ≡ old
 
 -- Dispositions. -------------------------------------------------------------------------------------------------------------
 

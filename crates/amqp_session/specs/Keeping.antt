@@ -1,5 +1,5 @@
 -- How what is kept of a link is seen.
-use Rattle.amqp_session.specs.declared.kept_link.Record.{Record}
+use Rattle.amqp_session.specs.declared.state.Record.{Record}
 use Rattle.amqp_session.specs.Sessions.{LiveLink}
 
 module _ {A : Type 0} where

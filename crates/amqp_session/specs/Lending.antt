@@ -6,7 +6,7 @@ use Rattle.amqp_link.specs.Links.{LinkState}
 use Rattle.amqp_link.specs.contracts.link.Link.{the_row as link_row}
 use Rattle.amqp_session.specs.declared.slot.Slot.{Slot}
 use Rattle.amqp_session.specs.contracts.slot.Slot.{the_row as slot_row}
-use Rattle.amqp_session.specs.contracts.kept_link.KeptLink.{the_row as kept_row}
+use Rattle.amqp_session.specs.contracts.state.KeptLink.{the_row as kept_row}
 use Rattle.amqp_session.specs.Sessions.{LiveLink}
 use Rattle.amqp_session.specs.Links.{relinked, slot_relinked}
 

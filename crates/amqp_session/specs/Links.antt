@@ -1,5 +1,5 @@
 -- The live link at a handle of a session, and the session with another state of it.
-use Rattle.std.specs.Prelude.{◌≡◌, ℕ, Option, Some, option_map, slice_set}
+use Rattle.std.specs.Prelude.{◌≡◌, ℕ, ◌+◌, ◌-◌, ◌%◌, ◌^◌, Option, Some, option_map, slice_set}
 use Rattle.amqp_link.specs.Links.{LinkState, ReceiverSettled, link_after}
 use Rattle.amqp_session.specs.declared.slot.Slot.{Slot}
 use Rattle.amqp_session.specs.Places.{slot_map, live_in}
@@ -21,6 +21,10 @@ link_at s handle = link_in (slot_at s handle)
 
 abbrev pub with_link : SessionState → ℕ → LinkState → SessionState
 with_link s handle w = record s { links = slice_set s.links handle (slot_relinked (slot_at s handle) w) }
+
+-- a transfer came, whatever it comes to: it takes a place of the window, and a number [2.5.6]
+abbrev pub counted : SessionState → SessionState
+counted s = record s { window = s.window - 1; next_incoming_id = (s.next_incoming_id + 1) % 2 ^ 32 }
 
 -- the live link there, and nothing else, saw its receiver settle the id
 abbrev pub HasSettled : SessionState → SessionState → ℕ → ℕ → Type 0

@@ -2,7 +2,7 @@
 use Rattle.std.specs.Prelude.{◌≡◌, ℕ, ◌≤◌, ◌<◌, Bool, false, nat_eq, nat_lt, List, length, Option, Some, None, IsSome, is_none, option_map, slice_get, slice_set}
 use Rattle.std.specs.List.{filter_map}
 use Rattle.amqp_session.specs.declared.index.Kept.{Kept}
-use Rattle.amqp_session.specs.declared.recent.Begun.{Begun}
+use Rattle.amqp_session.specs.declared.index.Begun.{Begun}
 use Rattle.amqp_session.specs.Indexes.{found}
 
 -- where the open ones are kept, with their ids

@@ -1,28 +1,18 @@
 -- What a session keeps at one handle, and what each frame and call makes of it.
-use Rattle.std.specs.Prelude.{◌≡◌, ℕ, zero, suc, ◌+◌, ◌<◌, ◌≤◌, Bool, true, false, not, ◌&&◌, if◌then◌else◌, List, [], ◌∷◌, length, Option, Some, None, is_none, unwrap_or, IsSomeAnd, slice_get}
-use Rattle.std.specs.List.{list_any}
-use Rattle.std.specs.Option.{option_map_or}
-use Rattle.amqp_link.specs.declared.transfer.LinkFault.{LinkFault}
-use Rattle.amqp_link.specs.declared.transfer.LinkFault.TheVariants as link_fault
+use Rattle.std.specs.Prelude.{◌≡◌, ℕ, zero, suc, ◌+◌, ◌<◌, ◌≤◌, Bool, true, false, if◌then◌else◌, List, [], ◌∷◌, length, Option, Some, None, unwrap_or, IsSomeAnd, slice_get}
 use Rattle.amqp_link.specs.declared.link.Taken.{Taken}
-use Rattle.amqp_link.specs.declared.settlement.Standing.TheVariants.{Absent}
 use Rattle.amqp_link.specs.HandedUps.{IsHandedUp}
-use Rattle.amqp_link.specs.Links.{Sent, LinkState, LinkEvent, Transferred, FlowStated, fault_of, may_grow, is_beyond, first_ready, open_count}
-use Rattle.amqp_session.specs.declared.fault.SessionFault.{SessionFault}
-use Rattle.amqp_session.specs.declared.fault.SessionFault.TheVariants as fault
+use Rattle.amqp_link.specs.Links.{LinkState, LinkEvent, FlowStated, is_beyond, first_ready, open_count}
 use Rattle.amqp_session.specs.declared.report.Report.{Report}
-use Rattle.amqp_session.specs.declared.report.Report.TheVariants as report
 use Rattle.amqp_session.specs.declared.slot.Slot.{Slot}
 use Rattle.amqp_session.specs.declared.slot.Slot.TheVariants.{Free, Live, Waits}
 use Rattle.amqp_session.specs.declared.terms.SessionTerms.{SessionTerms}
-use Rattle.amqp_session.specs.declared.slots.LinkStated.{LinkStated}
-use Rattle.amqp_session.specs.declared.table.Found.{Found}
+use Rattle.amqp_session.specs.declared.state.LinkStated.{LinkStated}
 use Rattle.amqp_session.specs.declared.view.LinkView.{LinkView}
 use Rattle.amqp_session.specs.Places.{slot_map}
 use Rattle.amqp_session.specs.Frames.{Flowing}
-use Rattle.amqp_session.specs.Faults.{is_free, came_report, flow_report}
-use Rattle.amqp_session.specs.Calls.{slot_standing, standing_in}
-use Rattle.amqp_session.specs.Sessions.{LiveLink, live_after, SessionState, handles, slot_has}
+use Rattle.amqp_session.specs.Faults.{flow_report}
+use Rattle.amqp_session.specs.Sessions.{LiveLink, live_after, SessionState, handles}
 
 -- The table. ----------------------------------------------------------------------------------------------------------------
 
@@ -48,18 +38,6 @@ pub record IsKept (l : LiveLink) : Type 0 where
   pub name : length l.name ≤ 255
   pub ends : length l.source + length l.target ≤ 1024
 
--- the first fault of a transfer, where it is known whether it begins a delivery under an open id
-abbrev pub came_fault : Bool → LinkState → Sent → Option LinkFault
-came_fault reused l t = if not t.resume && reused then Some link_fault.InvalidField else fault_of l t
-
--- why the link refuses it
-abbrev pub IsCameFault : Bool → LinkState → Sent → LinkFault → Type 0
-IsCameFault reused l t link_fault.NoMemory = (came_fault reused l t ≡ None) × (may_grow l t ≡ true)
-IsCameFault reused l t link_fault.TransferLimit = came_fault reused l t ≡ Some link_fault.TransferLimit
-IsCameFault reused l t link_fault.MessageSize = came_fault reused l t ≡ Some link_fault.MessageSize
-IsCameFault reused l t link_fault.InvalidField = came_fault reused l t ≡ Some link_fault.InvalidField
-IsCameFault reused l t link_fault.NotImplemented = came_fault reused l t ≡ Some link_fault.NotImplemented
-
 -- One place. ----------------------------------------------------------------------------------------------------------------
 
 -- a link is live there
@@ -68,37 +46,9 @@ is_live Free = false
 is_live (Live l) = true
 is_live Waits = false
 
--- a transfer to it with this id begins a delivery under the id of an open one of these
-abbrev pub slot_reused : List (Slot LiveLink) → Option ℕ → Slot LiveLink → Bool
-slot_reused slots id Free = false
-slot_reused slots id (Live l) = is_none l.link.unfinished && option_map_or (λ id. list_any (slot_has id) slots) id false
-slot_reused slots id Waits = false
-
 -- what stands at a place of these
 abbrev pub at_place : List (Slot LiveLink) → ℕ → Slot LiveLink
 at_place slots place = unwrap_or (slice_get slots place) Free
-
--- what a transfer leaves there, and what is told of it
-abbrev pub slot_came : Bool → Sent → Slot LiveLink → Slot LiveLink
-slot_came reused t Free = Free
-slot_came reused t (Live l) = if is_none (came_fault reused l.link t) then Live (live_after l (Transferred t)) else Waits
-slot_came reused t Waits = Waits
-
-abbrev pub slot_came_report : Bool → ℕ → Sent → Slot LiveLink → Report
-slot_came_report reused handle t Free = report.Nothing
-slot_came_report reused handle t (Live l) = came_report handle l.link t (came_fault reused l.link t)
-slot_came_report reused handle t Waits = report.Nothing
-
--- why it is refused
-abbrev pub slot_grows : Bool → Sent → Slot LiveLink → Bool
-slot_grows reused t Free = false
-slot_grows reused t (Live l) = is_none (came_fault reused l.link t) && may_grow l.link t
-slot_grows reused t Waits = false
-
-abbrev pub IsSlotRefusal : Bool → Sent → Slot LiveLink → SessionFault → Type 0
-IsSlotRefusal reused t s fault.UnattachedHandle = is_free s ≡ true
-IsSlotRefusal reused t s fault.NoMemory = slot_grows reused t s ≡ true
-IsSlotRefusal reused t s _ = ⊥
 
 -- what a flow leaves there
 abbrev pub slot_flowed : Flowing → Slot LiveLink → Slot LiveLink
@@ -124,11 +74,6 @@ abbrev pub IsStated : Slot LiveLink → LinkStated → Type 0
 IsStated Free stated = ⊥
 IsStated (Live l) stated = stated ≡ stated_of l.link
 IsStated Waits stated = ⊥
-
--- Where an open delivery with this id is looked for: at the handle of the first link that has one, if any has. [2.6.12]
-abbrev pub IsFound : ℕ → List (Slot LiveLink) → Option Found → Type 0
-IsFound id slots None = standing_in id slots ≡ Absent
-IsFound id slots (Some found) = (found.handle < length slots) × (slot_standing id (at_place slots found.handle) ≡ found.standing) × (standing_in id slots ≡ found.standing)
 
 -- what a take of the link there hands up
 abbrev pub HandsUp : {A : Type 0} → Slot LiveLink → Taken A → Type 0

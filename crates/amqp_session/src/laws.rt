@@ -1,5 +1,5 @@
 //! What holds of the history of a session, whoever keeps it. The calls do nothing: their contracts are the laws.
-ghost use Rattle.std.specs.Prelude.{◌≡◌, ℕ, ◌+◌, ◌*◌, ◌%◌, ◌^◌, ◌<◌, ◌≤◌, true, false, not, List, ◌∷◌, [], sum_by, Some, None};
+ghost use Rattle.std.specs.Prelude.{◌≡◌, ℕ, ◌+◌, ◌%◌, ◌^◌, ◌<◌, ◌≤◌, true, false, not, List, ◌∷◌, [], sum_by, Some, None};
 ghost use Rattle.std.specs.List.{list_any};
 ghost use Rattle.amqp_perform.specs.declared.modes.ReceiverSettleMode.{ReceiverSettleMode};
 ghost use Rattle.amqp_perform.specs.declared.modes.ReceiverSettleMode.TheVariants.{First, Second};
@@ -10,7 +10,7 @@ ghost use Rattle.amqp_session.specs.declared.terms.SessionTerms.{SessionTerms};
 ghost use Rattle.amqp_session.specs.Calls.{Call, standing_in, standing_fault, settles_at_once, slot_names_first, slot_names_second, range_fault, call_fault, call_event};
 ghost use Rattle.amqp_session.specs.Faults.{session_fault, event_of, settled_count};
 ghost use Rattle.amqp_session.specs.Frames.{Flowing, Frame, Flows, Transfers, IsInRange};
-ghost use Rattle.amqp_session.specs.Laws.{IsCallInRange, IsOfTransfer, parts, used_count, slot_most, part_bytes, part_settled, named_total, part_named, NoneStates, IsStatedBefore, IsElsewhere, credit_at, granted_at};
+ghost use Rattle.amqp_session.specs.Laws.{IsCallInRange, IsOfTransfer, parts, slot_most, part_bytes, part_settled, named_total, part_named, NoneStates, IsStatedBefore, IsElsewhere, credit_at, granted_at};
 ghost use Rattle.amqp_session.specs.Places.{GoesOn, AllGoOn, Leaves, Gone};
 ghost use Rattle.amqp_session.specs.Sessions as session;
 ghost use Rattle.amqp_session.specs.Sessions.{Attached, LiveLink, live_begins, SessionState, slot_at, is_open_id, session_bytes, SessionEvent, LinkAttached, Settled, Ignored, Called, happens, is_transfer, stated_by, session_after, SessionMay, IsApart};

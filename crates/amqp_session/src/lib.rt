@@ -11,26 +11,21 @@
 mod done;
 mod fault;
 mod index;
-mod kept_link;
 pub mod laws;
-mod older;
 mod ranges;
-mod recent;
 mod refusal;
 mod replies;
 mod report;
 mod session;
 mod slot;
-mod slots;
 mod state;
 mod survey;
-mod table;
 mod terms;
-mod tree;
 mod view;
 
 pub use done::{Answer, Done};
 pub use fault::{CallFault, SessionFault};
+pub use ranges::Named;
 pub use replies::{failure, refusal_reply, write_attach_reply};
 pub use report::Report;
 pub use session::Session;

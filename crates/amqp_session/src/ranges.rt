@@ -1,10 +1,9 @@
 //! What the receiver settles: one delivery by its id, or those of a range of ids [2.7.6].
-ghost use Rattle.std.specs.Prelude.{◌≡◌, ℕ, ◌≤◌, ◌<◌, ◌+◌, ◌^◌, ◌||◌, not, Option, Some, None, OnOk, IfOk, IfErr};
+ghost use Rattle.std.specs.Prelude.{◌≡◌, ◌≤◌, ◌<◌, ◌+◌, ◌^◌, ◌||◌, not, Some, None, OnOk, IfOk, IfErr};
 ghost use Rattle.amqp_serial.specs.Numbers.{distance_of};
 ghost use Rattle.amqp_link.specs.Links.{IsAwaiting};
 ghost use Rattle.amqp_session.specs.Calls.{is_absent, is_behind, slot_standing, standing_in, settles_at_once, range_fault};
 ghost use Rattle.amqp_session.specs.Sessions.{slot_at, IsApart};
-ghost use Rattle.amqp_session.specs.Slots.{IsFound};
 ghost use Rattle.amqp_session.specs.Laws.{named_total};
 ghost use Rattle.amqp_session.specs.Links.{HasSettled};
 ghost use Rattle.amqp_session.specs.Indexes.{found, answered, IsKnown};
@@ -14,37 +13,23 @@ use crate::fault::CallFault;
 use crate::index::{Index, Kept};
 use crate::state::{State, settles_at_once};
 use crate::survey::Survey;
-use crate::table::Found;
 use amqp_link::{Standing, laws};
 use amqp_serial::Serial;
 use std::alloc::Allocator;
 
 /// What a settle of a range of ids names.
-#[derive(Clone, Copy)]
+#[derive(Clone, Copy, Debug)]
 pub struct Named {
-    /// The deliveries are in mode first: they are settled by it.
+    /// The deliveries are in mode first: they are settled by it [2.8.3].
     pub settled: bool,
     /// How many they are.
     pub count: u32,
 }
 
-/// Where the open delivery with this id is kept, and what it is to its receiver; `None` where no link has one.
-pub fn find<A: Allocator + Copy>(index: &Index<A>, state: &State<A>, id: u32) -> Option<Found>
-    requires { IsKnown index.now state.now }
-    ensures { IsFound id state.now.links result }
-{
-    match index.get(id) {
-        None => None,
-        Some(kept) => Some(Found {
-            handle: kept.handle,
-            key: kept.key,
-            standing: state.standing(kept.handle, kept.key, id),
-        }),
-    }
-}
-
 /// The receiver settles the open delivery with this id, which is kept so if it is open, where it awaits that. Answers how
 /// it stood.
+// For `telemetry` and `gateway` (docs/PERF.md).
+#[inline(always)]
 fn settle_at<A: Allocator + Copy>(state: &mut State<A>, kept: Kept, id: u32) -> Standing
     requires apart { IsApart state.old }
     requires whole { standing_in id state.old.links ≡ slot_standing id (slot_at state.old kept.handle) }

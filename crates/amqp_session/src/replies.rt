@@ -5,11 +5,10 @@ ghost use Rattle.amqp_link.specs.Bounds.{Bounds};
 ghost use Rattle.amqp_session.specs.Replies.{IsAttaching};
 ghost use Rattle.amqp_perform.specs.declared.performative.Performative.TheVariants as performative;
 ghost use Rattle.amqp_perform.specs.Said.{said, said_frame};
-ghost use Rattle.amqp_session.specs.Frames.{Attaching, attaching, attach_said, refusal_said, detach_said, failure_said, flow_said, link_flow_said, disposition_said, other_role};
+ghost use Rattle.amqp_session.specs.Frames.{Attaching, attaching, attach_said, refusal_said, detach_said, failure_said, flow_said, disposition_said, other_role};
 ghost use Rattle.amqp_types.specs.Canonical.{canonical};
 ghost use Rattle.amqp_types.specs.Trees.{Number};
 
-use crate::slots::LinkStated;
 use amqp_link::LinkBounds;
 use amqp_perform::{
     Attach, Condition, Detach, Disposition, Flow, Outcome, Performative, ReceiverSettleMode, Role,
@@ -31,30 +30,6 @@ pub fn session_flow(next_incoming_id: u32, window: u32) -> Flow<'static>
         link_credit: None,
         available: None,
         drain: false,
-        echo: false,
-        properties: &[],
-    }
-}
-
-/// The flow of a link [2.6.7, 2.7.4].
-pub fn link_flow(
-    next_incoming_id: u32,
-    window: u32,
-    handle: u32,
-    stated: LinkStated,
-) -> Flow<'static>
-    ensures { said (performative.Flow result) ≡ link_flow_said next_incoming_id window handle stated.delivery_count stated.link_credit stated.drain }
-{
-    Flow {
-        next_incoming_id: Some(next_incoming_id),
-        incoming_window: window,
-        next_outgoing_id: 0,
-        outgoing_window: 0,
-        handle: Some(handle),
-        delivery_count: Some(stated.delivery_count),
-        link_credit: Some(stated.link_credit),
-        available: None,
-        drain: stated.drain,
         echo: false,
         properties: &[],
     }

@@ -1,32 +1,36 @@
 //! One session that receives.
 ghost use Rattle.std.specs.Prelude.{◌≡◌, ℕ, ◌≤◌, ◌<◌, ◌+◌, ◌^◌, sum_by, [], ◌∷◌, unwrap_or, Option, Some, None, OnOk, IfOk, OnErr, IfErr, true, false, is_some, if◌then◌else◌};
-ghost use Rattle.amqp_link.specs.Links.{sent_of};
+ghost use Rattle.std.specs.Option.{option_map_or};
+ghost use Rattle.amqp_link.specs.Links.{sent_of, fault_of, link_after, may_grow, step_of, Transferred};
 ghost use Rattle.amqp_perform.specs.declared.performative.Performative.{Performative};
 ghost use Rattle.amqp_perform.specs.declared.performative.Performative.TheVariants as performative;
-ghost use Rattle.amqp_perform.specs.Frames.{IsWritten};
 ghost use Rattle.amqp_perform.specs.declared.outcome.Outcome.{Outcome};
-ghost use Rattle.amqp_session.specs.Calls.{Widen, Grant, Drain, Take, Settle, SettleRange, Detach as DetachCall, call_fault, call_event, call_answer};
-ghost use Rattle.amqp_session.specs.Faults.{session_fault, event_of, report_of, answer_of, failure_answer, flow_answer, echo_answer, slot_settled, IsRefusal};
-ghost use Rattle.amqp_perform.specs.Said.{said, said_frame};
-ghost use Rattle.amqp_session.specs.Frames.{Attaches, Flows, Transfers, Disposes, Detaches, attaching, flowing, disposing, frame_of, attach_said};
+ghost use Rattle.amqp_session.specs.Calls.{Widen, Grant, Drain, Take, Settle, SettleRange, Detach as DetachCall, call_fault, call_event, call_answer, range_fault, settles_at_once, standing_in};
+ghost use Rattle.amqp_session.specs.Faults.{session_fault, event_of, report_of, answer_of, failure_answer, flow_answer, echo_answer, slot_settled, link_condition, IsRefusal};
+ghost use Rattle.amqp_perform.specs.Said.{said};
+ghost use Rattle.amqp_session.specs.Frames.{Attaches, Flows, Transfers, Disposes, Detaches, attaching, flowing, disposing, frame_of, stated_said};
 ghost use Rattle.amqp_session.specs.Lacking.{IsFirstLacking};
-ghost use Rattle.amqp_session.specs.Sessions.{session_begins, session_after, session_bytes, session_ready, slot_at, slot_ready, SessionMay, IsApart};
-ghost use Rattle.amqp_session.specs.Slots.{HandsUp, IsViewAt};
+ghost use Rattle.amqp_session.specs.Sessions.{session_begins, session_after, session_bytes, session_ready, slot_at, slot_ready, Detached, Settled, SessionMay, IsApart};
+ghost use Rattle.amqp_session.specs.Places.{live_in};
+ghost use Rattle.amqp_session.specs.Slots.{HandsUp, IsViewAt, is_live};
 ghost use Rattle.amqp_session.specs.Laws.{named_total};
-ghost use Rattle.amqp_session.specs.Indexes.{found, is_untaken, disposed, IsAlone, IsKnown};
+ghost use Rattle.amqp_session.specs.Indexes.{found, gone_of, ids_of, is_untaken, disposed, is_begun, IsTaken, IsKeptBehind, IsAlone, IsKnown};
 ghost use Rattle.amqp_session.specs.Answers.{said_by, answer_said, IsOfAttach, IsPlain, IsWithin, HasDone, IsFrameRefusal, IsAttachAnswer};
 
 use crate::done::{Answer, Done};
 use crate::fault::{CallFault, SessionFault};
 use crate::index::{Index, Kept};
+use crate::ranges::Named;
 use crate::report::Report;
-use crate::slots::stated;
-use crate::state::{State, is_settling, settled_report, settles_at_once, standing_fault};
+use crate::state::{
+    State, is_settling, link_condition, settled_report, settles_at_once, standing_fault, stated,
+    step_report,
+};
 use crate::terms::SessionTerms;
 use crate::view::LinkView;
 use crate::{ranges, replies};
-use amqp_link::{LinkBounds, Standing, Taken, laws};
-use amqp_perform::{Attach, Detach, Disposition, Flow, Outcome, Performative, Transfer};
+use amqp_link::{Link, LinkBounds, LinkFault, Standing, Step, Taken, Verdict, laws};
+use amqp_perform::{Attach, Detach, Disposition, Flow, LinkFlow, Outcome, Performative, Transfer};
 use amqp_serial::Serial;
 use std::alloc::{Allocator, Global};
 use std::marker::Model;
@@ -81,7 +85,7 @@ impl<A: Allocator + Copy> Session<A> {
         self.state.window()
     }
 
-    /// The next-incoming-id [2.5.6].
+    /// The next-incoming-id [2.5.6], for a caller that shows it, or writes flows itself.
     pub fn next_incoming_id(&self) -> u32
         ensures { result ≡ self.now.next_incoming_id }
     {
@@ -121,7 +125,7 @@ impl<A: Allocator + Copy> Session<A> {
         self.state.ready()
     }
 
-    /// Drops the session with its links, and answers how many deliveries were ready and not handed up.
+    /// Drops the session with its links, and answers how many deliveries were ready and not handed up. For a caller that tells it.
     pub fn drop_all(self) -> u32
         ensures { result ≡ session_ready self }
     {
@@ -176,7 +180,7 @@ impl<A: Allocator + Copy> Session<A> {
         self.state.is_long();
         let mut ended = None;
         let report = self.state.flow(&mut ended, flow)?;
-        self.index.transferred(report, ended, None);
+        self.index.flowed(report, ended);
         let answer = flow_answer(&self.state, flow, report);
         Ok(Done { report, answer })
     }
@@ -204,24 +208,27 @@ impl<A: Allocator + Copy> Session<A> {
         laws::open_ids_grow_by_heads();
         self.state.is_long();
         is_numbered(transfer);
-        let id = transfer.delivery_id.unwrap_or(0);
+        if self.state.window() == 0 {
+            return Err(SessionFault::WindowViolation);
+        }
+        let handle = transfer.handle;
         let known = is_known(&self.index, transfer);
-        let unfinished = self.state.unfinished_id(transfer.handle);
-        let begins = self.state.begins(known, transfer, payload);
-        self.index.begin(id, begins)?;
-        let mut ended = None;
-        match self
-            .state
-            .transfer(&mut ended, known, begins.is_some(), transfer, payload)
-        {
-            Ok(report) => {
-                self.index.transferred(report, ended, unfinished);
-                Ok(report)
+        let Some(link) = self.state.link_mut(handle) else {
+            self.state.drop_transfer(handle)?;
+            return Ok(Report::Nothing);
+        };
+        let verdict = link.verdict(known, transfer, payload);
+        if let Verdict::Fails(fault) = verdict {
+            let report = end_link(&mut self.state, &mut self.index, handle, fault);
+            self.state.transfer_came();
+            return Ok(report);
+        }
+        match accept(link, &mut self.index, verdict, transfer, payload) {
+            Ok(step) => {
+                self.state.transfer_came();
+                Ok(step_report(handle, step))
             }
-            Err(fault) => {
-                self.index.begin_no_more(id, begins);
-                Err(fault)
-            }
+            Err(fault) => Err(fault),
         }
     }
 
@@ -320,10 +327,7 @@ impl<A: Allocator + Copy> Session<A> {
     pub fn settle_fault(&self, id: u32) -> Option<CallFault>
         ensures { (outcome : Outcome) → result ≡ call_fault self.now (Settle id outcome) }
     {
-        match ranges::find(&self.index, &self.state, id) {
-            Some(found) => standing_fault(found.standing),
-            None => Some(CallFault::NoDelivery),
-        }
+        self.settle_range_fault(id, id)
     }
 
     /// Why [`Session::settle_range`] would be refused now, with any outcome; `None` where it would be accepted.
@@ -363,6 +367,20 @@ impl<A: Allocator + Copy> Session<A> {
         ensures refused { IfErr result (λ e. call_fault self.old (Grant handle n) ≡ Some e) }
         ensures err { OnErr result (self.new ≡ self.old) }
     {
+        let stated = self.grant_stated(handle, n)?;
+        Ok(stated.flow())
+    }
+
+    /// Grants the link at a handle `n` places of credit, as [`Session::grant`] does, and answers what the flow states, which the
+    /// caller writes [2.6.7]. Refused, with nothing changed, with `NoLink` or `TooMuchCredit`.
+    pub fn grant_stated(&mut self, handle: u32, n: u32) -> Result<LinkFlow, CallFault>
+        ensures may { OnOk result (SessionMay self.old (call_event self.old (Grant handle n))) }
+        ensures new { OnOk result (self.new ≡ session_after self.old (call_event self.old (Grant handle n))) }
+        ensures accepted { OnOk result (call_fault self.old (Grant handle n) ≡ None) }
+        ensures answer { IfOk result (λ flow. call_answer self.old (Grant handle n) ≡ stated_said flow ∷ []) }
+        ensures refused { IfErr result (λ e. call_fault self.old (Grant handle n) ≡ Some e) }
+        ensures err { OnErr result (self.new ≡ self.old) }
+    {
         laws::open_ids_grow_by_heads();
         self.state.is_long();
         let Some(link) = self.state.link_mut(handle) else {
@@ -392,11 +410,13 @@ impl<A: Allocator + Copy> Session<A> {
         };
         link.drain();
         let stated = stated(link);
-        Ok(self.state.flow_stating(handle, stated))
+        Ok(self.state.flow_stating(handle, stated).flow())
     }
 
     /// Hands up the first ready delivery of the link at a handle. Refused, with nothing changed: with `NoLink`,
     /// or with `NothingReady`. Takes no memory.
+    // For `telemetry` and `gateway` (docs/PERF.md).
+    #[inline(always)]
     pub fn take(&mut self, handle: u32) -> Result<Taken<A>, CallFault>
         ensures may { OnOk result (SessionMay self.old (call_event self.old (Take handle))) }
         ensures new { OnOk result (self.new ≡ session_after self.old (call_event self.old (Take handle))) }
@@ -420,8 +440,6 @@ impl<A: Allocator + Copy> Session<A> {
     /// Settles the delivery with this id, which was handed up [2.6.12], and answers the disposition that says so.
     /// In mode second it tells the sender what became of it, who settles it [2.8.3]. Refused, with nothing
     /// changed: with `NoDelivery`, `NotTaken` or `AlreadyTold`. Takes no memory.
-    // For `telemetry` and `gateway` (docs/PERF.md).
-    #[inline(always)]
     pub fn settle(&mut self, id: u32, outcome: Outcome) -> Result<Disposition<'static>, CallFault>
         ensures may { OnOk result (SessionMay self.old (call_event self.old (Settle id outcome))) }
         ensures new { OnOk result (self.new ≡ session_after self.old (call_event self.old (Settle id outcome))) }
@@ -430,16 +448,8 @@ impl<A: Allocator + Copy> Session<A> {
         ensures refused { IfErr result (λ e. call_fault self.old (Settle id outcome) ≡ Some e) }
         ensures err { OnErr result (self.new ≡ self.old) }
     {
-        self.state.is_numbered();
-        let Some(kept) = self.index.get(id) else {
-            return Err(CallFault::NoDelivery);
-        };
-        let standing = ranges::settle_one(&mut self.state, &mut self.index, kept, id);
-        if let Some(fault) = standing_fault(standing) {
-            return Err(fault);
-        }
-        let settled = settles_at_once(standing);
-        Ok(replies::disposition(id, id, settled, outcome))
+        let named = self.settle_named(id, id)?;
+        Ok(replies::disposition(id, id, named.settled, outcome))
     }
 
     /// Settles the open deliveries of all links whose ids stand in the range from `first` to `last`, as
@@ -462,16 +472,44 @@ impl<A: Allocator + Copy> Session<A> {
         ensures refused { IfErr result (λ e. call_fault self.old (SettleRange first last outcome) ≡ Some e) }
         ensures err { OnErr result (self.new ≡ self.old) }
     {
-        self.state.is_numbered();
-        if first == last {
-            return Ok((self.settle(first, outcome)?, 1));
-        }
-        let named = ranges::judge(&self.index, &self.state, first, last)?;
-        ranges::settle_ids(&mut self.state, &mut self.index, first, last);
+        let named = self.settle_named(first, last)?;
         Ok((
             replies::disposition(first, last, named.settled, outcome),
             named.count,
         ))
+    }
+
+    /// Settles the open deliveries whose ids stand in the range from `first` to `last`, as [`Session::settle_range`] does, and
+    /// answers what the disposition has to say, which the caller writes [2.7.6]. Refused, with nothing changed, as that is; with
+    /// one id as [`Session::settle`]. Takes no memory.
+    // For `telemetry` and `gateway` (docs/PERF.md).
+    #[inline(always)]
+    pub fn settle_named(&mut self, first: u32, last: u32) -> Result<Named, CallFault>
+        ensures may { OnOk result (SessionMay self.old (Settled first last)) }
+        ensures new { OnOk result (self.new ≡ session_after self.old (Settled first last)) }
+        ensures accepted { OnOk result (range_fault first last self.old ≡ None) }
+        ensures settled { IfOk result (λ named. named.settled ≡ settles_at_once (standing_in first self.old.links)) }
+        ensures count { IfOk result (λ named. named.count ≡ named_total first last self.old) }
+        ensures refused { IfErr result (λ e. range_fault first last self.old ≡ Some e) }
+        ensures err { OnErr result (self.new ≡ self.old) }
+    {
+        self.state.is_numbered();
+        if first != last {
+            let named = ranges::judge(&self.index, &self.state, first, last)?;
+            ranges::settle_ids(&mut self.state, &mut self.index, first, last);
+            return Ok(named);
+        }
+        let Some(kept) = self.index.get(first) else {
+            return Err(CallFault::NoDelivery);
+        };
+        let standing = ranges::settle_one(&mut self.state, &mut self.index, kept, first);
+        if let Some(fault) = standing_fault(standing) {
+            return Err(fault);
+        }
+        Ok(Named {
+            settled: settles_at_once(standing),
+            count: 1,
+        })
     }
 
     /// Ends the link at a handle [2.6.6]: answers the detach, with closed true, that says so, and how many ready
@@ -492,6 +530,108 @@ impl<A: Allocator + Copy> Session<A> {
         let dropped = self.state.detach(&mut ended, handle)?;
         self.index.forget_link(ended);
         Ok((replies::detach(handle, true), dropped))
+    }
+}
+
+/// A link takes a transfer, which comes to this. A delivery that begins is put into the index first, and taken out of it
+/// again where the link has no memory; one that is given up is taken out behind.
+fn accept<A: Allocator + Copy>(
+    link: &mut Link<A>,
+    index: &mut Index<A>,
+    verdict: Verdict,
+    transfer: &Transfer<'_>,
+    payload: &[u8],
+) -> Result<Step, SessionFault>
+    requires taken { IsTaken link.old (sent_of transfer.now payload.now) verdict }
+    requires free { is_begun verdict ≡ true → found index.old (unwrap_or transfer.now.delivery_id 0) ≡ None }
+    ensures new { OnOk result (link.new ≡ link_after link.old (Transferred (sent_of transfer.now payload.now))) }
+    ensures step { IfOk result (λ step. step ≡ step_of (sent_of transfer.now payload.now)) }
+    ensures kept { OnOk result (IsKeptBehind verdict transfer.now.handle (unwrap_or transfer.now.delivery_id 0) index.old index.new) }
+    ensures refused { IfErr result (λ e. (e ≡ SessionFault.NoMemory) × (may_grow link.old (sent_of transfer.now payload.now) ≡ true)) }
+    ensures same { OnErr result (link.new ≡ link.old) }
+    ensures still { OnErr result ((id : ℕ) → found index.new id ≡ found index.old id) }
+{
+    match verdict {
+        Verdict::Begins(key) => begin_delivery(link, index, key, transfer, payload),
+        Verdict::GivesUp(id) => {
+            let step = take_in(link, transfer, payload)?;
+            index.remove(id);
+            Ok(step)
+        }
+        _ => take_in(link, transfer, payload),
+    }
+}
+
+/// A delivery begins, which the link keeps under this key.
+fn begin_delivery<A: Allocator + Copy>(
+    link: &mut Link<A>,
+    index: &mut Index<A>,
+    key: usize,
+    transfer: &Transfer<'_>,
+    payload: &[u8],
+) -> Result<Step, SessionFault>
+    requires taken { IsTaken link.old (sent_of transfer.now payload.now) (Verdict.Begins key) }
+    requires free { found index.old (unwrap_or transfer.now.delivery_id 0) ≡ None }
+    ensures new { OnOk result (link.new ≡ link_after link.old (Transferred (sent_of transfer.now payload.now))) }
+    ensures step { IfOk result (λ step. step ≡ step_of (sent_of transfer.now payload.now)) }
+    ensures kept { OnOk result (IsKeptBehind (Verdict.Begins key) transfer.now.handle (unwrap_or transfer.now.delivery_id 0) index.old index.new) }
+    ensures refused { IfErr result (λ e. (e ≡ SessionFault.NoMemory) × (may_grow link.old (sent_of transfer.now payload.now) ≡ true)) }
+    ensures same { OnErr result (link.new ≡ link.old) }
+    ensures still { OnErr result ((id : ℕ) → found index.new id ≡ found index.old id) }
+{
+    let id = transfer.delivery_id.unwrap_or(0);
+    let handle = transfer.handle;
+    index.insert(id, Kept { handle, key })?;
+    match take_in(link, transfer, payload) {
+        Ok(step) => Ok(step),
+        Err(fault) => {
+            index.remove(id);
+            Err(fault)
+        }
+    }
+}
+
+/// A link takes a transfer in which it finds no fault.
+fn take_in<A: Allocator + Copy>(
+    link: &mut Link<A>,
+    transfer: &Transfer<'_>,
+    payload: &[u8],
+) -> Result<Step, SessionFault>
+    requires { fault_of link.old (sent_of transfer.now payload.now) ≡ None }
+    ensures new { OnOk result (link.new ≡ link_after link.old (Transferred (sent_of transfer.now payload.now))) }
+    ensures step { IfOk result (λ step. step ≡ step_of (sent_of transfer.now payload.now)) }
+    ensures refused { IfErr result (λ e. (e ≡ SessionFault.NoMemory) × (may_grow link.old (sent_of transfer.now payload.now) ≡ true)) }
+    ensures same { OnErr result (link.new ≡ link.old) }
+{
+    match link.transfer_judged(transfer, payload) {
+        Ok(step) => Ok(step),
+        Err(_) => Err(SessionFault::NoMemory),
+    }
+}
+
+/// Ends the live link at a handle by the fault of a transfer [2.6.5]. Its deliveries are taken out of the index.
+#[inline(never)]
+fn end_link<A: Allocator + Copy>(
+    state: &mut State<A>,
+    index: &mut Index<A>,
+    handle: u32,
+    fault: LinkFault,
+) -> Report
+    requires { is_live (slot_at state.old handle) ≡ true }
+    ensures new { state.new ≡ session_after state.old (Detached handle) }
+    ensures gone { (id : ℕ) → id < 2 ^ 32 → found index.new id ≡ gone_of (ids_of (live_in (slot_at state.old handle))) id (found index.old id) }
+    ensures report { result ≡ Report.Failed handle (link_condition fault) (slot_ready (slot_at state.old handle)) }
+{
+    let mut ended = None;
+    let dropped = match state.detach(&mut ended, handle) {
+        Ok(dropped) => dropped,
+        Err(_) => unreachable!(),
+    };
+    index.forget_link(ended);
+    Report::Failed {
+        handle,
+        condition: link_condition(fault),
+        dropped,
     }
 }
 
@@ -647,10 +787,10 @@ fn echo<A: Allocator + Copy>(after: &State<A>, flow: &Flow<'_>) -> Answer
 
 /// Whether an open delivery has the id that a transfer states, if it states one.
 fn is_known<A: Allocator + Copy>(index: &Index<A>, transfer: &Transfer<'_>) -> bool
-    ensures { (id : ℕ) → transfer.now.delivery_id ≡ Some id → result ≡ is_some (found index.now id) }
+    ensures { result ≡ option_map_or (λ id. is_some (found index.now id)) transfer.now.delivery_id false }
 {
     match transfer.delivery_id {
-        Some(id) => index.get(id).is_some(),
+        Some(id) => index.has(id),
         None => false,
     }
 }

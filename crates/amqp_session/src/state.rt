@@ -1,37 +1,37 @@
 //! What a session keeps: its terms, its window, its numbers, and what stands at its handles.
-ghost use Rattle.std.specs.Prelude.{◌≡◌, ℕ, ◌<◌, ◌≤◌, ◌+◌, ◌^◌, Bool, [], ◌∷◌, length, option_to_list, map, Option, Some, None, OnOk, OnErr, IfOk, IfErr, IfSome, IfNone, MatchOption, true, false, not, ◌&&◌, is_none, is_some};
-ghost use Rattle.amqp_link.specs.Links.{sent_of};
+
 ghost use Rattle.amqp_perform.specs.declared.performative.Performative.TheVariants as performative;
+ghost use Rattle.std.specs.Prelude.{◌≡◌, ℕ, ◌<◌, ◌≤◌, ◌+◌, ◌^◌, Bool, length, option_to_list, map, Option, Some, None, OnOk, OnErr, IfOk, IfErr, IfSome, true, false, not, ◌&&◌, is_none, ◌*◌, sum_by, IfNone, nat_lt};
 ghost use Rattle.amqp_perform.specs.Performatives.{is_receiver};
-ghost use Rattle.amqp_session.specs.Calls.{Widen, Grant, Drain, Settle, Detach as DetachCall, call_fault, call_event, slot_standing, standing_fault, settles_at_once};
+ghost use Rattle.amqp_session.specs.Calls.{Widen, Grant, Drain, Detach as DetachCall, call_fault, call_event, slot_standing, standing_fault, settles_at_once, at_link};
 ghost use Rattle.std.specs.Option.{option_copied_mut};
 ghost use Rattle.std.specs.Borrow.{sem};
-ghost use Rattle.amqp_session.specs.Lacking.{IsFirstLacking};
-ghost use Rattle.amqp_session.specs.Links.{link_at};
+ghost use Rattle.amqp_session.specs.Lacking.{IsFirstLacking, wants_credit};
+ghost use Rattle.amqp_session.specs.Links.{link_at, counted, link_in};
 ghost use Rattle.amqp_session.specs.StateLending.{LendsHandle};
-ghost use Rattle.amqp_session.specs.Faults.{session_fault, event_of, report_of, attach_fault, IsRefusal, session_flow, link_flow, attached, is_settling, settled_report};
+ghost use Rattle.amqp_session.specs.Faults.{session_fault, is_free, event_of, report_of, attach_fault, IsRefusal, session_flow, link_flow, attached, is_settling, settled_report, link_condition, step_report, where_so};
 ghost use Rattle.amqp_perform.specs.Said.{said};
-ghost use Rattle.amqp_session.specs.Frames.{Attaches, Flows, Transfers, Disposes, Detaches, attaching, flowing, disposing, link_flow_said};
-ghost use Rattle.amqp_session.specs.Sessions.{SessionState, session_begins, session_after, session_bytes, session_ready, slot_at, slot_ready, is_open_id, handles, live_begins};
+ghost use Rattle.amqp_session.specs.Frames.{Attaches, Flows, Detaches, attaching, flowing, disposing, link_flow_said, stated_said};
+ghost use Rattle.amqp_session.specs.Sessions.{SessionState, session_begins, session_after, session_bytes, session_ready, slot_at, slot_ready, handles, live_begins, slot_bytes, live_after};
 ghost use Rattle.amqp_session.specs.Places.{live_in};
-ghost use Rattle.amqp_session.specs.Slots.{IsViewAt, is_live};
-ghost use Rattle.amqp_session.specs.Indexes.{IsOnceAt, IsEnded, slot_unfinished, does_begin};
-ghost use Rattle.amqp_perform.specs.declared.outcome.Outcome.{Outcome};
+ghost use Rattle.amqp_session.specs.Slots.{IsViewAt, is_live, at_place, padded, IsView, slot_flowed, stated_of, IsStated, IsFlowTold};
+ghost use Rattle.amqp_session.specs.Indexes.{IsOnceAt, IsEnded, IsEndedAt};
+ghost use Rattle.amqp_link.specs.Links.{FlowStated, open_count, is_drained, is_beyond};
+ghost use Rattle.amqp_session.specs.Lending.{LendsLink, LendsPlace};
+ghost use Rattle.amqp_session.specs.declared.slot.Slot.{Slot};
 
 use crate::fault::{CallFault, SessionFault};
-use crate::index::Kept;
-use crate::kept_link::KeptLink;
 use crate::refusal::refusal;
+use crate::replies;
 use crate::report::Report;
 use crate::slot::Slot;
-use crate::slots::{self, LinkStated, PeerDetached};
 use crate::terms::SessionTerms;
 use crate::view::LinkView;
-use crate::{replies, table};
-use amqp_link::{Link, LinkBounds, Standing, Terms};
-use amqp_perform::{Attach, Disposition, Flow, ReceiverSettleMode, Role, Transfer};
+use amqp_link::{Link, LinkBounds, LinkFault, Standing, Step, Terms, laws};
+use amqp_perform::{Attach, Condition, Disposition, Flow, LinkFlow, ReceiverSettleMode, Role};
 use std::alloc::{AllocError, Allocator, Global};
 use std::marker::Model;
+use std::mem;
 
 /// The longest name that is kept.
 const MAX_NAME: usize = 255;
@@ -121,7 +121,7 @@ impl<A: Allocator + Copy> State<A> {
             next_incoming_id: _,
             table,
         } = self;
-        64 + table::held(table)
+        64 + held(table)
     }
 
     /// How many deliveries are ready.
@@ -129,7 +129,7 @@ impl<A: Allocator + Copy> State<A> {
         ensures value { result ≡ session_ready self.now }
         ensures most { result ≤ 2 ^ 18 }
     {
-        table::ready(&self.table)
+        ready(&self.table)
     }
 
     /// What is shown of the live link at a handle.
@@ -140,14 +140,14 @@ impl<A: Allocator + Copy> State<A> {
         if place >= self.table.len() {
             return None;
         }
-        slots::view(&self.table[place])
+        view(&self.table[place])
     }
 
     /// The first handle from one on whose link has less credit than that, and is allowed more.
     pub fn first_lacking(&self, from: u32, credit: u32) -> Option<u32>
         ensures { IsFirstLacking credit from (slot_at self.now) result }
     {
-        match table::first_lacking(&self.table, from as usize, credit) {
+        match first_lacking(&self.table, from as usize, credit) {
             Some(place) => Some(place as u32),
             None => None,
         }
@@ -163,7 +163,7 @@ impl<A: Allocator + Copy> State<A> {
         if place >= self.table.len() {
             return None;
         }
-        match slots::link_mut(&mut self.table[place]) {
+        match link_mut(&mut self.table[place]) {
             Some(link) => Some(link),
             None => None,
         }
@@ -179,40 +179,33 @@ impl<A: Allocator + Copy> State<A> {
         if place >= self.table.len() {
             return Standing::Absent;
         }
-        slots::standing(&self.table[place], key, id)
+        standing(&self.table[place], key, id)
     }
 
-    /// The id of the unfinished delivery of the link at a handle, if there is one.
-    pub fn unfinished_id(&self, handle: u32) -> Option<u32>
-        ensures { result ≡ slot_unfinished (slot_at self.now handle) }
+    /// A transfer came: it takes a place of the window, and a number [2.5.6].
+    pub fn transfer_came(&mut self)
+        requires { 1 ≤ self.old.window }
+        ensures { self.new ≡ counted self.old }
     {
-        let place = handle as usize;
-        if place >= self.table.len() {
-            return None;
-        }
-        slots::unfinished_id(&self.table[place])
+        self.window -= 1;
+        self.next_incoming_id = self.next_incoming_id.wrapping_add(1);
     }
 
-    /// Where the delivery will be kept that a transfer begins, if it begins one that stays open, where it is known
-    /// whether an open one has its id.
-    pub fn begins(&self, known: bool, transfer: &Transfer<'_>, payload: &[u8]) -> Option<Kept>
-        requires { (id : ℕ) → transfer.now.delivery_id ≡ Some id → known ≡ is_open_id self.now id }
-        ensures begins { is_some result ≡ does_begin self.now transfer.now.handle (sent_of transfer.now payload.now) }
-        ensures handle { IfSome result (λ kept. kept.handle ≡ transfer.now.handle) }
+    /// A transfer came for a handle at which no link is live: it is dropped where one waits for the peer's detach.
+    #[inline(never)]
+    pub fn drop_transfer(&mut self, handle: u32) -> Result<(), SessionFault>
+        requires room { 1 ≤ self.old.window }
+        requires none { is_live (slot_at self.old handle) ≡ false }
+        ensures new { OnOk result (self.new ≡ counted self.old) }
+        ensures waits { OnOk result (is_free (slot_at self.old handle) ≡ false) }
+        ensures refused { IfErr result (λ e. (e ≡ SessionFault.UnattachedHandle) × (is_free (slot_at self.old handle) ≡ true)) }
+        ensures err { OnErr result (self.new ≡ self.old) }
     {
-        let handle = transfer.handle;
-        let place = handle as usize;
-        if self.window == 0 {
-            return None;
+        if is_free(&self.table, handle as usize) {
+            return Err(SessionFault::UnattachedHandle);
         }
-        if place >= self.table.len() {
-            return None;
-        }
-        let reused = table::is_reused(&self.table, place, transfer.delivery_id, known);
-        match slots::begins(&self.table[place], reused, transfer, payload) {
-            Some(key) => Some(Kept { handle, key }),
-            None => None,
-        }
+        self.transfer_came();
+        Ok(())
     }
 
     /// The flow of the session.
@@ -230,17 +223,24 @@ impl<A: Allocator + Copy> State<A> {
         if place >= self.table.len() {
             return None;
         }
-        match slots::stated_at(&self.table[place]) {
-            Some(stated) => Some(self.flow_stating(handle, stated)),
+        match stated_at(&self.table[place]) {
+            Some(stated) => Some(self.flow_stating(handle, stated).flow()),
             None => None,
         }
     }
 
-    /// The flow that states this of the link at a handle.
-    pub fn flow_stating(&self, handle: u32, stated: LinkStated) -> Flow<'static>
-        ensures { said (performative.Flow result) ≡ link_flow_said self.now.next_incoming_id self.now.window handle stated.delivery_count stated.link_credit stated.drain }
+    /// What a flow says that states this of the link at a handle.
+    pub fn flow_stating(&self, handle: u32, stated: LinkStated) -> LinkFlow
+        ensures { stated_said result ≡ link_flow_said self.now.next_incoming_id self.now.window handle stated.delivery_count stated.link_credit stated.drain }
     {
-        replies::link_flow(self.next_incoming_id, self.window, handle, stated)
+        LinkFlow {
+            next_incoming_id: self.next_incoming_id,
+            incoming_window: self.window,
+            handle,
+            delivery_count: stated.delivery_count,
+            link_credit: stated.link_credit,
+            drain: stated.drain,
+        }
     }
 
     /// The fault of an attach that ends the session.
@@ -249,7 +249,7 @@ impl<A: Allocator + Copy> State<A> {
     {
         if attach.name.len() > MAX_NAME {
             Some(SessionFault::ResourceLimit)
-        } else if !table::is_free(&self.table, attach.handle as usize) {
+        } else if !is_free(&self.table, attach.handle as usize) {
             Some(SessionFault::HandleInUse)
         } else if lacks_count(attach) {
             Some(SessionFault::InvalidField)
@@ -276,7 +276,7 @@ impl<A: Allocator + Copy> State<A> {
         }
         let handle = attach.handle;
         let place = handle as usize;
-        table::reach(&mut self.table, place)?;
+        reach(&mut self.table, place)?;
         match refusal(&self.terms, attach, bounds) {
             None => {
                 self.table[place] = Slot::Live(begun(self.alloc, &self.terms, attach, bounds)?);
@@ -334,53 +334,13 @@ impl<A: Allocator + Copy> State<A> {
         if place >= self.table.len() {
             return Err(SessionFault::UnattachedHandle);
         }
-        match slots::flow(&mut self.table[place], ended, handle, flow)? {
+        match flow_at(&mut self.table[place], ended, handle, flow)? {
             None => Ok(Report::Nothing),
             Some(report) => {
                 self.next_incoming_id = flow.next_outgoing_id;
                 Ok(report)
             }
         }
-    }
-
-    /// Takes a transfer and its payload, where it is known whether an open delivery has its id, and which was judged before if
-    /// it is known that it begins one that stays open. A link that fails is put to `ended`.
-    pub fn transfer(
-        &mut self,
-        ended: &mut Option<KeptLink<A>>,
-        known: bool,
-        judged: bool,
-        transfer: &Transfer<'_>,
-        payload: &[u8],
-    ) -> Result<Report, SessionFault>
-        requires known { (id : ℕ) → transfer.now.delivery_id ≡ Some id → known ≡ is_open_id self.old id }
-        requires judged { judged ≡ true → does_begin self.old transfer.now.handle (sent_of transfer.now payload.now) ≡ true }
-        ensures new { OnOk result (self.new ≡ session_after self.old (event_of self.old (Transfers transfer.now.handle (sent_of transfer.now payload.now)))) }
-        ensures accepted { OnOk result (session_fault self.old (Transfers transfer.now.handle (sent_of transfer.now payload.now)) ≡ None) }
-        ensures report { IfOk result (λ report. report ≡ report_of self.old (Transfers transfer.now.handle (sent_of transfer.now payload.now))) }
-        ensures ended { IfOk result (λ report. IsEnded self.old report ended.new) }
-        ensures refused { IfErr result (λ e. IsRefusal self.old (Transfers transfer.now.handle (sent_of transfer.now payload.now)) e) }
-        ensures err { OnErr result (self.new ≡ self.old) }
-    {
-        if self.window == 0 {
-            return Err(SessionFault::WindowViolation);
-        }
-        let place = transfer.handle as usize;
-        if place >= self.table.len() {
-            return Err(SessionFault::UnattachedHandle);
-        }
-        let reused = table::is_reused(&self.table, place, transfer.delivery_id, known);
-        let report = slots::transfer(
-            &mut self.table[place],
-            ended,
-            reused,
-            judged,
-            transfer,
-            payload,
-        )?;
-        self.window -= 1;
-        self.next_incoming_id = self.next_incoming_id.wrapping_add(1);
-        Ok(report)
     }
 
     /// Takes a detach of the link at a handle, which is put to `ended` if it was live.
@@ -401,7 +361,7 @@ impl<A: Allocator + Copy> State<A> {
         if place >= self.table.len() {
             return Err(SessionFault::UnattachedHandle);
         }
-        let detached = slots::detached(&mut self.table[place], ended)?;
+        let detached = detached(&mut self.table[place], ended)?;
         Ok(detached)
     }
 
@@ -424,7 +384,7 @@ impl<A: Allocator + Copy> State<A> {
         if place >= self.table.len() {
             return Some(CallFault::NoLink);
         }
-        slots::grant_fault(&self.table[place], n)
+        grant_fault(&self.table[place], n)
     }
 
     /// Why a drain or a detach of the link at a handle would be refused.
@@ -436,7 +396,7 @@ impl<A: Allocator + Copy> State<A> {
         if place >= self.table.len() {
             return Some(CallFault::NoLink);
         }
-        slots::link_fault(&self.table[place])
+        link_fault(&self.table[place])
     }
 
     /// Widens the window by `n` places.
@@ -466,7 +426,7 @@ impl<A: Allocator + Copy> State<A> {
         if place >= self.table.len() {
             return Err(CallFault::NoLink);
         }
-        let dropped = slots::detach(&mut self.table[place], ended)?;
+        let dropped = detach(&mut self.table[place], ended)?;
         Ok(dropped)
     }
 }
@@ -537,4 +497,470 @@ fn begun<A: Allocator + Copy>(
         attach.target,
         terms,
     )
+}
+
+/// Whether nothing stands at a place.
+fn is_free<A: Allocator + Copy>(table: &[Slot<KeptLink<A>>], place: usize) -> bool
+    ensures { result ≡ is_free (at_place table.now place) }
+{
+    match table.get(place) {
+        None | Some(Slot::Free) => true,
+        _ => false,
+    }
+}
+
+/// The bytes that count as kept.
+fn held<A: Allocator + Copy>(table: &[Slot<KeptLink<A>>]) -> u64
+    requires { length table.now ≤ 256 }
+    ensures value { result ≡ sum_by slot_bytes table.now }
+    ensures most { result < 2 ^ 51 }
+{
+    let mut held = 0;
+    for slot in table {
+        held += held_at(slot);
+    }
+    held
+}
+
+/// How many deliveries are ready.
+fn ready<A: Allocator + Copy>(table: &[Slot<KeptLink<A>>]) -> u32
+    requires { length table.now ≤ 256 }
+    ensures value { result ≡ sum_by slot_ready table.now }
+    ensures most { result ≤ 2 ^ 18 }
+{
+    let mut ready = 0;
+    for slot in table {
+        ready += ready_at(slot);
+    }
+    ready
+}
+
+/// The first place from one on whose link has less credit than that, and is allowed more.
+fn first_lacking<A: Allocator + Copy>(
+    table: &[Slot<KeptLink<A>>],
+    from: usize,
+    credit: u32,
+) -> Option<usize>
+    ensures within { IfSome result (λ place. place < length table.now) }
+    ensures first { IsFirstLacking credit from (at_place table.now) result }
+{
+    for place in from..table.len() {
+        if wants_credit(&table[place], credit) {
+            return Some(place);
+        }
+    }
+    None
+}
+
+/// Makes room up to a place, which is then reached.
+fn reach<A: Allocator + Copy>(
+    table: &mut Vec<Slot<KeptLink<A>>, A>,
+    place: usize,
+) -> Result<(), AllocError>
+    requires { place < 256 }
+    ensures same { (n : ℕ) → padded n table.new.items ≡ padded n table.old.items }
+    ensures reached { OnOk result (place < length table.new.items) }
+    ensures most { (n : ℕ) → place < n → length table.old.items ≤ n → length table.new.items ≤ n }
+{
+    let reached = table.len();
+    if place < reached {
+        return Ok(());
+    }
+    let more = place + 1 - reached;
+    table.reserve(more)?;
+    for _added in 0..more {
+        table.push_reserved(Slot::Free);
+    }
+    Ok(())
+}
+
+/// A live link, with what its attach gave.
+#[derive(Drop)]
+struct Record<A: Allocator + Copy = Global> {
+    name: Vec<u8, A>,
+    source: Vec<u8, A>,
+    target: Vec<u8, A>,
+    link: Link<A>,
+}
+
+/// A live link, which takes the room of one reference where it stands.
+#[derive(Drop)]
+pub struct KeptLink<A: Allocator + Copy = Global> {
+    record: Box<Record<A>, A>,
+}
+
+impl<A: Allocator + Copy> Model for KeptLink<A> {
+    ghost use Rattle.amqp_session.specs.Sessions.{LiveLink};
+
+    ghost Value = { LiveLink };
+
+    ghost use Rattle.amqp_session.specs.Keeping.{live_of};
+    ghost use Rattle.amqp_session.specs.Slots.{IsKept};
+
+    ghost view = { λ a. live_of a.record.value };
+
+    ghost invariant = { λ a. IsKept (live_of a.record.value) };
+}
+
+impl<A: Allocator + Copy> KeptLink<A> {
+    /// A link at its attach.
+    pub fn attach(
+        alloc: A,
+        name: &[u8],
+        source: &[u8],
+        target: &[u8],
+        terms: Terms,
+    ) -> Result<Self, AllocError>
+        requires name { length name.now ≤ 255 }
+        requires ends { length source.now + length target.now ≤ 1024 }
+        ensures { IfOk result (λ l. l ≡ live_begins (record { name = name.now; source = source.now; target = target.now; terms = terms })) }
+    {
+        let record = Record {
+            name: Vec::from_slice(alloc, name)?,
+            source: Vec::from_slice(alloc, source)?,
+            target: Vec::from_slice(alloc, target)?,
+            link: Link::attach(alloc, terms),
+        };
+        Ok(KeptLink {
+            record: Box::new(alloc, record)?,
+        })
+    }
+
+    /// The link.
+    pub fn link(&self) -> &Link<A>
+        ensures { result.now ≡ self.now.link }
+    {
+        &self.record.link
+    }
+
+    /// Lends the link.
+    fn link_mut(&mut self) -> &mut Link<A>
+        ensures* writes_back { sem 𝓛 (LendsLink A.row A.Allocator self.entry result) }
+        ensures value { result.now ≡ self.old.link }
+    {
+        &mut self.record.link
+    }
+
+    /// Follows the delivery-count that a flow states, or none, and answers whether the sender has used its credit
+    /// up as it was asked to.
+    fn sender_count(&mut self, stated: Option<u32>) -> Result<bool, LinkFault>
+        ensures new { OnOk result (self.new ≡ live_after self.old (FlowStated stated)) }
+        ensures within { OnOk result (is_beyond self.old.link.delivery_count self.old.link.credit stated ≡ false) }
+        ensures drained { IfOk result (λ drained. drained ≡ is_drained self.old.link stated) }
+        ensures beyond { OnErr result (is_beyond self.old.link.delivery_count self.old.link.credit stated ≡ true) }
+        ensures err { OnErr result (self.new ≡ self.old) }
+    {
+        laws::absent_count_is_the_known_one();
+        let known = self.record.link.delivery_count();
+        self.record.link.sender_count(stated.unwrap_or(known))
+    }
+
+    /// Whether credit and open deliveries would be more than the link allows with `n` places of credit more.
+    fn lacks_room(&self, n: u32) -> bool
+        ensures { result ≡ nat_lt self.now.link.terms.bounds.allowed (self.now.link.credit + open_count self.now.link + n) }
+    {
+        n > self.record.link.room()
+    }
+
+    /// Whether it has less credit than that, and more is allowed.
+    fn wants_credit(&self, credit: u32) -> bool
+        ensures { result ≡ wants_credit credit (Slot.Live self.now) }
+    {
+        let link = &self.record.link;
+        link.credit() < credit && link.room() > 0
+    }
+
+    /// The bytes that count as kept. All fields are named, so that a new one is listed here.
+    fn held(&self) -> u64
+        ensures value { result ≡ slot_bytes (Slot.Live self.now) }
+        ensures most { result < 2 ^ 42 }
+    {
+        let KeptLink { record } = self;
+        let record: &Record<A> = record;
+        let Record {
+            name,
+            source,
+            target,
+            link,
+        } = record;
+        let ends = name.len() + source.len() + target.len();
+        let _ = link.bounds().allowed(); // a law: what a link holds is small
+        128 + ends as u64 + link.held()
+    }
+
+    /// What is shown of it.
+    fn view(&self) -> LinkView<'_>
+        ensures { IsView self.now result }
+    {
+        let record = &self.record;
+        LinkView {
+            name: &record.name,
+            source: &record.source,
+            target: &record.target,
+            credit: record.link.credit(),
+            opened: record.link.opened(),
+            ready: record.link.ready(),
+            bounds: record.link.bounds(),
+        }
+    }
+
+    /// How many deliveries are ready.
+    fn ready(&self) -> u32
+        ensures value { result ≡ length self.now.link.ready }
+        ensures most { result ≤ 1024 }
+    {
+        let _ = self.record.link.bounds().allowed(); // a law: it allows few
+        self.record.link.ready()
+    }
+}
+
+/// What a flow states of a link [2.7.4].
+#[derive(Clone, Copy)]
+pub struct LinkStated {
+    pub delivery_count: u32,
+    pub link_credit: u32,
+    pub drain: bool,
+}
+
+/// The peer detached a link.
+#[derive(Clone, Copy)]
+pub struct PeerDetached {
+    /// How many ready deliveries were dropped.
+    pub dropped: u32,
+    /// It was live, so that this side has to answer.
+    pub live: bool,
+}
+
+/// What an accepted transfer tells.
+pub fn step_report(handle: u32, step: Step) -> Report
+    ensures { result ≡ step_report handle step }
+{
+    match step {
+        Step::Unfinished => Report::Unfinished { handle },
+        Step::Ready => Report::Ready { handle },
+        Step::Aborted => Report::Aborted { handle },
+    }
+}
+
+/// The condition with which a link ends.
+pub fn link_condition(fault: LinkFault) -> Condition
+    ensures { result ≡ link_condition fault }
+{
+    match fault {
+        LinkFault::TransferLimit => Condition::TransferLimitExceeded,
+        LinkFault::MessageSize => Condition::MessageSizeExceeded,
+        LinkFault::InvalidField => Condition::InvalidField,
+        LinkFault::NotImplemented => Condition::NotImplemented,
+        LinkFault::NoMemory => Condition::Other,
+    }
+}
+
+/// How many deliveries are ready there.
+fn ready_at<A: Allocator + Copy>(slot: &Slot<KeptLink<A>>) -> u32
+    ensures value { result ≡ slot_ready slot.now }
+    ensures most { result ≤ 1024 }
+{
+    match slot {
+        Slot::Live(kept) => kept.ready(),
+        _ => 0,
+    }
+}
+
+/// Whether a live link there has less credit than that, and more is allowed.
+fn wants_credit<A: Allocator + Copy>(slot: &Slot<KeptLink<A>>, credit: u32) -> bool
+    ensures { result ≡ wants_credit credit slot.now }
+{
+    match slot {
+        Slot::Live(kept) => kept.wants_credit(credit),
+        _ => false,
+    }
+}
+
+/// This side ends the link with an error, and puts it to `ended`.
+fn fail<A: Allocator + Copy>(
+    slot: &mut Slot<KeptLink<A>>,
+    ended: &mut Option<KeptLink<A>>,
+    handle: u32,
+    condition: Condition,
+) -> Report
+    ensures new { slot.new ≡ Slot.Waits }
+    ensures ended { ended.new ≡ live_in slot.old }
+    ensures report { result ≡ Report.Failed handle condition (slot_ready slot.old) }
+{
+    let dropped = ready_at(slot);
+    *ended = end(slot, Slot::Waits);
+    Report::Failed {
+        handle,
+        condition,
+        dropped,
+    }
+}
+
+/// Leaves this there, and answers the link that was live.
+fn end<A: Allocator + Copy>(
+    slot: &mut Slot<KeptLink<A>>,
+    left: Slot<KeptLink<A>>,
+) -> Option<KeptLink<A>>
+    ensures new { slot.new ≡ left }
+    ensures ended { result ≡ live_in slot.old }
+{
+    match mem::replace(slot, left) {
+        Slot::Live(kept) => Some(kept),
+        _ => None,
+    }
+}
+
+/// Follows a flow of the link. `None` where it waits for the peer's detach: the flow is dropped. A link that fails is put
+/// to `ended`.
+fn flow_at<A: Allocator + Copy>(
+    slot: &mut Slot<KeptLink<A>>,
+    ended: &mut Option<KeptLink<A>>,
+    handle: u32,
+    flow: &Flow<'_>,
+) -> Result<Option<Report>, SessionFault>
+    ensures new { slot.new ≡ slot_flowed (flowing flow.now) slot.old }
+    ensures report { IfOk result (λ told. IsFlowTold handle (flowing flow.now) slot.old told) }
+    ensures ended { IfOk result (λ told. IfSome told (λ report. IsEndedAt handle slot.old report ended.new)) }
+    ensures refused { IfErr result (λ e. (e ≡ SessionFault.UnattachedHandle) × (is_free slot.old ≡ true)) }
+{
+    match slot {
+        Slot::Free => return Err(SessionFault::UnattachedHandle),
+        Slot::Waits => return Ok(None),
+        Slot::Live(kept) => match kept.sender_count(flow.delivery_count) {
+            Ok(true) => return Ok(Some(Report::Drained { handle })),
+            Ok(false) => return Ok(Some(Report::Nothing)),
+            Err(_) => {}
+        },
+    }
+    Ok(Some(fail(slot, ended, handle, Condition::TransferLimitExceeded)))
+}
+
+/// Why a grant of `n` places of credit would be refused.
+fn grant_fault<A: Allocator + Copy>(slot: &Slot<KeptLink<A>>, n: u32) -> Option<CallFault>
+    ensures { result ≡ at_link slot.now (λ l. where_so (nat_lt l.terms.bounds.allowed (l.credit + open_count l + n)) CallFault.TooMuchCredit) }
+{
+    match slot {
+        Slot::Live(kept) if kept.lacks_room(n) => Some(CallFault::TooMuchCredit),
+        _ => link_fault(slot),
+    }
+}
+
+/// Why a call that the link there always accepts would be refused.
+fn link_fault<A: Allocator + Copy>(slot: &Slot<KeptLink<A>>) -> Option<CallFault>
+    ensures { result ≡ at_link slot.now (λ l. None) }
+{
+    match slot {
+        Slot::Live(_) => None,
+        _ => Some(CallFault::NoLink),
+    }
+}
+
+/// Lends the live link there.
+fn link_mut<A: Allocator + Copy>(slot: &mut Slot<KeptLink<A>>) -> Option<&mut Link<A>>
+    ensures* writes_back { sem 𝓛 (LendsPlace A.row A.Allocator slot.entry result) }
+    ensures value { option_copied_mut result ≡ link_in slot.old }
+{
+    match slot {
+        Slot::Live(kept) => Some(kept.link_mut()),
+        _ => None,
+    }
+}
+
+/// What a flow states of a link.
+pub fn stated<A: Allocator + Copy>(link: &Link<A>) -> LinkStated
+    ensures { result ≡ stated_of link.now }
+{
+    LinkStated {
+        delivery_count: link.delivery_count(),
+        link_credit: link.credit(),
+        drain: link.is_draining(),
+    }
+}
+
+/// What a flow states of the link there, if one is live.
+fn stated_at<A: Allocator + Copy>(slot: &Slot<KeptLink<A>>) -> Option<LinkStated>
+    ensures some { IfSome result (λ stated. IsStated slot.now stated) }
+    ensures none { IfNone result ((stated : LinkStated) → IsStated slot.now stated → ⊥) }
+{
+    match slot {
+        Slot::Live(kept) => Some(stated(kept.link())),
+        _ => None,
+    }
+}
+
+/// Ends the link, puts it to `ended`, and answers how many ready deliveries are dropped.
+fn detach<A: Allocator + Copy>(
+    slot: &mut Slot<KeptLink<A>>,
+    ended: &mut Option<KeptLink<A>>,
+) -> Result<u32, CallFault>
+    ensures new { OnOk result (slot.new ≡ Slot.Waits) }
+    ensures ended { OnOk result (ended.new ≡ live_in slot.old) }
+    ensures dropped { IfOk result (λ dropped. dropped ≡ slot_ready slot.old) }
+    ensures accepted { OnOk result (at_link slot.old (λ l. None) ≡ None) }
+    ensures refused { IfErr result (λ e. at_link slot.old (λ l. None) ≡ Some e) }
+    ensures err { OnErr result (slot.new ≡ slot.old) }
+{
+    match slot {
+        Slot::Live(_) => {}
+        _ => return Err(CallFault::NoLink),
+    }
+    let dropped = ready_at(slot);
+    *ended = end(slot, Slot::Waits);
+    Ok(dropped)
+}
+
+/// The peer detaches the link, which is put to `ended` if it was live.
+fn detached<A: Allocator + Copy>(
+    slot: &mut Slot<KeptLink<A>>,
+    ended: &mut Option<KeptLink<A>>,
+) -> Result<PeerDetached, SessionFault>
+    ensures new { OnOk result (slot.new ≡ Slot.Free) }
+    ensures ended { OnOk result (ended.new ≡ live_in slot.old) }
+    ensures used { OnOk result (is_free slot.old ≡ false) }
+    ensures dropped { IfOk result (λ detached. detached.dropped ≡ slot_ready slot.old) }
+    ensures live { IfOk result (λ detached. detached.live ≡ is_live slot.old) }
+    ensures refused { IfErr result (λ e. (e ≡ SessionFault.UnattachedHandle) × (is_free slot.old ≡ true)) }
+    ensures err { OnErr result (slot.new ≡ slot.old) }
+{
+    let live = match slot {
+        Slot::Free => return Err(SessionFault::UnattachedHandle),
+        Slot::Live(_) => true,
+        Slot::Waits => false,
+    };
+    let dropped = ready_at(slot);
+    *ended = end(slot, Slot::Free);
+    Ok(PeerDetached { dropped, live })
+}
+
+/// What the open delivery there with the id is to its receiver, which may be kept under this key.
+fn standing<A: Allocator + Copy>(slot: &Slot<KeptLink<A>>, key: usize, id: u32) -> Standing
+    requires { IsOnceAt id slot.now }
+    ensures { result ≡ slot_standing id slot.now }
+{
+    match slot {
+        Slot::Live(kept) => kept.link().standing_at(key, id),
+        _ => Standing::Absent,
+    }
+}
+
+/// What is shown of the link there, if one is live.
+fn view<A: Allocator + Copy>(slot: &Slot<KeptLink<A>>) -> Option<LinkView<'_>>
+    ensures { IsViewAt slot.now result }
+{
+    match slot {
+        Slot::Live(kept) => Some(kept.view()),
+        _ => None,
+    }
+}
+
+/// The bytes that count as kept.
+fn held_at<A: Allocator + Copy>(slot: &Slot<KeptLink<A>>) -> u64
+    ensures value { result ≡ slot_bytes slot.now }
+    ensures most { result < 2 ^ 42 }
+{
+    match slot {
+        Slot::Free => 0,
+        Slot::Live(kept) => kept.held(),
+        Slot::Waits => 128,
+    }
 }

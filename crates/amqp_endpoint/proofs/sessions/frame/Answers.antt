@@ -1,7 +1,8 @@
 use Rattle.std.proofs.Common.{◌≤◌, subst, sym}
+use Rattle.amqp_endpoint.specs.Acting.{replied}
 use Rattle.amqp_endpoint.specs.Fields.{frame_in}
 use Rattle.amqp_endpoint.specs.Connections.{ConnectionState, slot_at}
-use Rattle.amqp_endpoint.proofs.SessionFrames.{live_there, frame_there, framed_as, unframed_as, answer_fits, taken, unmet, broken}
+use Rattle.amqp_endpoint.proofs.SessionFrames.{live_there, frame_there, framed_as, unframed_as, low_is, answer_is, answer_fits, taken, refused}
 use Rattle.amqp_endpoint.proofs.sessions.frame.Goals as goal
 
 pub answer-requires-clause-channel : goal.answer-requires-clause-channel
@@ -24,20 +25,13 @@ pub returns-in-Ok : goal.returns-in-Ok
 returns-in-Ok g c = λ t f live is.
     let old = c.args.connection.now in
     let framed = framed_as old c.frame.new.self c.args.channel t f c.frame.result c.in-Ok.done c.in-Ok.is (c.frame.ensures t f live is) in
-    taken old c.frame.new.self c.args.channel c.args.performative.now c.args.payload.now t f live is c.if-is_too_high.ensures c.in-Ok.done framed
-    c.args.out.now c.answer.new.out c.told.result c.answer.ensures c.told.ensures
+    taken old c.frame.new.self c.args.channel t f (low_is old c.frame.new.self c.args.channel c.args.performative.now c.args.payload.now t f live is c.if-is_too_high.ensures)
+    framed.accepted framed.after c.args.out.now c.answer.new.out (replied c.frame.new.self.config c.args.performative.now c.in-Ok.done.answer) c.told.result c.in-Ok.done.report
+    c.answer.ensures (answer_is old c.frame.new.self c.args.channel c.args.performative.now c.args.payload.now t f live is c.in-Ok.done framed) c.told.ensures framed.report
 
-pub returns-in-None : goal.returns-in-None
-returns-in-None g c = λ t f live is.
+pub returns-in-Err : goal.returns-in-Err
+returns-in-Err g c = λ t f live is.
     let old = c.args.connection.now in
     let unframed = unframed_as old c.frame.new.self c.args.channel t f c.frame.result c.in-Err.fault c.in-Err.is (c.frame.ensures t f live is) in
-    unmet old c.frame.new.self c.args.channel c.args.performative.now c.args.payload.now t f live is c.if-is_too_high.ensures c.in-Err.fault (sym c.in-None.ensures)
-    unframed c.args.out.now
-
-pub returns-in-Some : goal.returns-in-Some
-returns-in-Some g c = λ t f live is.
-    let old = c.args.connection.now in
-    let unframed = unframed_as old c.frame.new.self c.args.channel t f c.frame.result c.in-Err.fault c.in-Err.is (c.frame.ensures t f live is) in
-    broken old c.frame.new.self c.args.channel c.args.performative.now c.args.payload.now t f live is c.if-is_too_high.ensures c.in-Err.fault c.in-Some.condition
-    (sym c.in-Some.ensures) unframed c.fail-in-Some.new.connection c.args.out.now c.fail-in-Some.new.out c.fail-in-Some.result
-    c.fail-in-Some.ensures.connection c.fail-in-Some.ensures.unsent c.fail-in-Some.ensures.told
+    refused old c.frame.new.self c.args.channel t f (low_is old c.frame.new.self c.args.channel c.args.performative.now c.args.payload.now t f live is c.if-is_too_high.ensures)
+    c.in-Err.fault unframed c.refuse.new.connection c.args.out.now c.refuse.new.out c.refuse.result c.refuse.ensures

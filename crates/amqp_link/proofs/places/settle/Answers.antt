@@ -1,18 +1,31 @@
-use Rattle.std.proofs.Common.{sym, subst, ◌∙◌}
-use Rattle.amqp_link.specs.declared.open_delivery.Hint.{Hint}
-use Rattle.amqp_link.specs.Keeping.{at_key, keys_of, IsHint}
-use Rattle.std.specs.Prelude.{map}
-use Rattle.amqp_link.proofs.Hints.{untouched, only_one}
+use Rattle.std.proofs.Common.{arith, refl, ◌+◌}
+use Rattle.std.proofs.lemmas.List.{length-take-le}
+use Rattle.amqp_link.proofs.Settles.{none_settled, next_keys, further, rest_stays, few, little}
 use Rattle.amqp_link.proofs.places.settle.Goals as goal
 
-pub returns-in-Nowhere : goal.returns-in-Nowhere
-returns-in-Nowhere g c =
-    untouched c.args.settling c.args.slab.now c.args.places.now
-    (subst (λ (hint : Hint). IsHint hint c.args.settling.ids.first c.args.settling.ids.last (map (at_key c.args.slab.now) (keys_of c.args.places.now))) c.in-Nowhere.is c.requires.hint)
+pub settle_at-one-requires : goal.settle_at-one-requires
+settle_at-one-requires g c =
+    next_keys c.args.settling c.args.slab.now c.loop-place.slab c.args.places.now c.loop-place.places c.loop-place.place-index _ _ c.loop-place-test.true c.loop-place.auto.places
+    c.loop-place.invariant.done c.loop-place.invariant.rest c.requires.keys
 
-pub returns-then-is_answering : goal.returns-then-is_answering
-returns-then-is_answering g c =
-    only_one c.args.settling c.args.slab.now c.settle_at.new.slab c.args.places.now c.in-At.place c.settle_at.result.count c.settle_at.result.freed c.settle_at.new.place
-    (sym c.is_answering.ensures ∙ c.if-is_answering.true)
-    (subst (λ (hint : Hint). IsHint hint c.args.settling.ids.first c.args.settling.ids.last (map (at_key c.args.slab.now) (keys_of c.args.places.now))) c.in-At.is c.requires.hint)
-    c.requires.keys c.settle_at.ensures
+pub overflow_add-all : goal.overflow_add-all
+overflow_add-all g c =
+    let done = further c.args.settling c.args.slab.now c.loop-place.slab c.settle_at-one.new.slab c.args.places.now c.loop-place.places c.loop-place.place-index c.settle_at-one.new.place _ _ _ _
+    c.loop-place-test.true c.loop-place.auto.places c.loop-place.invariant.done c.loop-place.invariant.rest c.requires.keys c.settle_at-one.ensures in
+    omega (arith, few _ _ _ _ _ _ _ done, length-take-le (c.loop-place.place-index + 1) c.args.places.now (omega arith))
+
+pub overflow_add-all-in-loop-place : goal.overflow_add-all-in-loop-place
+overflow_add-all-in-loop-place g c =
+    let done = further c.args.settling c.args.slab.now c.loop-place.slab c.settle_at-one.new.slab c.args.places.now c.loop-place.places c.loop-place.place-index c.settle_at-one.new.place _ _ _ _
+    c.loop-place-test.true c.loop-place.auto.places c.loop-place.invariant.done c.loop-place.invariant.rest c.requires.keys c.settle_at-one.ensures in
+    omega (arith, little _ _ _ c.args.places.now _ _ _ _ done, c.requires.fits)
+
+pub loop-place-init : goal.loop-place-init
+loop-place-init g c = record { done = none_settled c.args.settling c.args.slab.now; rest = refl }
+
+pub loop-place-preserved : goal.loop-place-preserved
+loop-place-preserved g c = record {
+  done = further c.args.settling c.args.slab.now c.loop-place.slab c.settle_at-one.new.slab c.args.places.now c.loop-place.places c.loop-place.place-index c.settle_at-one.new.place _ _ _ _
+      c.loop-place-test.true c.loop-place.auto.places c.loop-place.invariant.done c.loop-place.invariant.rest c.requires.keys c.settle_at-one.ensures;
+  rest = rest_stays c.args.places.now c.loop-place.places c.loop-place.place-index c.settle_at-one.new.place c.loop-place-test.true c.loop-place.auto.places c.loop-place.invariant.rest;
+}

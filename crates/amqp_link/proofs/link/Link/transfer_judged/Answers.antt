@@ -24,7 +24,7 @@ invariant_of-self-then-begins g c =
     (sent_of c.args.transfer.now c.args.payload.now) ≡ None =
     ap (λ (s : LinkState). fault_of s (sent_of c.args.transfer.now c.args.payload.now)) c.self.view_is ∙ c.requires in
     let head : is_none c.self.inside.deliveries.unfinished ≡ true = ap (λ (s : LinkState). is_none s.unfinished) c.self.view_is ∙ sym c.next_is_head-begins.ensures ∙ c.if-begins.true in
-    subst (λ (o : OpenSet). IsLink c.self.inside.terms (c.self.inside.credit - 1) o) (sym c.in_ok-apply.ensures.ok)
+    subst (λ (o : OpenSet). IsLink c.self.inside.terms (c.self.inside.credit - 1) o) (sym c.in_ok-step.ensures.ok)
     (stays c.self.inside.terms c.self.inside.credit c.self.inside.delivery_count (c.self.inside.credit - 1) c.self.inside.draining c.self.inside.deliveries
     (sent_of c.args.transfer.now c.args.payload.now) c.self.invariant may
     (ap (λ (n : ℕ). c.self.inside.credit - n) (sym (cost_of_head c.self.inside.deliveries.unfinished head))))
@@ -35,7 +35,7 @@ invariant_of-self-else-begins g c =
     (sent_of c.args.transfer.now c.args.payload.now) ≡ None =
     ap (λ (s : LinkState). fault_of s (sent_of c.args.transfer.now c.args.payload.now)) c.self.view_is ∙ c.requires in
     let rest : is_none c.self.inside.deliveries.unfinished ≡ false = ap (λ (s : LinkState). is_none s.unfinished) c.self.view_is ∙ sym c.next_is_head-begins.ensures ∙ c.if-begins.false in
-    subst (λ (o : OpenSet). IsLink c.self.inside.terms c.self.inside.credit o) (sym c.in_ok-apply.ensures.ok)
+    subst (λ (o : OpenSet). IsLink c.self.inside.terms c.self.inside.credit o) (sym c.in_ok-step.ensures.ok)
     (stays c.self.inside.terms c.self.inside.credit c.self.inside.delivery_count c.self.inside.credit c.self.inside.draining c.self.inside.deliveries
     (sent_of c.args.transfer.now c.args.payload.now) c.self.invariant may
     (omega (arith, cost_of_rest c.self.inside.deliveries.unfinished rest)))

@@ -1,20 +1,14 @@
-use Rattle.std.proofs.Common.{refl, sym, ap, subst, ◌∙◌}
+use Rattle.std.proofs.Common.{refl, ap, ◌∙◌}
 use Rattle.amqp_link.specs.Links.{OpenSet, sender_settled_by}
 use Rattle.std.specs.Prelude.{map}
 use Rattle.amqp_link.proofs.PlaceKeys.{to_the_end, back_written}
 use Rattle.amqp_link.proofs.KeptSettles.{ready_keys, ready_settled}
-use Rattle.amqp_link.specs.Keeping.{IsHint}
 use Rattle.amqp_link.proofs.open_deliveries.OpenDeliveries.settle_ready.Goals as goal
 
 pub settle-requires-clause-keys : goal.settle-requires-clause-keys
 settle-requires-clause-keys g c =
     ready_keys c.self.inside.slab c.self.inside.order.items _ _ _ _ _ c.self.invariant
     (c.slice_mut-ready.ensures.value ∙ to_the_end c.self.inside.order.len c.self.inside.handed_up c.self.inside.order.items c.self.inside.order.ok.0)
-
-pub settle-requires-clause-hint : goal.settle-requires-clause-hint
-settle-requires-clause-hint g c =
-    rw (c.slice_mut-ready.ensures.value ∙ to_the_end c.self.inside.order.len c.self.inside.handed_up c.self.inside.order.items c.self.inside.order.ok.0)
-    (subst (λ (o : OpenSet). IsHint c.args.hint c.args.ids.first c.args.ids.last o.ready) (sym c.self.view_is) c.requires)
 
 pub invariant_of-self : goal.invariant_of-self
 invariant_of-self g c =

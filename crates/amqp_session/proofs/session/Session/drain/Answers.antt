@@ -1,4 +1,5 @@
-use Rattle.std.proofs.Common.{◌≡◌, subst, ap, sym, ◌∙◌}
+use Rattle.std.proofs.Common.{[], ◌∷◌, ◌≡◌, subst, ap, sym, ◌∙◌}
+use Rattle.amqp_perform.specs.Said.{Said}
 use Rattle.amqp_session.specs.Calls as call
 use Rattle.amqp_session.specs.Calls.{call_event}
 use Rattle.amqp_session.specs.Faults.{link_flow}
@@ -39,3 +40,4 @@ returns-clause-answer g c =
     ap (λ (t : SessionState). link_flow t c.args.handle) (sym (subst (λ (t : SessionState). with_link c.self.inside.state c.args.handle c.drain.new.self ≡ session_after t (call_event t (call.Drain c.args.handle)))
     c.self.view_is done.1))
     ∙ flow_after c.self.inside.state c.args.handle c.in-Some.link.now c.drain.new.self c.stated-stated.result _ c.in-Some.ensures.value c.stated-stated.ensures c.flow_stating.ensures
+    ∙ ap (λ (x : Said). x ∷ []) (sym c.flow.ensures)

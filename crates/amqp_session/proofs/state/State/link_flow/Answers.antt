@@ -1,4 +1,5 @@
-use Rattle.std.proofs.Common.{arith, refl, sym}
+use Rattle.std.proofs.Common.{arith, [], ◌∷◌, refl, sym, ap, ◌∙◌}
+use Rattle.amqp_perform.specs.Said.{Said}
 use Rattle.amqp_session.proofs.States.{slot_is, slot_past, flow_is, no_flow}
 use Rattle.amqp_session.proofs.state.State.link_flow.Goals as goal
 
@@ -8,7 +9,8 @@ returns-then-place-len g c =
 
 pub returns-in-Some : goal.returns-in-Some
 returns-in-Some g c =
-    sym (flow_is c.args.self.now c.args.handle c.index.result.now c.in-Some.stated _ (slot_is c.self.inside.terms c.self.inside.window c.self.inside.next_incoming_id c.self.inside.table.items
+    ap (λ (x : Said). x ∷ []) c.flow.ensures
+    ∙ sym (flow_is c.args.self.now c.args.handle c.index.result.now c.in-Some.stated _ (slot_is c.self.inside.terms c.self.inside.window c.self.inside.next_incoming_id c.self.inside.table.items
     c.args.self.now c.self.view_is c.self.invariant c.args.handle c.index.result.now c.index.ensures (omega arith)) c.in-Some.ensures.some c.flow_stating.ensures)
 
 pub returns-in-None : goal.returns-in-None

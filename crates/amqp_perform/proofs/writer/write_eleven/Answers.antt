@@ -1,5 +1,0 @@
-use Rattle.amqp_perform.proofs.Framed.{same_texts}
-use Rattle.amqp_perform.proofs.writer.write_eleven.Goals as goal
-
-pub returns : goal.returns
-returns c = same_texts c.args.head.channel _ _ _ c.args.payload.now _ _ _ c.flow_texts.ensures c.write_list.ensures
