@@ -1,10 +1,11 @@
 //! The receiving endpoint of one connection.
-ghost use Rattle.std.specs.Prelude.{◌≡◌, ◌↔◌, [], IsTrue, ℕ, List, slice_index, ◌+◌, ◌≤◌, ◌++◌, ◌<◌, min, length, take, drop, true, false, Some, None, option_map, IfOk, OnOk, IfErr};
+ghost use Rattle.std.specs.Prelude.{◌≡◌, ◌↔◌, [], IsTrue, ℕ, List, slice_index, ◌+◌, ◌≤◌, ◌++◌, ◌<◌, min, length, take, drop, true, false, Some, None, option_map, IfOk, OnOk, IfErr, IfSome};
 ghost use Rattle.amqp_frame.specs.Splits.{IsOver, IsLent, IsUnchanged, TakesNothing};
 ghost use Rattle.amqp_endpoint.specs.Asking.{CallAnswered, IsCounted, asked_of};
 ghost use Rattle.amqp_frame.specs.declared.units.Stage.{Stage};
 ghost use Rattle.amqp_session.specs.Calls.{Widen, Grant, Drain, Take, Settle, SettleRange, Detach};
 ghost use Rattle.amqp_session.specs.Places.{live_in};
+ghost use Rattle.amqp_session.specs.Sessions.{IsApart};
 ghost use Rattle.amqp_endpoint.specs.Calls.{output_size, reply_room, open_call_fault};
 ghost use Rattle.amqp_endpoint.specs.Connections.{slot_at, is_dead};
 ghost use Rattle.amqp_endpoint.specs.Endpoints.{HasActed, IsLinkAt, accepted_by, dropped_by, named_by, handed_by};
@@ -176,6 +177,15 @@ impl<A: Allocator + Copy> Endpoint<A> {
         ensures { 8 ≤ self.now.input.limit }
     {
         let _ = &self.input; // what is known of every endpoint
+    }
+
+    /// A law: no two open deliveries of the session on a channel have one id [2.6.12].
+    pub fn ids_are_apart(&self, channel: u16)
+        ensures { IfSome (live_in (slot_at self.now.connection channel)) IsApart }
+    {
+        if let Some(session) = self.connection.session(channel) {
+            session.ids_are_apart();
+        }
     }
 
     /// A law: what stands in the room that is lent are bytes.

@@ -7,9 +7,10 @@ ghost use Rattle.amqp_types.specs.Codes.{find_code};
 ghost use Rattle.amqp_types.specs.Spelling.{Spells};
 ghost use Rattle.amqp_types.specs.Trees.{Tree, depth_of};
 ghost use Rattle.amqp_perform.specs.BodyReading.{Takes};
-ghost use Rattle.amqp_perform.specs.Sizes.{data_of, data_at};
+ghost use Rattle.amqp_perform.specs.Sizes.{data_of, data_at, sized_data};
 
 use crate::cursor::Cursor;
+use amqp_types::{Constructor, SizeWidth, find_code, form_len};
 
 /// What stands behind a code.
 #[derive(Clone, Copy)]
@@ -26,18 +27,25 @@ enum Data {
 fn data_of(code: u8) -> Option<Data>
     ensures { result ≡ option_map data_of (find_code code) }
 {
-    let data = match code {
-        0x40 | 0x41 | 0x42 | 0x43 | 0x44 | 0x45 => Data::Fixed(0),
-        0x50 | 0x51 | 0x52 | 0x53 | 0x54 | 0x55 | 0x56 => Data::Fixed(1),
-        0x60 | 0x61 => Data::Fixed(2),
-        0x70 | 0x71 | 0x72 | 0x73 | 0x74 => Data::Fixed(4),
-        0x80 | 0x81 | 0x82 | 0x83 | 0x84 => Data::Fixed(8),
-        0x94 | 0x98 => Data::Fixed(16),
-        0xa0 | 0xa1 | 0xa3 | 0xc0 | 0xc1 | 0xe0 => Data::Short,
-        0xb0 | 0xb1 | 0xb3 | 0xd0 | 0xd1 | 0xf0 => Data::Long,
-        _ => return None,
+    let data = match find_code(code)? {
+        Constructor::Fixed(kind, form) => Data::Fixed(form_len(kind, form)),
+        Constructor::EmptyList => Data::Fixed(0),
+        Constructor::Variable(_, size)
+        | Constructor::ListIn(size)
+        | Constructor::MapIn(size)
+        | Constructor::ArrayIn(size) => sized(size),
     };
     Some(data)
+}
+
+/// As many bytes as a size of this width says.
+fn sized(size: SizeWidth) -> Data
+    ensures { result ≡ sized_data size }
+{
+    match size {
+        SizeWidth::One => Data::Short,
+        SizeWidth::Four => Data::Long,
+    }
 }
 
 /// Takes the data.

@@ -1,9 +1,10 @@
 //! What `amqp_endpoint` promises.
 
-ghost use Rattle.std.specs.Prelude.{◌≡◌, ◌↔◌, [], IsTrue, ℕ, List, slice_index, ◌+◌, ◌≤◌, ◌++◌, ◌<◌, min, length, take, drop, true, false, option_map, IfOk, IfErr, map};
+ghost use Rattle.std.specs.Prelude.{◌≡◌, ◌↔◌, [], IsTrue, ℕ, List, slice_index, ◌+◌, ◌≤◌, ◌++◌, ◌<◌, min, length, take, drop, true, false, option_map, IfOk, IfErr, IfSome, map};
 ghost use Rattle.amqp_frame.specs.Splits.{IsOver, TakesNothing};
 ghost use Rattle.amqp_session.specs.Calls.{Widen, Grant, Drain, Take, Settle, SettleRange, Detach};
 ghost use Rattle.amqp_session.specs.Places.{live_in};
+ghost use Rattle.amqp_session.specs.Sessions.{IsApart};
 ghost use Rattle.amqp_endpoint.specs.Connections.{slot_at, is_dead};
 ghost use Rattle.amqp_endpoint.specs.Endpoints.{IsLinkAt, accepted_by, dropped_by, named_by, handed_by, call_of, answer_of, IsReplay};
 ghost use Rattle.amqp_endpoint.specs.Held.{held};
@@ -60,6 +61,13 @@ pub fn holds_a_header<A: Allocator + Copy>(endpoint: &Endpoint<A>)
     ensures { 8 ≤ endpoint.now.input.limit }
 {
     endpoint.holds_a_header();
+}
+
+/// A law: no two open deliveries of the session on a channel have one id [2.6.12].
+pub fn ids_are_apart<A: Allocator + Copy>(endpoint: &Endpoint<A>, channel: u16)
+    ensures { IfSome (live_in (slot_at endpoint.now.connection channel)) IsApart }
+{
+    endpoint.ids_are_apart(channel);
 }
 
 /// A law: what stands in the room that is lent are bytes.

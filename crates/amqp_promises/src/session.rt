@@ -11,7 +11,7 @@ ghost use Rattle.amqp_session.specs.Faults.{session_fault, event_of, report_of, 
 ghost use Rattle.amqp_perform.specs.Said.{said, said_frame};
 ghost use Rattle.amqp_session.specs.Frames.{Attaches, Flows, Transfers, Disposes, Detaches, attaching, flowing, disposing, frame_of, attach_said, refusal_said, failure_said, stated_said};
 ghost use Rattle.amqp_session.specs.Lacking.{IsFirstLacking};
-ghost use Rattle.amqp_session.specs.Sessions.{session_begins, session_after, session_bytes, session_ready, slot_at, slot_ready, Settled, SessionMay};
+ghost use Rattle.amqp_session.specs.Sessions.{IsApart, session_begins, session_after, session_bytes, session_ready, slot_at, slot_ready, Settled, SessionMay};
 ghost use Rattle.amqp_session.specs.Slots.{HandsUp, IsViewAt};
 ghost use Rattle.amqp_session.specs.Laws.{named_total};
 ghost use Rattle.amqp_session.specs.Answers.{answer_said, IsOfAttach, IsPlain, IsWithin, HasDone, IsFrameRefusal};
@@ -36,6 +36,13 @@ pub fn terms<A: Allocator + Copy>(session: &Session<A>) -> &SessionTerms
     ensures { result.now ≡ session.now.terms }
 {
     session.terms()
+}
+
+/// A law: no two open deliveries have one id [2.6.12].
+pub fn ids_are_apart<A: Allocator + Copy>(session: &Session<A>)
+    ensures { IsApart session.now }
+{
+    session.ids_are_apart();
 }
 
 /// The places of the incoming window that are left [2.5.6].

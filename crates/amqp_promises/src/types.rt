@@ -1,7 +1,9 @@
 //! What `amqp_types` promises.
 
 ghost use Rattle.std.specs.Prelude.{◌≤◌, length, drop, IfOk, IfErr, ◌≡◌, ◌⊎◌, ℕ, ◌+◌, List, ◌++◌, take, Some, Ok, OnOk, OnErr, ◌<◌, IfSome, IfNone, ◌↔◌, None, IsSome};
+ghost use Rattle.amqp_types.specs.Codes.{find_code};
 ghost use Rattle.amqp_types.specs.Decoding.{decoded};
+ghost use Rattle.amqp_types.specs.Kinds.{width};
 ghost use Rattle.amqp_types.specs.Places.{place_of, IsPlain};
 ghost use Rattle.amqp_types.specs.Reading.{Gives, Is, after, value_of};
 ghost use Rattle.amqp_types.specs.Skipping.{rest_of};
@@ -9,13 +11,13 @@ ghost use Rattle.amqp_types.specs.Values.{view};
 ghost use Rattle.amqp_types.specs.InHand.{outermost};
 ghost use Rattle.amqp_types.specs.Misreading.{AValue, Misread};
 ghost use Rattle.amqp_types.specs.Trees.{Tree, IsLawful, depth_of, nodes_of};
-ghost use Rattle.amqp_types.specs.Spelling.{Spells};
+ghost use Rattle.amqp_types.specs.Spelling.{Spells, form_len};
 ghost use Rattle.amqp_types.specs.Canonical.{canonical, Fits};
 ghost use Rattle.amqp_types.specs.Parts.{IsRefusedFor};
 ghost use Rattle.amqp_types.specs.Peeks.{BeginsWithValue, IsOutermost, IsScalarOf, IsPut};
 ghost use Rattle.std.specs.Str.{IsAscii};
 
-use amqp_types::{Limits, Peek, ReadFault, Symbol, Value, WriteFault};
+use amqp_types::{Constructor, Form, Kind, Limits, Peek, ReadFault, Symbol, Value, WriteFault};
 use std::alloc::Global;
 
 /// The length of the value that the bytes begin with, in bytes, where it is lawful and within the limits [1.2].
@@ -115,4 +117,18 @@ pub fn into_bytes(symbol: Symbol) -> Vec<u8>
     ensures { result.items ≡ symbol }
 {
     symbol.into_bytes()
+}
+
+/// The constructor of a code, where it has one [1.2, 1.6].
+pub fn find_code(code: u8) -> Option<Constructor>
+    ensures { result ≡ find_code code }
+{
+    amqp_types::find_code(code)
+}
+
+/// How many bytes stand behind a constructor of fixed width [1.2].
+pub fn form_len(kind: Kind, form: Form) -> usize
+    ensures { result ≡ form_len form (width kind) }
+{
+    amqp_types::form_len(kind, form)
 }

@@ -78,6 +78,13 @@ impl<A: Allocator + Copy> Session<A> {
         self.state.terms()
     }
 
+    /// A law: no two open deliveries have one id [2.6.12].
+    pub fn ids_are_apart(&self)
+        ensures { IsApart self.now }
+    {
+        let _ = &self.index; // what is known of every session
+    }
+
     /// The places of the incoming window that are left [2.5.6].
     pub fn window(&self) -> u32
         ensures { result ≡ self.now.window }

@@ -38,7 +38,9 @@ pub enum Constructor {
     ArrayIn(SizeWidth),
 }
 
-/// The constructor of a code, where it has one.
+/// The constructor of a code, where it has one. All walks read this table.
+// For `dump` and `texts`: each walk then goes by the code to what it asks (docs/PERF.md).
+#[inline(always)]
 pub fn find_code(code: u8) -> Option<Constructor>
     ensures { result ≡ find_code code }
 {

@@ -46,6 +46,7 @@ mod window;
 mod write_fault;
 
 pub use checker::check;
+pub use code::{Constructor, Form, SizeWidth, find_code};
 pub use decoder::decode;
 pub use encoder::encode;
 pub use fault::ReadFault;
@@ -54,7 +55,7 @@ pub use limits::Limits;
 pub use peeked::Peek;
 pub use peeker::peek;
 pub use putter::put;
-pub use skipper::skip;
+pub use skipper::{form_len, skip};
 pub use symbol::Symbol;
 pub use value::Value;
 pub use write_fault::WriteFault;

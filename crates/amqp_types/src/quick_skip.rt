@@ -5,7 +5,9 @@
 ghost use Rattle.std.specs.Prelude.{◌≡◌, ℕ, ◌+◌, ◌≤◌, length, drop, if◌then◌else◌, None, IfSome, IsTrue, Option, Some, Ok, false};
 ghost use Rattle.byteorder.specs.Endian.{big_number};
 ghost use Rattle.amqp_types.specs.Codes.{FitsItsKind, find_code};
-ghost use Rattle.amqp_types.specs.Spelling.{size_len};
+ghost use Rattle.amqp_types.specs.Kinds.{width};
+ghost use Rattle.amqp_types.specs.Spelling.{form_len, size_len};
+ghost use Rattle.amqp_types.specs.declared.kind.Kind.{Kind};
 ghost use Rattle.amqp_types.specs.Reading.{Level, after, octets_fault, number_at, sized_at, allowed, trees_at, list_at, map_at, array_at, item_by, described_at, value_by, level_by, inside};
 ghost use Rattle.amqp_types.specs.Skipping.{rest_of, plain_width, IsBody, Leaves};
 ghost use Rattle.amqp_types.specs.Trees.{Octets};
@@ -22,16 +24,19 @@ use byteorder::{BigEndian, ByteOrder};
 fn plain_width(code: u8) -> Option<usize>
     ensures { IfSome result (λ n. plain_width (find_code code) ≡ Some n) }
 {
-    let width = match code {
-        0x40 | 0x41 | 0x42 | 0x43 | 0x44 => 0,
-        0x50 | 0x51 | 0x52 | 0x53 | 0x54 | 0x55 => 1,
-        0x60 | 0x61 => 2,
-        0x70 | 0x71 | 0x72 | 0x74 => 4,
-        0x80 | 0x81 | 0x82 | 0x83 | 0x84 => 8,
-        0x94 | 0x98 => 16,
-        _ => return None,
-    };
-    Some(width)
+    match allowed(0, code, false) {
+        Ok(Constructor::Fixed(kind, form)) if !is_partial(kind) || is_still(form) => {
+            Some(form_len(kind, form))
+        }
+        _ => None,
+    }
+}
+
+/// Whether no data stand behind a code of this form, of a kind that has some.
+fn is_still(form: Form) -> bool
+    ensures { (kind : Kind) → IsTrue result → form_len form (width kind) ≡ 0 }
+{
+    matches!(form, Form::Zero | Form::One)
 }
 
 /// The length of the value in front, where its code has a plain width.
@@ -124,10 +129,8 @@ pub fn octets_in(kind: Kind, size: SizeWidth, bytes: &[u8]) -> Option<(&[u8], &[
 fn short_kind(code: u8) -> Option<Kind>
     ensures { IfSome result (λ kind. allowed 0 false (find_code code) ≡ Ok (Constructor.Variable kind SizeWidth.One)) }
 {
-    match code {
-        0xa0 => Some(Kind::Binary),
-        0xa1 => Some(Kind::String),
-        0xa3 => Some(Kind::Symbol),
+    match allowed(0, code, false) {
+        Ok(Constructor::Variable(kind, SizeWidth::One)) => Some(kind),
         _ => None,
     }
 }
