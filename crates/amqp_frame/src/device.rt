@@ -1,5 +1,5 @@
 //! A reader or a writer that keeps its first failure.
-ghost use Rattle.std.specs.Prelude.{◌≡◌, ℕ, List, [], ◌+◌, ◌-◌, ◌^◌, ◌<◌, ◌≤◌, ◌↔◌, true, false, length, take, IfOk, IsErr, IsTrue, MatchResult, Err, Ok, OnErr, OnOk};
+ghost use Rattle.std.specs.Prelude.{◌≡◌, ℕ, List, [], ◌+◌, ◌-◌, ◌^◌, ◌<◌, ◌≤◌, ◌↔◌, true, false, length, take, IfOk, IfSome, IsErr, IsTrue, MatchResult, Err, Ok, None, Some, OnErr, OnOk};
 ghost use Rattle.std.specs.Io.KnownBytes.{IsAtEnd, Appends, Consumes, Keeps, WriteAppends};
 ghost use Rattle.std.specs.Io.Buffered.{reader_buffer, writer_buffer, writer_capacity};
 ghost use Rattle.amqp_frame.specs.Devices.{direct_inner, device_inner, device_hand, has_failed, has_ended, is_flushed, reads_left, reads_ahead, AppendsFront};
@@ -20,6 +20,17 @@ pub trait AtHand: Read {
     fn took(&mut self, n: usize)
         requires { n ≤ length (hand self.old) }
         ensures { Consumes (Self.remaining self.old) (Self.remaining self.new) (take n (hand self.old)) };
+
+    /// Asks for more, where none is at hand, once, and keeps it at hand. It answers how many there are then: none only where
+    /// none is left. A reader that keeps none to itself answers nothing, and asks nobody. That is always right.
+    fn fill(&mut self) -> io::Result<Option<usize>>
+        ensures hand { IfOk result (λ x. IfSome x (λ n. length (hand self.new) ≡ n)) }
+        ensures bytes { Keeps (Self.remaining self.old) (Self.remaining self.new) }
+        ensures end { result ≡ Ok (Some 0) → IsAtEnd (Self.remaining self.old) }
+        ensures still { result ≡ Ok None → self.new ≡ self.old }
+    {
+        Ok(None)
+    }
 }
 
 impl<R: Read, A: Allocator> AtHand for BufReader<R, A> {
@@ -31,6 +42,15 @@ impl<R: Read, A: Allocator> AtHand for BufReader<R, A> {
 
     fn took(&mut self, n: usize) {
         self.consume(n);
+    }
+
+    // A buffer without room is never filled, so that its being empty says nothing.
+    fn fill(&mut self) -> io::Result<Option<usize>> {
+        if self.capacity() == 0 {
+            return Ok(None);
+        }
+        self.fill_buf()?;
+        Ok(Some(self.buffer().len()))
     }
 }
 
@@ -266,6 +286,40 @@ impl<R: AtHand> Device<R> {
     {
         self.reads_left -= 1;
         self.inner.took(n);
+    }
+
+    /// Lets its reader ask for more, where none is at hand, and answers how many bytes are then. It counts, marks and ends as a
+    /// read does: the reader's first error marks it, and it ends where none is left. It answers nothing, and nothing has
+    /// changed, where the reader keeps none to itself, and where it would not be asked, or not be asked again.
+    pub fn fill(&mut self) -> io::Result<Option<usize>>
+        ensures hand { IfOk result (λ x. IfSome x (λ n. length (device_hand R.hand self.new) ≡ n)) }
+        ensures marked { IsErr result ↔ IsTrue (has_failed self.new) }
+        ensures zero { IfOk result (λ x. IfSome x (λ n. (n ≡ 0) ↔ IsTrue (has_ended self.new))) }
+        ensures bytes { Keeps (R.remaining (device_inner self.old)) (R.remaining (device_inner self.new)) }
+        ensures end { result ≡ Ok (Some 0) → IsAtEnd (R.remaining (device_inner self.old)) }
+        ensures nothing { result ≡ Ok None → self.new ≡ self.old }
+
+        // Where the reader is not asked nothing changes.
+        ensures still { IsTrue (has_failed self.old) → self.new ≡ self.old }
+        ensures over { IsTrue (has_ended self.old) → self.new ≡ self.old }
+
+        // Each that came counts. A failure ends nothing.
+        ensures counts { IfOk result (λ x. IfSome x (λ _. reads_left self.new ≡ reads_left self.old - 1)) }
+        ensures fewer { IfOk result (λ x. IfSome x (λ _. reads_ahead self.new < reads_ahead self.old)) }
+        ensures kept { OnErr result (has_ended self.new ≡ has_ended self.old) }
+    {
+        self.unmarked()?;
+        if self.ended || self.reads_left <= 1 {
+            return Ok(None);
+        }
+        match self.inner.fill() {
+            Ok(None) => Ok(None),
+            Ok(Some(count)) => {
+                self.reads_left -= 1;
+                Ok(Some(self.told(Ok(count))?))
+            }
+            Err(error) => self.fail(error),
+        }
     }
 }
 
