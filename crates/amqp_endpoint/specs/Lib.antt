@@ -20,6 +20,7 @@ pub mod Windows
 pub mod Credits
 pub mod Traces
 pub mod Uses
+pub mod Words
 pub mod Lending
 pub mod ConnectionLending
 pub mod RoomLending

@@ -1,32 +1,45 @@
 //! Why a call is refused.
+use thiserror::Error;
 
 /// Why the endpoint refuses a call of its application. Nothing has changed then. The faults are looked for in this
 /// order: `Dead`, `NotOpen`, `NoSession`, `NoLink`, `NoDelivery`, `NotTaken`, `AlreadyTold`, `MixedModes`, `NothingReady`,
 /// `TooMuchCredit`, `WindowTooWide`, `Full`.
-#[derive(Clone, Copy, Debug, PartialEq, Eq)]
+#[derive(Clone, Copy, Debug, PartialEq, Eq, Drop, Error)]
 pub enum CallFault {
     /// No session is live on the channel: one that this side has ended is not.
+    #[error("no session is live on this channel")]
     NoSession,
     /// No link is live at the handle: one that this side has detached or refused is not.
+    #[error("no link is live at this handle")]
     NoLink,
     /// Credit and open deliveries would be more than the link allows.
+    #[error("credit and open deliveries would be more than the link allows")]
     TooMuchCredit,
     /// The window would pass 2147483647 places.
+    #[error("the window would pass 2147483647 places")]
     WindowTooWide,
     /// The output has less than 2560 free bytes.
+    #[error("the output has less than 2560 free bytes")]
     Full,
     /// No delivery of the link is ready.
+    #[error("no delivery of the link is ready")]
     NothingReady,
     /// No open delivery has the id, or the last id of a range is behind its first.
+    #[error("no open delivery has this id, or the last id of the range is behind its first")]
     NoDelivery,
     /// The delivery, or one of those that a range names, was not handed up.
+    #[error("a delivery that is named was not handed up")]
     NotTaken,
     /// The sender was told what became of the delivery, or of one of those, which it has to settle.
+    #[error("the sender was told what became of a delivery that is named, and has to settle it")]
     AlreadyTold,
     /// Modes first and second are among the deliveries that a range names [2.8.3].
+    #[error("deliveries of the modes first and second cannot be settled at once")]
     MixedModes,
     /// The connection is over, or this side has closed it.
+    #[error("the connection is over, or this side has closed it")]
     Dead,
     /// The connection is not open.
+    #[error("the connection is not open")]
     NotOpen,
 }

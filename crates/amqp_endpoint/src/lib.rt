@@ -32,6 +32,7 @@ mod replays;
 mod sessions;
 mod telling;
 mod units;
+mod words;
 
 pub use call::{Answer, Call};
 pub use config::Config;

@@ -7,6 +7,7 @@ ghost use Rattle.amqp_endpoint.specs.Limits.{Limit, begins_with, longest, longer
 use amqp_link::LinkBounds;
 use std::alloc::{AllocError, Allocator, Global};
 use std::marker::Model;
+use thiserror::Error;
 
 /// The most rows of a table.
 const MAX_LIMITS: usize = 16;
@@ -27,13 +28,16 @@ pub struct LinkLimit<A: Allocator + Copy = Global> {
 }
 
 /// Why a table of limits is refused. Its rows are counted from 0.
-#[derive(Clone, Copy, Debug, PartialEq, Eq)]
+#[derive(Clone, Copy, Debug, PartialEq, Eq, Drop, Error)]
 pub enum LimitFault {
     /// It has more than 16 rows.
+    #[error("the table of limits has more than 16 rows")]
     TooMany,
     /// The prefix of this row is empty or has more than 255 bytes, or a number of it is outside its range.
+    #[error("row {0} of the limits: the prefix has 1 to 255 bytes, and it allows 1 to 1024 deliveries of 1 to 1073741824 bytes")]
     BadRow(usize),
     /// This row has the prefix of an earlier one.
+    #[error("row {0} of the limits has the prefix of an earlier one")]
     SamePrefix(usize),
 }
 

@@ -1,10 +1,11 @@
 //! Conditions of errors. [2.8.14 to 2.8.18]
 
-ghost use Rattle.std.specs.Prelude.{◌≡◌, MatchOption};
+ghost use Rattle.std.specs.Prelude.{◌≡◌, MatchOption, Some};
 ghost use Rattle.amqp_perform.specs.Conditions.{by_name, condition_of};
 
 use crate::descriptor::Descriptor;
 use crate::fields::described_list;
+use std::fmt::{self, Display, Formatter};
 
 /// Why a connection, a session or a link was ended. [2.8.14]
 #[derive(Clone, Copy, Debug, PartialEq, Eq)]
@@ -119,21 +120,39 @@ impl Condition {
     pub fn name(self) -> &'static [u8]
         ensures { result.now ≡ name_of self }
     {
+        self.text().as_bytes()
+    }
+
+    /// The same as a text.
+    fn text(self) -> &'static str
+        ensures { result.now ≡ name_of self }
+    {
         match self {
-            Condition::FramingError => b"amqp:connection:framing-error",
-            Condition::DecodeError => b"amqp:decode-error",
-            Condition::InvalidField => b"amqp:invalid-field",
-            Condition::IllegalState => b"amqp:illegal-state",
-            Condition::NotImplemented => b"amqp:not-implemented",
-            Condition::ResourceLimitExceeded => b"amqp:resource-limit-exceeded",
-            Condition::FrameSizeTooSmall => b"amqp:frame-size-too-small",
-            Condition::WindowViolation => b"amqp:session:window-violation",
-            Condition::HandleInUse => b"amqp:session:handle-in-use",
-            Condition::UnattachedHandle => b"amqp:session:unattached-handle",
-            Condition::TransferLimitExceeded => b"amqp:link:transfer-limit-exceeded",
-            Condition::MessageSizeExceeded => b"amqp:link:message-size-exceeded",
-            Condition::Other => b"",
+            Condition::FramingError => "amqp:connection:framing-error",
+            Condition::DecodeError => "amqp:decode-error",
+            Condition::InvalidField => "amqp:invalid-field",
+            Condition::IllegalState => "amqp:illegal-state",
+            Condition::NotImplemented => "amqp:not-implemented",
+            Condition::ResourceLimitExceeded => "amqp:resource-limit-exceeded",
+            Condition::FrameSizeTooSmall => "amqp:frame-size-too-small",
+            Condition::WindowViolation => "amqp:session:window-violation",
+            Condition::HandleInUse => "amqp:session:handle-in-use",
+            Condition::UnattachedHandle => "amqp:session:unattached-handle",
+            Condition::TransferLimitExceeded => "amqp:link:transfer-limit-exceeded",
+            Condition::MessageSizeExceeded => "amqp:link:message-size-exceeded",
+            Condition::Other => "",
         }
+    }
+}
+
+/// The symbol of the condition; nothing for `Other`.
+impl Display for Condition {
+    ghost use Rattle.amqp_perform.specs.Conditions.{name_of};
+
+    ghost output = { λ c. Some (name_of c) };
+
+    fn fmt<W: fmt::Write>(&self, f: &mut Formatter<W>) -> fmt::Result {
+        f.pad(self.text())
     }
 }
 

@@ -1,6 +1,7 @@
 //! What a sender tells its caller.
 
 use amqp_perform::{Condition, Outcome};
+use thiserror::Error;
 
 /// What a unit of the receiver's bytes brought.
 #[derive(Clone, Copy, Debug, PartialEq, Eq)]
@@ -18,10 +19,12 @@ pub enum News {
 }
 
 /// Why a message is not taken over.
-#[derive(Clone, Copy, Debug, PartialEq, Eq)]
+#[derive(Clone, Copy, Debug, PartialEq, Eq, Drop, Error)]
 pub enum OfferFault {
     /// The last frame of another message is not yet in the pipe.
+    #[error("the last frame of another message is not yet in the pipe")]
     Busy,
     /// The sender ended, or it was closed, which has the condition `Other`.
+    #[error("the sender has ended: {0:?}")]
     Ended(Condition),
 }

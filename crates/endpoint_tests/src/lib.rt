@@ -30,3 +30,5 @@ mod serving;
 mod shown;
 #[cfg(test)]
 mod starving;
+#[cfg(test)]
+mod texts;
