@@ -1,18 +1,14 @@
 //! An endpoint: messages one after the other, from the bytes of a peer.
 
 mod delivery;
-mod stream;
 
 use crate::endpoint::delivery::Run;
-use crate::endpoint::stream::Block;
 use crate::measure::{Failure, Measured, Mode};
+use crate::stream::{Block, Shape};
 pub use delivery::Stopped;
 use std::alloc::Global;
 use std::rt::Clock;
 use std::time::Instant;
-
-/// The longest frame of the peer.
-const MAX_FRAME: u32 = 65536;
 
 /// How the bytes come to the endpoint.
 #[derive(Clone, Copy)]
@@ -27,12 +23,8 @@ pub enum By {
 #[derive(Clone, Copy)]
 pub struct Case {
     name: &'static str,
-    /// The bytes of a message.
-    message: u32,
+    shape: Shape,
     by: By,
-    /// The sessions, and the links of each, on which they come in turn.
-    sessions: u16,
-    links: u16,
     /// The first deliveries, which stay open, handed up and not settled.
     open: u32,
     rounds: u32,
@@ -46,7 +38,7 @@ impl Measured for Case {
     }
 
     fn about(&self) -> &'static str {
-        match (self.sessions, self.links, self.open) {
+        match (self.shape.sessions, self.shape.links, self.open) {
             (1, 1, 0) =>
                 "messages of so many bytes, fed in pieces of 4096, of so many `by`, or by fills",
             (1, 1, _) => "messages of 100 bytes, while so many others are open",
@@ -58,7 +50,7 @@ impl Measured for Case {
     /// It prints the messages that came, in blocks, and the bytes of one and of all. The time is that of a message.
     fn run(&self, rt: &(impl Print + Clock), alloc: Global, mode: Mode) -> Result<(), Failure> {
         let wanted = mode.rounds(self.rounds);
-        let mut block = Block::new(alloc, *self)?;
+        let mut block = Block::new(alloc, self.shape)?;
         let mut run = Run::new(alloc, *self)?;
         receive(&mut run, &mut block, self.by, self.open)?;
         let (before, moved) = (run.messages, run.moved);
@@ -67,7 +59,7 @@ impl Measured for Case {
         let messages = run.messages.wrapping_sub(before);
         let time = mode.time_of(rt, &start, u128::from(messages))?;
         let moved = run.moved.wrapping_sub(moved);
-        let message = self.message;
+        let message = self.shape.message;
         println!(rt; "messages={messages} bytes={message} moved={moved}{time}")?;
         Ok(())
     }
@@ -75,12 +67,15 @@ impl Measured for Case {
 
 /// One link, and nothing else open.
 const fn one_link(name: &'static str, message: u32, by: By, rounds: u32) -> Case {
-    Case {
-        name,
+    let shape = Shape {
         message,
-        by,
         sessions: 1,
         links: 1,
+    };
+    Case {
+        name,
+        shape,
+        by,
         open: 0,
         rounds,
     }
@@ -93,10 +88,14 @@ const fn open(case: Case, name: &'static str, open: u32) -> Case {
 
 /// The same case on so many links of so many sessions.
 const fn on(case: Case, name: &'static str, sessions: u16, links: u16) -> Case {
-    Case {
-        name,
+    let shape = Shape {
         sessions,
         links,
+        ..case.shape
+    };
+    Case {
+        name,
+        shape,
         ..case
     }
 }

@@ -1,4 +1,4 @@
-//! Measures the codec, a link, a session, dispositions and an endpoint, each in several cases.
+//! Measures the codec, a link, a session, dispositions, an endpoint and a server, each in several cases.
 //!
 //! `benches GROUP [CASE [ROUNDS]]` times the cases of a group, or one of them. With no words each case is run once and
 //! not timed, so that the same is printed each time.
@@ -11,7 +11,9 @@ mod frames;
 mod link;
 mod measure;
 mod order;
+mod serve;
 mod session;
+mod stream;
 
 use crate::measure::{Failure, Mode, list, run_named};
 use crate::order::{GROUPS, Group, Order, order_of};
@@ -68,6 +70,7 @@ fn run_group(
         Group::Session => run_named(rt, alloc, &session::cases(), name, mode),
         Group::Disposition => run_named(rt, alloc, &disposition::cases(), name, mode),
         Group::Endpoint => run_named(rt, alloc, &endpoint::cases(), name, mode),
+        Group::Serve => run_named(rt, alloc, &serve::cases(), name, mode),
     }
 }
 
@@ -78,5 +81,6 @@ fn help(rt: &impl Print) -> Result<(), Failure> {
     list(rt, &session::cases())?;
     list(rt, &disposition::cases())?;
     list(rt, &endpoint::cases())?;
+    list(rt, &serve::cases())?;
     Ok(())
 }

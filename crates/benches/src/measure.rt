@@ -1,6 +1,6 @@
 //! What measuring takes, whatever is measured.
 
-use crate::{codec, endpoint, link, session};
+use crate::{codec, endpoint, link, serve, session};
 use std::alloc::{AllocError, AllocFailed, Global};
 use std::fmt::{self, Display, Formatter};
 use std::io;
@@ -18,6 +18,7 @@ pub enum Failure {
     Link(link::Stopped),
     Session(session::Stopped),
     Endpoint(endpoint::Stopped),
+    Serve(serve::Stopped),
 }
 
 impl From<io::Error> for Failure {

@@ -8,15 +8,17 @@ pub enum Group {
     Session,
     Disposition,
     Endpoint,
+    Serve,
 }
 
 /// Every group, in the order in which they are run.
-pub const GROUPS: [Group; 5] = [
+pub const GROUPS: [Group; 6] = [
     Group::Codec,
     Group::Link,
     Group::Session,
     Group::Disposition,
     Group::Endpoint,
+    Group::Serve,
 ];
 
 /// What is to be done.
@@ -65,6 +67,7 @@ fn group_of(word: &str) -> Option<Group> {
         "session" => Some(Group::Session),
         "disposition" => Some(Group::Disposition),
         "endpoint" => Some(Group::Endpoint),
+        "serve" => Some(Group::Serve),
         _ => None,
     }
 }

@@ -7,7 +7,7 @@ use crate::dumped::{dump_bytes, map};
 use crate::failure::Failure;
 use crate::gateway::{empty, is_closed, new_endpoint};
 use crate::peer::Head;
-use crate::receiving::Receiver;
+use crate::receiving::{Reads, Receiver};
 use crate::telemetry::begin;
 use amqp_endpoint::{Endpoint, Event, Outcome};
 use amqp_perform::{Outcome as Settlement, ReceiverSettleMode};
@@ -62,7 +62,7 @@ fn interleaved(desk: &mut Desk) -> Result<(), Failure> {
     }
     peer.close()?;
     let receiver = Receiver {
-        at_once: 65536,
+        reads: Reads::AtMost(65536),
         credit: 16,
     };
     receiver.serve(desk)
@@ -88,7 +88,7 @@ fn byte_by_byte(desk: &mut Desk) -> Result<(), Failure> {
     }
     peer.close()?;
     let receiver = Receiver {
-        at_once: 1,
+        reads: Reads::AtMost(1),
         credit: 16,
     };
     receiver.serve(desk)
@@ -148,7 +148,7 @@ fn given_up(desk: &mut Desk) -> Result<(), Failure> {
     }
     peer.close()?;
     let receiver = Receiver {
-        at_once: 4096,
+        reads: Reads::AtMost(4096),
         credit: 100,
     };
     receiver.serve(desk)

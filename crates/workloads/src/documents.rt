@@ -2,7 +2,7 @@
 
 use crate::desk::Desk;
 use crate::failure::Failure;
-use crate::receiving::Receiver;
+use crate::receiving::{Reads, Receiver};
 use amqp_perform::{
     Attach, Begin, Flow, Open, Performative, ReceiverSettleMode, Role, SenderSettleMode,
     write_frame,
@@ -21,7 +21,7 @@ const MANY: u32 = 1 << 30;
 /// Sends documents of 2,000 to 20,000 bytes, one in 64 of 1,000,000, and serves the connection on which they come.
 pub fn run(desk: &mut Desk) -> Result<(), Failure> {
     let receiver = Receiver {
-        at_once: desk.numbers.of_these(&[4096, 65536, 65536]),
+        reads: Reads::AtMost(desk.numbers.of_these(&[4096, 65536, 65536])),
         credit: desk.numbers.of_these(&[16, 100, 1000]),
     };
     let mut sending = Sending::new(desk)?;

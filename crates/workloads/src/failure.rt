@@ -20,6 +20,8 @@ pub enum Failure {
     Sender,
     /// A connection was not closed by its peer.
     Ended(End),
+    /// Not all that was sent is recorded.
+    Lost,
     /// A capture has a fault.
     Fault,
     Serve(ServeFault),

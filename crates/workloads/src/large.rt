@@ -4,7 +4,7 @@ use crate::desk::Desk;
 use crate::failure::Failure;
 use crate::numbers::Numbers;
 use crate::peer::{Head, Peer};
-use crate::receiving::Receiver;
+use crate::receiving::{Reads, Receiver};
 use crate::telemetry::begin;
 
 /// The longest message of all but a few, in bytes, and that of the few.
@@ -17,7 +17,7 @@ const LONGEST: u32 = 1_000_000;
 pub fn run(desk: &mut Desk) -> Result<(), Failure> {
     let (numbers, peer) = (&mut desk.numbers, &mut desk.peer);
     let receiver = Receiver {
-        at_once: numbers.of_these(&[16384, 65536, 65536]),
+        reads: Reads::AtMost(numbers.of_these(&[16384, 65536, 65536])),
         credit: numbers.of_these(&[16, 100, 1000]),
     };
     let frame = numbers.between(5_000, 60_000);

@@ -14,6 +14,7 @@ mod failure;
 mod gateway;
 mod large;
 mod numbers;
+mod one_at_a_time;
 mod peer;
 mod receiving;
 mod replayed;
@@ -56,10 +57,13 @@ enum Job {
     Awkward,
     Texts,
     Large,
+    /// With credit of 1, and of 16.
+    OneAtATime1,
+    OneAtATime16,
 }
 
 /// Every job, in the order in which they are done.
-const JOBS: [Job; 8] = [
+const JOBS: [Job; 10] = [
     Job::Telemetry,
     Job::Documents,
     Job::Gateway,
@@ -68,6 +72,8 @@ const JOBS: [Job; 8] = [
     Job::Awkward,
     Job::Texts,
     Job::Large,
+    Job::OneAtATime1,
+    Job::OneAtATime16,
 ];
 
 impl Job {
@@ -81,6 +87,8 @@ impl Job {
             Job::Awkward => "awkward",
             Job::Texts => "texts",
             Job::Large => "large",
+            Job::OneAtATime1 => "one-at-a-time-1",
+            Job::OneAtATime16 => "one-at-a-time-16",
         }
     }
 
@@ -98,6 +106,8 @@ impl Job {
                 Job::Awkward => awkward::run(&mut desk)?,
                 Job::Texts => texts::run(&mut desk)?,
                 Job::Large => large::run(&mut desk)?,
+                Job::OneAtATime1 => one_at_a_time::run(&mut desk, 1)?,
+                Job::OneAtATime16 => one_at_a_time::run(&mut desk, 16)?,
             }
         }
         Ok(desk)

@@ -3,7 +3,7 @@
 use crate::desk::Desk;
 use crate::failure::Failure;
 use amqp_endpoint::{Config, End, Endpoint};
-use amqp_frame::Device;
+use amqp_frame::{Device, HEADER};
 use amqp_perform::Outcome;
 use amqp_serve::{Policy, serve};
 use std::io::{self, BufReader, BufWriter, Read};
@@ -11,11 +11,51 @@ use std::io::{self, BufReader, BufWriter, Read};
 /// How many bytes of answers and of records are written at once.
 const BUFFER: usize = 65536;
 
+/// The bytes of a record in front of its message.
+pub const RECORD_HEAD: u64 = 18;
+
+/// What a read brings.
+#[derive(Clone, Copy)]
+pub enum Reads {
+    /// So many bytes at most.
+    AtMost(u32),
+    /// The header, or one frame, which is no longer than the buffer.
+    OneFrame,
+}
+
+impl Reads {
+    /// The bytes that are buffered at most.
+    fn buffer(self) -> usize {
+        match self {
+            Reads::AtMost(bytes) => bytes as usize,
+            Reads::OneFrame => BUFFER,
+        }
+    }
+
+    /// How many bytes a read brings at most, of these that are left.
+    fn at_once(self, rest: &[u8]) -> usize {
+        match self {
+            Reads::AtMost(bytes) => bytes as usize,
+            Reads::OneFrame => first_unit(rest),
+        }
+    }
+}
+
+/// How long the header is at the front of these bytes, or the frame.
+fn first_unit(bytes: &[u8]) -> usize {
+    if bytes.starts_with(&HEADER) {
+        return HEADER.len();
+    }
+    match bytes {
+        [s0, s1, s2, s3, ..] => u32::from_be_bytes([*s0, *s1, *s2, *s3]) as usize,
+        _ => bytes.len(),
+    }
+}
+
 /// How a connection is served.
 #[derive(Clone, Copy)]
 pub struct Receiver {
-    /// How many bytes a read brings at most.
-    pub at_once: u32,
+    pub reads: Reads,
     /// The credit that each link is kept at, and the deliveries that it may have open.
     pub credit: u32,
 }
@@ -33,9 +73,9 @@ impl Receiver {
         };
         let stream = Pieces {
             rest: desk.peer.bytes.as_slice(),
-            at_once: self.at_once as usize,
+            reads: self.reads,
         };
-        let input = BufReader::with_capacity(alloc, self.at_once as usize, stream)?;
+        let input = BufReader::with_capacity(alloc, self.reads.buffer(), stream)?;
         let mut reader = Device::new(input);
         let mut writer = Device::new(BufWriter::with_capacity(alloc, BUFFER, &mut desk.answers)?);
         let mut sink = Device::new(BufWriter::with_capacity(alloc, BUFFER, &mut desk.records)?);
@@ -47,16 +87,17 @@ impl Receiver {
     }
 }
 
-/// Bytes of which a read brings so many at most.
+/// Bytes of which a read brings some.
 #[derive(Drop)]
 struct Pieces<'a> {
     rest: &'a [u8],
-    at_once: usize,
+    reads: Reads,
 }
 
 impl Read for Pieces<'_> {
     fn read(&mut self, buf: &mut [u8]) -> io::Result<usize> {
-        let count = buf.len().min(self.at_once).min(self.rest.len());
+        let most = self.reads.at_once(self.rest);
+        let count = buf.len().min(most).min(self.rest.len());
         let (piece, behind) = self.rest.split_at(count);
         buf[..count].copy_from_slice(piece);
         self.rest = behind;

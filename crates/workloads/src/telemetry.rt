@@ -3,7 +3,7 @@
 use crate::desk::Desk;
 use crate::failure::Failure;
 use crate::peer::{Head, Peer};
-use crate::receiving::Receiver;
+use crate::receiving::{Reads, Receiver};
 use amqp_perform::ReceiverSettleMode;
 
 /// Serves a connection on which messages of 50 to 300 bytes come, two in three of them unsettled.
@@ -12,7 +12,7 @@ pub fn run(desk: &mut Desk) -> Result<(), Failure> {
     let sessions = numbers.of_these(&[1, 1, 1, 2, 8]);
     let links = numbers.of_these(&[1, 1, 4, 8]);
     let receiver = Receiver {
-        at_once: numbers.of_these(&[1460, 4096, 65536]),
+        reads: Reads::AtMost(numbers.of_these(&[1460, 4096, 65536])),
         credit: numbers.of_these(&[16, 100, 1000]),
     };
     peer.open(&[])?;

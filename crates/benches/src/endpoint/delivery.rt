@@ -1,8 +1,8 @@
 //! Messages through an endpoint.
 
-use crate::endpoint::stream::opening;
-use crate::endpoint::{By, Case, MAX_FRAME};
+use crate::endpoint::{By, Case};
 use crate::measure::Failure;
+use crate::stream::{MAX_FRAME, opening};
 use amqp_endpoint::{CallFault, Config, Endpoint, Event, Outcome};
 use amqp_link::MAX_ALLOWED;
 use amqp_perform::Outcome as Settlement;
@@ -68,7 +68,7 @@ impl Run {
             255,
             255,
             MAX_ALLOWED,
-            case.message,
+            case.shape.message,
             WINDOW,
         );
         let Some(config) = settings else {
@@ -76,14 +76,14 @@ impl Run {
         };
         let mut run = Run {
             endpoint: Endpoint::new(alloc, config)?,
-            sessions: case.sessions,
-            links: case.links,
+            sessions: case.shape.sessions,
+            links: case.shape.links,
             left_open: case.open,
             messages: 0,
             moved: 0,
         };
         run.feed(
-            &opening(alloc, case.sessions, case.links)?,
+            &opening(alloc, case.shape.sessions, case.shape.links)?,
             By::Pieces(4096),
         )?;
         run.grant()?;

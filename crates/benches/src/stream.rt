@@ -1,9 +1,11 @@
 //! The bytes of a sender.
 
-use crate::endpoint::{Case, MAX_FRAME};
 use crate::frames::{attach, last, whole};
 use amqp_perform::{Begin, Open, Performative, Transfer, write_frame};
 use std::alloc::{AllocError, Global};
+
+/// The longest frame of the sender.
+pub const MAX_FRAME: u32 = 65536;
 
 /// No transfer without its payload is longer.
 const OVERHEAD: u32 = 64;
@@ -16,9 +18,21 @@ pub struct Block {
     ids: Vec<usize>,
 }
 
-/// How many messages come in a block: about 64 kB.
-fn messages_of(case: Case) -> u32 {
-    (MAX_FRAME / case.message.max(1)).clamp(1, 256)
+/// What messages come, and where.
+#[derive(Clone, Copy)]
+pub struct Shape {
+    /// The bytes of a message.
+    pub message: u32,
+    /// The sessions, and the links of each, on which they come in turn.
+    pub sessions: u16,
+    pub links: u16,
+}
+
+impl Shape {
+    /// How many messages come in a block: about 64 kB.
+    fn messages(self) -> u32 {
+        (MAX_FRAME / self.message.max(1)).clamp(1, 256)
+    }
 }
 
 /// Appends a frame.
@@ -81,16 +95,16 @@ fn begin(bytes: &mut Vec<u8>, channel: u16, links: u16) -> Result<(), AllocError
 
 impl Block {
     /// The messages of one round, on the links and sessions in turn.
-    pub fn new(alloc: Global, case: Case) -> Result<Block, AllocError> {
-        let payload = Vec::from_elem(alloc, 0x78, case.message as usize)?;
+    pub fn new(alloc: Global, shape: Shape) -> Result<Block, AllocError> {
+        let payload = Vec::from_elem(alloc, 0x78, shape.message as usize)?;
         let mut block = Block {
             bytes: Vec::new(alloc),
             ids: Vec::new(alloc),
         };
-        for index in 0..messages_of(case) {
-            let handle = index.checked_rem(case.links as u32).unwrap_or(0);
-            let round = index.checked_div(case.links as u32).unwrap_or(0);
-            let channel = round.checked_rem(case.sessions as u32).unwrap_or(0);
+        for index in 0..shape.messages() {
+            let handle = index.checked_rem(shape.links as u32).unwrap_or(0);
+            let round = index.checked_div(shape.links as u32).unwrap_or(0);
+            let channel = round.checked_rem(shape.sessions as u32).unwrap_or(0);
             block.push_message(channel as u16, handle, &payload)?;
         }
         Ok(block)
@@ -121,6 +135,11 @@ impl Block {
             transfer = last(handle);
         }
         Ok(())
+    }
+
+    /// How many messages it has.
+    pub fn messages(&self) -> u32 {
+        u32::try_from(self.ids.len()).unwrap_or(u32::MAX)
     }
 
     /// Gives the messages ids from this one on.
