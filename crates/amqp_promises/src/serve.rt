@@ -1,14 +1,19 @@
 //! What `amqp_serve` promises.
 
-ghost use Rattle.std.specs.Prelude.{◌≡◌, ◌↔◌, ◌<◌, [], ℕ, List, true, false, Err, IsTrue, IfOk, IfErr};
+ghost use Rattle.std.specs.Prelude.{◌≡◌, ◌↔◌, ◌<◌, ◌≤◌, [], ℕ, List, true, false, Err, None, take, length, IsTrue, IfOk, IfErr, IfSome};
 ghost use Rattle.std.specs.Io.KnownBytes.{Consumes};
 ghost use Rattle.amqp_frame.specs.Devices.{device_inner, has_failed, has_ended, is_flushed};
 ghost use Rattle.amqp_endpoint.specs.Connections.{is_dead};
-ghost use Rattle.amqp_serve.specs.Serving.{reading, BrokeOff, IsServed, IsStarved, HasAllTaken};
+ghost use Rattle.amqp_endpoint.specs.Steps.{EndpointState, MayRead, IsKept};
+ghost use Rattle.amqp_serve.specs.Deeds.{IsStepped, ends, AreOpen};
+ghost use Rattle.amqp_serve.specs.Hosting.{lost_by};
+ghost use Rattle.amqp_serve.specs.Policies.{BrokeOff, IsServed};
+ghost use Rattle.amqp_serve.specs.Serving.{reading, IsStarved, HasAllTaken};
+ghost use Rattle.amqp_serve.specs.Supplied.{IsRight};
 
-use amqp_endpoint::{End, Endpoint};
+use amqp_endpoint::{End, Endpoint, Outcome};
 use amqp_frame::{AtHand, Device, HoldsBack};
-use amqp_serve::{Policy, ServeFault};
+use amqp_serve::{Course, Policy, ServeFault, Server, Stepped};
 use std::alloc::Allocator;
 use std::io::Write;
 
@@ -49,4 +54,65 @@ pub fn serve<A: Allocator + Copy, R: AtHand + Drop, W: Write + HoldsBack + Drop,
         (S.contents (device_inner sink.new))) }
 {
     amqp_serve::serve(endpoint, reader, writer, sink, policy)
+}
+
+/// Serves a piece of what the peer sent, up to the end of a unit.
+pub fn serve_piece<A: Allocator + Copy, W: Write + HoldsBack + Drop, S: Write + Drop>(
+    endpoint: &mut Endpoint<A>,
+    course: &mut Course,
+    piece: &[u8],
+    writer: &mut Device<W>,
+    sink: &mut Device<S>,
+) -> Stepped
+    requires ends { AreOpen (ends W.contents S.contents writer.old sink.old) }
+    requires sent { endpoint.old.unsent ≡ [] }
+    requires course { IsRight course.old endpoint.old.connection }
+    ensures bound { result.used ≤ length piece.now }
+    ensures rule { course.new.rule ≡ course.old.rule }
+    ensures course { IsRight course.new endpoint.new.connection }
+    ensures stepped { IsStepped course.old.rule (take result.used piece.now) result.told result.done endpoint.old endpoint.new (ends W.contents S.contents writer.old sink.old)
+        (ends W.contents S.contents writer.new sink.new) }
+{
+    amqp_serve::serve_piece(endpoint, course, piece, writer, sink)
+}
+
+/// Serves the bytes that were read into the room that the endpoint lends.
+pub fn serve_read<A: Allocator + Copy, W: Write + HoldsBack + Drop, S: Write + Drop>(
+    endpoint: &mut Endpoint<A>,
+    course: &mut Course,
+    n: usize,
+    writer: &mut Device<W>,
+    sink: &mut Device<S>,
+) -> Stepped
+    requires ends { AreOpen (ends W.contents S.contents writer.old sink.old) }
+    requires sent { endpoint.old.unsent ≡ [] }
+    requires course { IsRight course.old endpoint.old.connection }
+    requires read { MayRead endpoint.old n }
+    ensures used { result.used ≡ n }
+    ensures rule { course.new.rule ≡ course.old.rule }
+    ensures course { IsRight course.new endpoint.new.connection }
+
+    // It is so from before they were read, since what stands in that room says nothing.
+    ensures stepped { (s : EndpointState) → IsKept s endpoint.old → IsStepped course.old.rule (take n endpoint.old.input.spare) result.told result.done s endpoint.new
+        (ends W.contents S.contents writer.old sink.old) (ends W.contents S.contents writer.new sink.new) }
+{
+    amqp_serve::serve_read(endpoint, course, n, writer, sink)
+}
+
+/// A server serves a piece of what the peer sent, unless its writer or its sink has failed.
+pub fn step<A: Allocator + Copy, W: Write + HoldsBack + Drop, S: Write + Drop>(
+    server: &mut Server<A>,
+    piece: &[u8],
+    writer: &mut Device<W>,
+    sink: &mut Device<S>,
+) -> Stepped
+    requires ends { AreOpen (ends W.contents S.contents writer.old sink.old) }
+    ensures bound { result.used ≤ length piece.now }
+    ensures rule { server.new.rule ≡ server.old.rule }
+    ensures stepped { server.old.lost ≡ None → IsStepped server.old.rule (take result.used piece.now) result.told result.done server.old.endpoint server.new.endpoint
+        (ends W.contents S.contents writer.old sink.old) (ends W.contents S.contents writer.new sink.new) }
+    ensures lost { server.old.lost ≡ None → server.new.lost ≡ lost_by result.done }
+    ensures refused { IfSome server.old.lost (λ x. (result ≡ record { used = 0; told = Outcome.More; done = Err x }) × (server.new ≡ server.old)) }
+{
+    server.step(piece, writer, sink)
 }

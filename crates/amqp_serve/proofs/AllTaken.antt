@@ -41,11 +41,12 @@ use Rattle.amqp_endpoint.specs.Steps as steps
 use Rattle.amqp_endpoint.specs.Steps.{EndpointState, IsFed, Acts, acted_after, room_for, told_outcome}
 use Rattle.amqp_endpoint.specs.Takings.{link_in, link_at}
 use Rattle.amqp_endpoint.proofs.Endpoints.{free_at}
-use Rattle.amqp_serve.specs.declared.serving.Policy.{Policy}
+use Rattle.amqp_serve.specs.declared.rules.Rule.{Rule}
 use Rattle.amqp_serve.specs.declared.serving.ServeFault.{ServeFault}
 use Rattle.amqp_serve.specs.declared.serving.ServeFault.TheVariants as fault
 use Rattle.amqp_serve.specs.Cuts.{supply_channel, call_for}
-use Rattle.amqp_serve.specs.Serving.{Stand, reading, ToppingUp, Receiving, Settling, Starved, Over, all_supplies, stand_told, stand_taken, Supply, lack, top_up_by, HasAllTaken, IsLeft, BrokeOff}
+use Rattle.amqp_serve.specs.Serving.{Stand, reading, ToppingUp, Receiving, Settling, Starved, Over, all_supplies, stand_told, stand_taken, lack, top_up_by, HasAllTaken, IsLeft, BrokeOff}
+use Rattle.amqp_serve.specs.declared.supplies.Supply.{Supply}
 use Rattle.amqp_serve.specs.Serving.{Step, Serves, Rests, MovesOut, Feeds, Takes, Settles, TopsUp, Passes, Finishes}
 use Rattle.amqp_serve.proofs.CutSteps.{top_call}
 use Rattle.amqp_serve.proofs.Ready.{both_same, made_in, made, made_none, ready_added, call_makes, ready_took}
@@ -358,11 +359,11 @@ taken_stand : (config : Configured) (channel : ℕ) (answer : Answer) (s : Conne
 taken_stand config channel (HandedUp d) s all = handed_stand config channel d.delivery_id d.settled s all
 taken_stand config channel answer s all = all
 
-supply_comes : (p : Policy) (s t : EndpointState) (supply : Supply) (n : ℕ) (answer : Answer) → Does s t (top_up_by supply n) answer → CallDone s t (supply_channel supply) (call_for supply n) answer
+supply_comes : (p : Rule) (s t : EndpointState) (supply : Supply) (n : ℕ) (answer : Answer) → Does s t (top_up_by supply n) answer → CallDone s t (supply_channel supply) (call_for supply n) answer
 supply_comes p s t supply n answer does = subst (λ (c : Call). Does s t c answer) (top_call supply n) does
 
 -- What is ready at a stand is what was ready before, as far as serving goes.
-pub all_taken : {p : Policy} {a b : Stand} {s t : EndpointState} {xs : List Step} → Serves p a s xs b t → IsTakenAt a s → IsTakenAt b t
+pub all_taken : {p : Rule} {a b : Stand} {s t : EndpointState} {xs : List Step} → Serves p a s xs b t → IsTakenAt a s → IsTakenAt b t
 all_taken Rests x = x
 all_taken (MovesOut {p} {a} {b} {s} next room bytes does rest) x =
     all_taken rest (record { least = omega (arith, x.least, does.input.limit); taken = subst (λ (c : ConnectionState). TakenAt a c) (sym does.connection) x.taken })
@@ -394,7 +395,7 @@ start_taken config s start channel handle =
     ap (λ (c : ConnectionState). slot_ready (link_at c channel handle)) start.connection ∙ ap (λ (x : Slot SessionState). slot_ready (link_in handle x)) (free_at 0 (channels config) channel)
 
 -- Serving leaves nothing ready but what it takes next.
-pub leaves_taken : (p : Policy) (b : Stand) (s t : EndpointState) (steps : List Step) → 8 ≤ s.input.limit → HasAllTaken s.connection → Serves p reading s steps b t →
+pub leaves_taken : (p : Rule) (b : Stand) (s t : EndpointState) (steps : List Step) → 8 ≤ s.input.limit → HasAllTaken s.connection → Serves p reading s steps b t →
     ((channel handle : ℕ) → b ≡ Receiving channel handle → ⊥) → HasAllTaken t.connection
 leaves_taken p b s t steps least all x other = by b other (all_taken x (record { least = least; taken = all })).taken
   where
@@ -406,7 +407,7 @@ leaves_taken p b s t steps least all x other = by b other (all_taken x (record {
     by Over away x = x
 
 -- So does serving that breaks off where memory is refused.
-pub broke_taken : (p : Policy) (e : ServeFault) (bytes : List ℕ) (old new : EndpointState) (w w1 k k1 : Option (List ℕ)) → 8 ≤ old.input.limit → HasAllTaken old.connection → e ≡ fault.NoMemory →
+pub broke_taken : (p : Rule) (e : ServeFault) (bytes : List ℕ) (old new : EndpointState) (w w1 k k1 : Option (List ℕ)) → 8 ≤ old.input.limit → HasAllTaken old.connection → e ≡ fault.NoMemory →
     BrokeOff p e reading bytes old new w w1 k k1 → HasAllTaken new.connection
 broke_taken p e bytes old new w w1 k k1 least all is x =
     let left = subst (λ (f : ServeFault). IsLeft f x.stand x.steps x.noted x.unnoted) is x.left in

@@ -8,7 +8,7 @@ use Rattle.amqp_frame.proofs.Fronts.{one_front}
 use Rattle.amqp_session.specs.Calls as session
 use Rattle.amqp_endpoint.specs.declared.event.End.{End}
 use Rattle.amqp_endpoint.specs.declared.fault.CallFault.{CallFault}
-use Rattle.amqp_serve.specs.declared.serving.Policy.{Policy}
+use Rattle.amqp_serve.specs.declared.rules.Rule.{Rule}
 use Rattle.amqp_endpoint.specs.Calls.{call_fault, call_spoken}
 use Rattle.amqp_endpoint.specs.Configs.{Configured}
 use Rattle.amqp_endpoint.specs.Connections.{slot_at, is_dead}
@@ -17,7 +17,8 @@ use Rattle.amqp_serve.specs.Cuts.{done_taken, done_from, answered, served_one, s
 use Rattle.amqp_endpoint.specs.Lines.{line_of}
 use Rattle.amqp_endpoint.specs.Replies.{joined, reply_on}
 use Rattle.amqp_endpoint.specs.Runs.{InSession, IsStart, accepted_answer}
-use Rattle.amqp_serve.specs.Serving.{Supply, lack, all_supplies, Stand, ToppingUp, Receiving, Settling, Starved, Over, reading, stand_told, stand_taken}
+use Rattle.amqp_serve.specs.Serving.{lack, all_supplies, Stand, ToppingUp, Receiving, Settling, Starved, Over, reading, stand_told, stand_taken}
+use Rattle.amqp_serve.specs.declared.supplies.Supply.{Supply}
 use Rattle.amqp_serve.specs.Serving.{Step, Serves, moved, recorded, recorded_by, fed}
 use Rattle.amqp_endpoint.specs.Steps.{EndpointState, acted_after, acted_outcome}
 use Rattle.amqp_serve.proofs.Cuts.{Stops, goes_no_further, new_made, new_good}
@@ -57,15 +58,15 @@ given_grows : (n : ℕ) (m : Made) (supply : Supply) → Grows m (topped_by n m 
 given_grows zero m supply = grows_none m
 given_grows (suc n) m supply = call_grows m (supply_channel supply) (call_for supply (suc n))
 
-all_grow : (p : Policy) (supplies : List Supply) (m : Made) → Grows m (all_topped p supplies m)
+all_grow : (p : Rule) (supplies : List Supply) (m : Made) → Grows m (all_topped p supplies m)
 all_grow p [] m = grows_none m
 all_grow p (supply ∷ supplies) m =
     grows_on m (topped p m supply) (all_topped p (supply ∷ supplies) m) (given_grows (lack p m.connection supply) m supply) (all_grow p supplies (topped p m supply))
 
-up_grows : (p : Policy) (m : Made) → Grows m (topped_up p m)
+up_grows : (p : Rule) (m : Made) → Grows m (topped_up p m)
 up_grows p m = all_grow p (all_supplies m.connection.config) m
 
-taken_grows : (p : Policy) (a : Stand) (m : Made) → Grows m (done_taken p a m)
+taken_grows : (p : Rule) (a : Stand) (m : Made) → Grows m (done_taken p a m)
 taken_grows p (ToppingUp supplies) m = all_grow p supplies m
 taken_grows p (Receiving channel handle) m = grows_none m
 taken_grows p (Settling channel id) m =
@@ -73,7 +74,7 @@ taken_grows p (Settling channel id) m =
 taken_grows p Starved m = grows_none m
 taken_grows p Over m = grows_none m
 
-from_grows : (p : Policy) (a : Stand) (m : Made) → Grows m (done_from p a m)
+from_grows : (p : Rule) (a : Stand) (m : Made) → Grows m (done_from p a m)
 from_grows p (Receiving channel handle) m =
     let after = called m channel (session.Take handle) in
     let stand = stand_taken after.connection.config channel (answer_at m.connection channel (session.Take handle)) in
@@ -83,19 +84,19 @@ from_grows p (Settling channel id) m = taken_grows p (Settling channel id) m
 from_grows p Starved m = grows_none m
 from_grows p Over m = grows_none m
 
-one_grows : (p : Policy) (m : Made) (u : StreamUnit) → Grows m (served_one p m u)
+one_grows : (p : Rule) (m : Made) (u : StreamUnit) → Grows m (served_one p m u)
 one_grows p m u =
     grows_on m (answered m u) (served_one p m u) (record { written = (reply_on m.connection (line_of m.connection u), refl); recorded = front_all m.recorded })
     (from_grows p (stand_told (acted_after m.connection u).config (acted_outcome m.connection u)) (answered m u))
 
-served_grows : (p : Policy) (m : Made) (us : List StreamUnit) → Grows m (served_all p m us)
+served_grows : (p : Rule) (m : Made) (us : List StreamUnit) → Grows m (served_all p m us)
 served_grows p m [] = grows_none m
 served_grows p m (u ∷ us) = grows_on m (served_one p m u) (served_all p m (u ∷ us)) (one_grows p m u) (served_grows p (served_one p m u) us)
 
 -- Fewer units. --------------------------------------------------------------------------------------------------------
 
 -- of a stream up to some place all units stand among those of the whole stream
-fewer_grow : (p : Policy) (max : ℕ) → 8 ≤ max → (m : Made) (stage : Stage) (us vs : List StreamUnit) (a b : List ℕ) → flat_map bytes_of us ++ a ≡ flat_map bytes_of vs ++ b →
+fewer_grow : (p : Rule) (max : ℕ) → 8 ≤ max → (m : Made) (stage : Stage) (us vs : List StreamUnit) (a b : List ℕ) → flat_map bytes_of us ++ a ≡ flat_map bytes_of vs ++ b →
     AreUnits max stage us → AreUnits max stage vs → AreTimely p m us → Stops p m max stage vs b → Grows (served_all p m us) (served_all p m vs)
 fewer_grow p max least m stage [] vs a b e x y i g = served_grows p m vs
 fewer_grow p max least m stage (u ∷ us) [] a b e x y i g =
@@ -118,7 +119,7 @@ is_over Starved h = absurd h
 is_over Over h = refl
 
 -- What was moved out and recorded until some moment begins what is made of bytes that go on so.
-pub begins_whole : (p : Policy) (config : Configured) (end : End) (bytes unfed : List ℕ) (old t : EndpointState) (b : Stand) (xs : List Step) (n : Made) →
+pub begins_whole : (p : Rule) (config : Configured) (end : End) (bytes unfed : List ℕ) (old t : EndpointState) (b : Stand) (xs : List Step) (n : Made) →
     8 ≤ config.max_frame → IsStart config old →
     Serves p reading old xs b t → (b ≡ Over → ⊥) → bytes ≡ fed xs ++ unfed → IsMade p config bytes n end → IsFront (moved xs) n.written × IsFront (recorded xs) n.recorded
 begins_whole p config end bytes unfed old t b xs n least start x before goes y =

@@ -14,7 +14,7 @@ use Rattle.amqp_frame.proofs.Readings.{unit_length}
 use Rattle.amqp_session.specs.Calls.{Take, Settle}
 use Rattle.amqp_endpoint.specs.declared.event.Outcome.{Outcome}
 use Rattle.amqp_endpoint.specs.declared.event.Outcome.TheVariants as outcome
-use Rattle.amqp_serve.specs.declared.serving.Policy.{Policy}
+use Rattle.amqp_serve.specs.declared.rules.Rule.{Rule}
 use Rattle.amqp_endpoint.specs.Connections.{is_dead}
 use Rattle.amqp_serve.specs.Cuts.{Made, done_from, topped_by, all_topped, answered, served_one, served_all, AreTimely}
 use Rattle.amqp_endpoint.specs.Lines.{line_of, told_on}
@@ -24,7 +24,7 @@ use Rattle.amqp_endpoint.specs.Traces.{moved_by, taken_by}
 use Rattle.amqp_serve.specs.Serving.{Stand, ToppingUp, Receiving, Settling, Starved, Over, all_supplies, stand_told, lack, top_up_by}
 use Rattle.amqp_serve.specs.Serving.{Step, Serves, Rests, MovesOut, Feeds, Takes, Settles, TopsUp, Passes, Finishes, recorded_by, fed, moved, recorded}
 use Rattle.amqp_endpoint.specs.Steps as steps
-use Rattle.amqp_endpoint.specs.Steps.{EndpointState, IsActed, IsKept, IsFed, TakesAndActs, Acts, acted_after, acted_outcome, room_for, told_outcome}
+use Rattle.amqp_endpoint.specs.Steps.{EndpointState, IsActed, IsKept, Acts, acted_after, room_for, told_outcome}
 use Rattle.amqp_serve.proofs.CutTops.{AreStill, all_unchanged}
 use Rattle.amqp_serve.proofs.CutSteps.{made_at, made_same, moved_made, kept_made, take_made, settle_made, top_call, top_made, told_still}
 use Rattle.amqp_serve.proofs.Servings.{unchanged_on}
@@ -49,7 +49,7 @@ IsEnded (Settling channel id) = ⊥
 IsEnded Starved = ⊥
 IsEnded Over = Unit {0}
 
-pub ended : {p : Policy} {a b : Stand} {s t : EndpointState} {xs : List Step} → Serves p a s xs b t → IsEnded a → IsEnded b
+pub ended : {p : Rule} {a b : Stand} {s t : EndpointState} {xs : List Step} → Serves p a s xs b t → IsEnded a → IsEnded b
 ended Rests h = h
 ended (MovesOut next room bytes does x) h = ended x h
 ended (Feeds next piece used told none range does x) h = absurd h
@@ -69,7 +69,7 @@ record IsHalted (s t : EndpointState) (xs : List Step) (b : Stand) (w r : List �
 -- What is kept true. --------------------------------------------------------------------------------------------------
 
 -- where all that follows is done nothing is lacking, and no unit is in the buffer
-pub record IsGood (p : Policy) (m : Made) (input : SplitterState) : Type 0 where
+pub record IsGood (p : Rule) (m : Made) (input : SplitterState) : Type 0 where
   pub still : AreStill p m.connection (all_supplies m.connection.config)
   pub rest : IsRest input.limit input.stage input.filled
   pub left : (input.filled ≡ []) ⊎ (is_dead m.connection.phase ≡ false)
@@ -83,10 +83,10 @@ rest_on i j u rest =
 units_on : (i j : SplitterState) (us : List StreamUnit) → IsUnchanged i j → AreUnits j.limit j.stage us → AreUnits i.limit i.stage us
 units_on i j us u each = subst (λ (n : ℕ). AreUnits n i.stage us) u.limit (subst (λ (stage : Stage). AreUnits j.limit stage us) u.stage each)
 
-good_made : {p : Policy} {m n : Made} {i : SplitterState} → m ≡ n → IsGood p m i → IsGood p n i
+good_made : {p : Rule} {m n : Made} {i : SplitterState} → m ≡ n → IsGood p m i → IsGood p n i
 good_made {p} {m} {n} {i} e good = subst (λ (x : Made). IsGood p x i) e good
 
-good_input : {p : Policy} {m : Made} {i j : SplitterState} → IsUnchanged i j → IsGood p m i → IsGood p m j
+good_input : {p : Rule} {m : Made} {i j : SplitterState} → IsUnchanged i j → IsGood p m i → IsGood p m j
 good_input {p} {m} {i} {j} u good = record {
   still = good.still;
   rest = rest_on i j u good.rest;
@@ -97,7 +97,7 @@ good_input {p} {m} {i} {j} u good = record {
 }
 
 -- These bytes behind what is in the buffer are units and what is in it then, and the units make the last of the first.
-pub record IsCourse (p : Policy) (b : Stand) (m : Made) (old new : SplitterState) (bytes : List ℕ) (last : Made) : Type 0 where
+pub record IsCourse (p : Rule) (b : Stand) (m : Made) (old new : SplitterState) (bytes : List ℕ) (last : Made) : Type 0 where
   pub units : List StreamUnit
   pub joined : old.filled ++ bytes ≡ flat_map bytes_of units ++ new.filled
   pub each : AreUnits old.limit old.stage units
@@ -107,7 +107,7 @@ pub record IsCourse (p : Policy) (b : Stand) (m : Made) (old new : SplitterState
   pub made : last ≡ served_all p m units
   pub good : (IsStuck b → ⊥) → IsGood p last new
 
-course_input : {p : Policy} {b : Stand} {m last : Made} {old mid new : SplitterState} {bytes : List ℕ} → IsUnchanged old mid → IsCourse p b m mid new bytes last → IsCourse p b m old new bytes last
+course_input : {p : Rule} {b : Stand} {m last : Made} {old mid new : SplitterState} {bytes : List ℕ} → IsUnchanged old mid → IsCourse p b m mid new bytes last → IsCourse p b m old new bytes last
 course_input {p} {b} {m} {last} {old} {mid} {new} {bytes} u x = record {
   units = x.units;
   joined = ap (λ (f : List ℕ). f ++ bytes) (sym u.filled) ∙ x.joined;
@@ -120,11 +120,11 @@ course_input {p} {b} {m} {last} {old} {mid} {new} {bytes} u x = record {
 }
 
 -- what is owed of some steps
-abbrev Goes : Policy → Made → EndpointState → Stand → EndpointState → List Step → List ℕ → List ℕ → Type 0
+abbrev Goes : Rule → Made → EndpointState → Stand → EndpointState → List Step → List ℕ → List ℕ → Type 0
 Goes p m s b t xs w r = IsGood p m s.input → IsCourse p b m s.input t.input (fed xs) (done_from p b (made_at t (w ++ moved xs) (r ++ recorded xs)))
 
 -- of no step
-goes_none : (p : Policy) (a : Stand) (s : EndpointState) (w r : List ℕ) → Goes p (done_from p a (made_at s w r)) s a s [] w r
+goes_none : (p : Rule) (a : Stand) (s : EndpointState) (w r : List ℕ) → Goes p (done_from p a (made_at s w r)) s a s [] w r
 goes_none p a s w r good =
     let none = made_same s.connection s.connection ((w ++ []) ++ s.unsent) (w ++ s.unsent) (r ++ []) r refl (ap (λ (l : List ℕ). l ++ s.unsent) (append-nil w)) (append-nil r) in
     let same = ap (λ (m : Made). done_from p a m) none in record {
@@ -145,7 +145,7 @@ later_made t w mv ms r rc rs =
     (ap (λ (l : List ℕ). l ++ t.unsent) (append_assoc w mv ms)) (append_assoc r rc rs)
 
 -- of a step that feeds nothing, and leaves what is to be made
-goes_on : (p : Policy) {m n : Made} (s next : EndpointState) (b : Stand) (t : EndpointState) (x : Step) (xs : List Step) (w r : List ℕ) → m ≡ n →
+goes_on : (p : Rule) {m n : Made} (s next : EndpointState) (b : Stand) (t : EndpointState) (x : Step) (xs : List Step) (w r : List ℕ) → m ≡ n →
     IsUnchanged s.input next.input → taken_by x.call x.answer ≡ [] →
     Goes p n next b t xs (w ++ moved_by x.answer) (r ++ recorded_by x.call x.answer) → Goes p m s b t (x ∷ xs) w r
 goes_on p {m} {n} s next b t x xs w r same input none rest good =
@@ -157,7 +157,7 @@ goes_on p {m} {n} s next b t x xs w r same input none rest good =
     (sym (ap (λ (l : List ℕ). l ++ fed xs) none)) later in
     subst (λ (y : Made). IsCourse p b y s.input t.input (fed (x ∷ xs)) (done_from p b (made_at t (w ++ moved (x ∷ xs)) (r ++ recorded (x ∷ xs))))) (sym same) whole
 
-goes_same : (p : Policy) {m n : Made} (s : EndpointState) (b : Stand) (t : EndpointState) (xs : List Step) (w r : List ℕ) → m ≡ n → Goes p n s b t xs w r → Goes p m s b t xs w r
+goes_same : (p : Rule) {m n : Made} (s : EndpointState) (b : Stand) (t : EndpointState) (xs : List Step) (w r : List ℕ) → m ≡ n → Goes p n s b t xs w r → Goes p m s b t xs w r
 goes_same p {m} {n} s b t xs w r same rest = subst (λ (y : Made). Goes p y s b t xs w r) (sym same) rest
 
 -- A piece that is fed. ------------------------------------------------------------------------------------------------
@@ -210,7 +210,7 @@ unit_on : (i j : SplitterState) (u : StreamUnit) → i.limit ≡ j.limit → i.s
 unit_on i j u l s is = subst (λ (n : ℕ). IsUnit n j.stage u) l (subst (λ (stage : Stage). IsUnit i.limit stage u) s is)
 
 -- bytes more in the buffer
-course_fed : (p : Policy) (b : Stand) (m n last : Made) (old mid new : SplitterState) (bytes more : List ℕ) → mid.limit ≡ old.limit → mid.stage ≡ old.stage → mid.filled ≡ old.filled ++ bytes → m ≡ n →
+course_fed : (p : Rule) (b : Stand) (m n last : Made) (old mid new : SplitterState) (bytes more : List ℕ) → mid.limit ≡ old.limit → mid.stage ≡ old.stage → mid.filled ≡ old.filled ++ bytes → m ≡ n →
     IsCourse p b n mid new more last → IsCourse p b m old new (bytes ++ more) last
 course_fed p b m n last old mid new bytes more l s f e x = record {
   units = x.units;
@@ -229,7 +229,7 @@ nothing_rests max stage bytes none = record {
   none = λ u more is e. let l = ap (λ (k : List ℕ). length k) (sym none ∙ e) in omega (arith, unit_length max stage u is, l, length-append (bytes_of u) more);
 }
 
-module _ (p : Policy) (s next : EndpointState) (b : Stand) (t : EndpointState) (piece : List ℕ) (used : ℕ) (told : Outcome) (xs : List Step) (w r : List ℕ) where
+module _ (p : Rule) (s next : EndpointState) (b : Stand) (t : EndpointState) (piece : List ℕ) (used : ℕ) (told : Outcome) (xs : List Step) (w r : List ℕ) where
   -- what is to be made once it was fed
   abbrev then_made : Made
   then_made = done_from p (stand_told next.connection.config told) (made_at next (w ++ []) (r ++ []))
@@ -361,7 +361,7 @@ module _ (p : Policy) (s next : EndpointState) (b : Stand) (t : EndpointState) (
   fed_made silent true is d halts rest = fed_dead d.0 d.1 d.2 rest
   fed_made silent false is d halts rest = fed_alive d.between d.taken is silent d.comes.unit d.comes.none halts rest
 
-halted : {p : Policy} {a b : Stand} {s t : EndpointState} {xs : List Step} → Serves p a s xs b t → a ≡ Starved → (w r : List ℕ) → IsHalted s t xs b w r
+halted : {p : Rule} {a b : Stand} {s t : EndpointState} {xs : List Step} → Serves p a s xs b t → a ≡ Starved → (w r : List ℕ) → IsHalted s t xs b w r
 halted (Rests {p} {a} {s}) e w r = record {
   made = made_same s.connection s.connection (w ++ s.unsent) ((w ++ []) ++ s.unsent) r (r ++ []) refl (ap (λ (l : List ℕ). l ++ s.unsent) (sym (append-nil w))) (sym (append-nil r));
   input = record { limit = refl; stage = refl; filled = refl };
@@ -385,7 +385,7 @@ halted (Finishes next end none does x) e w r = absurd (grind (arith, e))
 -- The whole of it. ----------------------------------------------------------------------------------------------------
 
 -- Serving from one stand to another makes what the units that were fed make, but for what is done from there on.
-pub follows : {p : Policy} {a b : Stand} {s t : EndpointState} {xs : List Step} → Serves p a s xs b t → (IsEnded b → ⊥) → (w r : List ℕ) → Goes p (done_from p a (made_at s w r)) s b t xs w r
+pub follows : {p : Rule} {a b : Stand} {s t : EndpointState} {xs : List Step} → Serves p a s xs b t → (IsEnded b → ⊥) → (w r : List ℕ) → Goes p (done_from p a (made_at s w r)) s b t xs w r
 follows (Rests {p} {a} {s}) e w r = goes_none p a s w r
 follows (MovesOut {p} {a} {b} {s} {last} {steps} next room bytes does x) e w r =
     goes_on p s next b last (record { call = Output room; answer = MovedOut bytes }) steps w r

@@ -9,7 +9,7 @@ use Rattle.amqp_endpoint.specs.declared.event.Event.TheVariants as event
 use Rattle.amqp_endpoint.specs.declared.event.Outcome.{Outcome}
 use Rattle.amqp_endpoint.specs.declared.event.Outcome.TheVariants as outcome
 use Rattle.amqp_endpoint.specs.declared.fault.CallFault.{CallFault}
-use Rattle.amqp_serve.specs.declared.serving.Policy.{Policy}
+use Rattle.amqp_serve.specs.declared.rules.Rule.{Rule}
 use Rattle.amqp_endpoint.specs.Calls.{call_fault, call_event, call_spoken}
 use Rattle.amqp_endpoint.specs.Configs.{Configured}
 use Rattle.amqp_endpoint.specs.Connections.{ConnectionState, connection_after, slot_at}
@@ -18,7 +18,9 @@ use Rattle.amqp_endpoint.specs.Replies.{joined}
 use Rattle.amqp_endpoint.specs.Runs.{Call, InSession, Answer, Fed, Accepted, Dropped, Named, HandedUp, Refused, MovedOut, Holds, Ended, Does}
 use Rattle.amqp_endpoint.specs.Runs.{CallDone, IsMoved, IsWritten, accepted_answer}
 use Rattle.amqp_endpoint.specs.Traces.{moved_by}
-use Rattle.amqp_serve.specs.Serving.{Supply, WindowOf, CreditOf, lack, top_up_by, all_supplies, Stand, ToppingUp, Receiving, Settling, stand_told, stand_taken, recorded_by}
+use Rattle.amqp_serve.specs.Serving.{lack, top_up_by, all_supplies, Stand, ToppingUp, Receiving, Settling, stand_told, stand_taken, recorded_by}
+use Rattle.amqp_serve.specs.declared.supplies.Supply.{Supply}
+use Rattle.amqp_serve.specs.declared.supplies.Supply.TheVariants.{WindowOf, CreditOf}
 use Rattle.amqp_endpoint.specs.Steps.{EndpointState, IsKept}
 use Rattle.amqp_endpoint.proofs.Traces.{answer_still}
 use Rattle.amqp_serve.proofs.CutTops.{AreStill, all_still, config_all}
@@ -113,17 +115,17 @@ kept_made s t w r c u =
 abbrev if_settled : Bool → Configured → ℕ → ℕ → Stand
 if_settled settled config channel id = if settled then ToppingUp (all_supplies config) else Settling channel id
 
-handed_same : (p : Policy) (config : Configured) (channel id : ℕ) (settled : Bool) (m : Made) →
+handed_same : (p : Rule) (config : Configured) (channel id : ℕ) (settled : Bool) (m : Made) →
     done_taken p (if_settled settled config channel id) m ≡ done_from p (if_settled settled config channel id) m
 handed_same p config channel id true m = refl
 handed_same p config channel id false m = refl
 
-taken_same : (p : Policy) (config : Configured) (channel : ℕ) (answer : Answer) (m : Made) → done_taken p (stand_taken config channel answer) m ≡ done_from p (stand_taken config channel answer) m
+taken_same : (p : Rule) (config : Configured) (channel : ℕ) (answer : Answer) (m : Made) → done_taken p (stand_taken config channel answer) m ≡ done_from p (stand_taken config channel answer) m
 taken_same p config channel (HandedUp d) m = handed_same p config channel d.delivery_id d.settled m
 taken_same p config channel _ m = refl
 
 -- So does taking the message that is ready.
-pub take_made : (p : Policy) (s t : EndpointState) (channel handle : ℕ) (answer : Answer) (w r : List ℕ) → CallDone s t channel (session.Take handle) answer →
+pub take_made : (p : Rule) (s t : EndpointState) (channel handle : ℕ) (answer : Answer) (w r : List ℕ) → CallDone s t channel (session.Take handle) answer →
     done_from p (Receiving channel handle) (made_at s w r)
     ≡ done_from p (stand_taken t.connection.config channel answer) (made_at t (w ++ moved_by answer) (r ++ recorded_by (InSession channel (session.Take handle)) answer))
 take_made p s t channel handle answer w r d =
@@ -134,7 +136,7 @@ take_made p s t channel handle answer w r d =
     ∙ taken_same p t.connection.config channel answer n
 
 -- So does settling it.
-pub settle_made : (p : Policy) (s t : EndpointState) (channel id : ℕ) (answer : Answer) (w r : List ℕ) → s.unsent ≡ [] → CallDone s t channel (session.Settle id p.outcome) answer →
+pub settle_made : (p : Rule) (s t : EndpointState) (channel id : ℕ) (answer : Answer) (w r : List ℕ) → s.unsent ≡ [] → CallDone s t channel (session.Settle id p.outcome) answer →
     done_from p (Settling channel id) (made_at s w r)
     ≡ done_from p (ToppingUp (all_supplies t.connection.config)) (made_at t (w ++ moved_by answer) (r ++ recorded_by (InSession channel (session.Settle id p.outcome)) answer))
 settle_made p s t channel id answer w r none d =
@@ -150,7 +152,7 @@ given_some zero m supply some = absurd (omega (arith, some))
 given_some (suc n) m supply some = refl
 
 -- So does topping up a supply.
-pub top_made : (p : Policy) (s t : EndpointState) (supply : Supply) (supplies : List Supply) (answer : Answer) (w r : List ℕ) → s.unsent ≡ [] → 0 < lack p s.connection supply →
+pub top_made : (p : Rule) (s t : EndpointState) (supply : Supply) (supplies : List Supply) (answer : Answer) (w r : List ℕ) → s.unsent ≡ [] → 0 < lack p s.connection supply →
     Does s t (top_up_by supply (lack p s.connection supply)) answer →
     (done_from p (ToppingUp (supply ∷ supplies)) (made_at s w r)
     ≡ done_from p (ToppingUp supplies) (made_at t (w ++ moved_by answer) (r ++ recorded_by (top_up_by supply (lack p s.connection supply)) answer)))
@@ -167,28 +169,28 @@ top_made p s t supply supplies answer w r none some d =
 
 -- What was topped up is still. ------------------------------------------------------------------------------------------
 
-abbrev IsStill : Policy → Made → Type 0
+abbrev IsStill : Rule → Made → Type 0
 IsStill p m = AreStill p m.connection (all_supplies m.connection.config)
 
-still_up : (p : Policy) (m : Made) → IsStill p (topped_up p m)
+still_up : (p : Rule) (m : Made) → IsStill p (topped_up p m)
 still_up p m =
     let supplies = all_supplies m.connection.config in
     subst (λ (config : Configured). AreStill p (topped_up p m).connection (all_supplies config)) (sym (config_all p supplies m)) (all_still p m supplies)
 
-settled_still : (p : Policy) (channel id : ℕ) (settled : Bool) (m : Made) → IsStill p (done_taken p (if_settled settled m.connection.config channel id) m)
+settled_still : (p : Rule) (channel id : ℕ) (settled : Bool) (m : Made) → IsStill p (done_taken p (if_settled settled m.connection.config channel id) m)
 settled_still p channel id true m = still_up p m
 settled_still p channel id false m = still_up p (called m channel (session.Settle id p.outcome))
 
-taken_still : (p : Policy) (channel : ℕ) (answer : Answer) (m : Made) → IsStill p (done_taken p (stand_taken m.connection.config channel answer) m)
+taken_still : (p : Rule) (channel : ℕ) (answer : Answer) (m : Made) → IsStill p (done_taken p (stand_taken m.connection.config channel answer) m)
 taken_still p channel (HandedUp d) m = settled_still p channel d.delivery_id d.settled m
 taken_still p channel _ m = still_up p m
 
-event_still : (p : Policy) (e : Event) (m : Made) → IsStill p (done_from p (stand_told m.connection.config (outcome.Event e)) m)
+event_still : (p : Rule) (e : Event) (m : Made) → IsStill p (done_from p (stand_told m.connection.config (outcome.Event e)) m)
 event_still p (event.Ready channel handle) m = taken_still p channel (answer_at m.connection channel (session.Take handle)) (called m channel (session.Take handle))
 event_still p _ m = still_up p m
 
 -- Whatever is told but a want of memory, all supplies are topped up at last.
-pub told_still : (p : Policy) (told : Outcome) (m : Made) → (told ≡ outcome.NoMemory → ⊥) → IsStill p (done_from p (stand_told m.connection.config told) m)
+pub told_still : (p : Rule) (told : Outcome) (m : Made) → (told ≡ outcome.NoMemory → ⊥) → IsStill p (done_from p (stand_told m.connection.config told) m)
 told_still p (outcome.Event e) m fine = event_still p e m
 told_still p outcome.NoMemory m fine = absurd (fine refl)
 told_still p _ m fine = still_up p m

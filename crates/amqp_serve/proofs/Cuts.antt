@@ -11,13 +11,15 @@ use Rattle.amqp_frame.proofs.Fronts.{one_front}
 use Rattle.amqp_session.specs.declared.slot.Slot.{Slot}
 use Rattle.amqp_session.specs.Sessions.{SessionState}
 use Rattle.amqp_endpoint.specs.declared.event.End.{End}
-use Rattle.amqp_serve.specs.declared.serving.Policy.{Policy}
+use Rattle.amqp_serve.specs.declared.rules.Rule.{Rule}
 use Rattle.amqp_endpoint.specs.Configs.{Configured}
 use Rattle.amqp_endpoint.specs.Connections.{ConnectionState, connection_begins, channels, is_dead}
 use Rattle.amqp_serve.specs.Cuts.{Made, served_one, served_all, AreTimely, first_made, left_over, end_with, IsMade, AreAlike}
 use Rattle.amqp_endpoint.specs.Runs.{Call, Finish, Answer, Ended, IsStart, end_of}
 use Rattle.amqp_endpoint.specs.Takings.{link_in}
-use Rattle.amqp_serve.specs.Serving.{Supply, WindowOf, CreditOf, window_lack, credit_lack, all_supplies, lack, top_up_by, moved, recorded, fed, IsServed}
+use Rattle.amqp_serve.specs.Serving.{window_lack, credit_lack, all_supplies, lack, top_up_by, moved, recorded, fed, IsServed}
+use Rattle.amqp_serve.specs.declared.supplies.Supply.{Supply}
+use Rattle.amqp_serve.specs.declared.supplies.Supply.TheVariants.{WindowOf, CreditOf}
 use Rattle.amqp_serve.specs.Serving.{Stand, Step, Serves, Rests, MovesOut, Feeds, Takes, Settles, TopsUp, Passes, Finishes}
 use Rattle.amqp_endpoint.specs.Steps.{EndpointState}
 use Rattle.amqp_serve.proofs.CutTops.{Still, AreStill}
@@ -28,11 +30,11 @@ use Rattle.amqp_endpoint.proofs.Endpoints.{free_at}
 -- The start. ----------------------------------------------------------------------------------------------------------
 
 -- a new connection lacks nothing
-new_still : (p : Policy) (config : Configured) (supply : Supply) → Still p (connection_begins config) supply
+new_still : (p : Rule) (config : Configured) (supply : Supply) → Still p (connection_begins config) supply
 new_still p config (WindowOf channel) = inl (ap (λ (x : Slot SessionState). window_lack config.window x) (free_at 0 (channels config) channel))
-new_still p config (CreditOf channel handle) = inl (ap (λ (x : Slot SessionState). credit_lack p.credit (link_in handle x)) (free_at 0 (channels config) channel))
+new_still p config (CreditOf channel handle) = inl (ap (λ (x : Slot SessionState). credit_lack p (link_in handle x)) (free_at 0 (channels config) channel))
 
-all_new : (p : Policy) (config : Configured) (supplies : List Supply) → AreStill p (connection_begins config) supplies
+all_new : (p : Rule) (config : Configured) (supplies : List Supply) → AreStill p (connection_begins config) supplies
 all_new p config [] = tt
 all_new p config (supply ∷ supplies) = (new_still p config supply, all_new p config supplies)
 
@@ -41,7 +43,7 @@ pub new_made : (config : Configured) (s : EndpointState) → IsStart config s �
 new_made config s start = made_same s.connection (connection_begins config) s.unsent [] [] [] start.connection start.unsent refl
 
 -- It lacks nothing, and its buffer is empty.
-pub new_good : (p : Policy) (config : Configured) (s : EndpointState) → IsStart config s → IsGood p (made_at s [] []) s.input
+pub new_good : (p : Rule) (config : Configured) (s : EndpointState) → IsStart config s → IsGood p (made_at s [] []) s.input
 new_good p config s start = record {
   still = subst (λ (c : ConnectionState). AreStill p c (all_supplies c.config)) (sym start.connection) (all_new p config (all_supplies config));
   rest = nothing_rests s.input.limit s.input.stage s.input.filled start.filled;
@@ -64,7 +66,7 @@ top_first s (WindowOf channel) n answer = tt
 top_first s (CreditOf channel handle) n answer = tt
 
 -- nothing waits at a finish, and it answers how the connection stands
-at_first : {p : Policy} {a b : Stand} {s t : EndpointState} {xs : List Step} → Serves p a s xs b t → AtFirst s xs
+at_first : {p : Rule} {a b : Stand} {s t : EndpointState} {xs : List Step} → Serves p a s xs b t → AtFirst s xs
 at_first Rests = tt
 at_first (MovesOut next room bytes does x) = tt
 at_first (Feeds next piece used told none range does x) = tt
@@ -88,7 +90,7 @@ left_is s buffer left = by (is_dead s.phase) refl
     by false alive = refl
 
 -- What is served is what the units of the bytes make.
-pub served_is_made : (p : Policy) (config : Configured) (end : End) (bytes : List ℕ) (all : Bool) (old new : EndpointState) (held now kept keeps : Option (List ℕ)) → IsStart config old →
+pub served_is_made : (p : Rule) (config : Configured) (end : End) (bytes : List ℕ) (all : Bool) (old new : EndpointState) (held now kept keeps : Option (List ℕ)) → IsStart config old →
     (x : IsServed p end bytes all old new held now kept keeps) → IsMade p config bytes (record { connection = x.before.connection; written = moved x.steps; recorded = recorded x.steps }) end
 served_is_made p config end bytes all old new held now kept keeps start x =
     let c = follows x.serves (λ h. h) [] [] (new_good p config old start) in
@@ -117,17 +119,17 @@ served_is_made p config end bytes all old new held now kept keeps start x =
 -- One reading. --------------------------------------------------------------------------------------------------------
 
 -- the connection is over behind these units, or none follows
-abbrev pub Stops : Policy → Made → ℕ → Stage → List StreamUnit → List ℕ → Type 0
+abbrev pub Stops : Rule → Made → ℕ → Stage → List StreamUnit → List ℕ → Type 0
 Stops p m max stage us rest = (is_dead (served_all p m us).connection.phase ≡ true) ⊎ IsRest max (due_behind stage us) rest
 
 -- Where it stops no unit follows.
-pub goes_no_further : (p : Policy) (m : Made) (max : ℕ) (stage : Stage) (u : StreamUnit) (rest more : List ℕ) → Stops p m max stage [] rest → is_dead m.connection.phase ≡ false → IsUnit max stage u →
+pub goes_no_further : (p : Rule) (m : Made) (max : ℕ) (stage : Stage) (u : StreamUnit) (rest more : List ℕ) → Stops p m max stage [] rest → is_dead m.connection.phase ≡ false → IsUnit max stage u →
     rest ≡ bytes_of u ++ more → ⊥
 goes_no_further p m max stage u rest more (inl dead) alive is e = absurd (true≢false (sym dead ∙ alive))
 goes_no_further p m max stage u rest more (inr none) alive is e = none.none u more is e
 
 -- of one stream the units are the same, and so is what is left
-same_units : (p : Policy) (max : ℕ) → 8 ≤ max → (m : Made) (stage : Stage) (us vs : List StreamUnit) (a b : List ℕ) → flat_map bytes_of us ++ a ≡ flat_map bytes_of vs ++ b →
+same_units : (p : Rule) (max : ℕ) → 8 ≤ max → (m : Made) (stage : Stage) (us vs : List StreamUnit) (a b : List ℕ) → flat_map bytes_of us ++ a ≡ flat_map bytes_of vs ++ b →
     AreUnits max stage us → AreUnits max stage vs → AreTimely p m us → AreTimely p m vs → Stops p m max stage us a → Stops p m max stage vs b → (us ≡ vs) × (a ≡ b)
 same_units p max least m stage [] [] a b e x y i j f g = (refl, e)
 same_units p max least m stage [] (v ∷ vs) a b e x y i j f g =
@@ -143,7 +145,7 @@ same_units p max least m stage (u ∷ us) (v ∷ vs) a b e x y i j f g =
     (ap (λ (w : StreamUnit). w ∷ us) first.0 ∙ ap (λ (ws : List StreamUnit). v ∷ ws) rest.0, rest.1)
 
 -- What is made of some bytes is one.
-pub one_made : (p : Policy) (config : Configured) (bytes : List ℕ) (m n : Made) (end end2 : End) → 8 ≤ config.max_frame →
+pub one_made : (p : Rule) (config : Configured) (bytes : List ℕ) (m n : Made) (end end2 : End) → 8 ≤ config.max_frame →
     IsMade p config bytes m end → IsMade p config bytes n end2 → (m ≡ n) × (end ≡ end2)
 one_made p config bytes m n end end2 least x y =
     let whole : (k : Made) (us : List StreamUnit) (rest : List ℕ) → k ≡ served_all p (first_made config) us →

@@ -13,7 +13,7 @@ use Rattle.amqp_endpoint.specs.Runs.{Run, IsStart, end_between}
 use Rattle.amqp_endpoint.specs.Steps.{EndpointState, IsKept}
 use Rattle.amqp_endpoint.specs.Traces.{AreInRange}
 use Rattle.amqp_endpoint.proofs.Fills.{fed_read}
-use Rattle.amqp_serve.specs.declared.serving.Policy.{Policy}
+use Rattle.amqp_serve.specs.declared.rules.Rule.{Rule}
 use Rattle.amqp_serve.specs.Cuts.{Made, IsMade, IsFront}
 use Rattle.amqp_serve.specs.Interrupted.{Interrupted, Never, Again}
 use Rattle.amqp_serve.specs.Serving.{Stand, Starved, Over, reading, finish_of, calls_of, answers_of, IsServed, IsIdle}
@@ -27,20 +27,20 @@ use Rattle.amqp_serve.proofs.Servings.{serves_on, run_of, ranges_of, kept_same, 
 -- The run with memory at first. ---------------------------------------------------------------------------------------
 
 -- Steps that led to a want of memory, as memory at first had made them, but for the unit that waits.
-record IsUntil (p : Policy) (old : EndpointState) (steps : List Step) (mid : EndpointState) : Type 0 where
+record IsUntil (p : Rule) (old : EndpointState) (steps : List Step) (mid : EndpointState) : Type 0 where
   last : EndpointState
   ample : IsAmple p reading old Starved last (fed steps) (moved steps) (recorded steps)
   kept : IsKept last mid
 
 -- nothing was done, or such steps
-abbrev Until : Policy → EndpointState → List Step → EndpointState → Type 0
+abbrev Until : Rule → EndpointState → List Step → EndpointState → Type 0
 Until p old steps mid = ((steps ≡ []) × (mid ≡ old)) ⊎ IsUntil p old steps mid
 
 starved_not_reading : reading ≡ Starved → ⊥
 starved_not_reading is = absurd (grind (arith, is))
 
 -- serving that goes on behind them
-module _ {p : Policy} {old mid t : EndpointState} {steps ys : List Step} {b : Stand} (least : 8 ≤ old.input.limit) (over : IsEnded b → ⊥) (u : IsUntil p old steps mid) (y : Serves p reading mid ys b t) where
+module _ {p : Rule} {old mid t : EndpointState} {steps ys : List Step} {b : Stand} (least : 8 ≤ old.input.limit) (over : IsEnded b → ⊥) (u : IsUntil p old steps mid) (y : Serves p reading mid ys b t) where
   abbrev Goes : Type 0
   Goes = StandsStill b u.last mid t ys ⊎ IsAmple p reading old b t (fed (steps ++ ys)) (moved (steps ++ ys)) (recorded (steps ++ ys))
 
@@ -61,7 +61,7 @@ module _ {p : Policy} {old mid t : EndpointState} {steps ys : List Step} {b : St
       )
 
 -- memory is refused first
-until_first : (p : Policy) (old mid last : EndpointState) (steps ys : List Step) (b : Stand) → steps ≡ [] → mid ≡ old → b ≡ Starved → Serves p reading mid ys b last →
+until_first : (p : Rule) (old mid last : EndpointState) (steps ys : List Step) (b : Stand) → steps ≡ [] → mid ≡ old → b ≡ Starved → Serves p reading mid ys b last →
     IsAmple p reading old Starved last (fed (steps ++ ys)) (moved (steps ++ ys)) (recorded (steps ++ ys))
 until_first p old mid last steps ys b none same is x = record {
   steps = ys;
@@ -72,7 +72,7 @@ until_first p old mid last steps ys b none same is x = record {
 }
 
 -- it is refused again
-until_again : (p : Policy) (old mid last : EndpointState) (steps ys : List Step) (b : Stand) → 8 ≤ old.input.limit → IsUntil p old steps mid → b ≡ Starved → Serves p reading mid ys b last →
+until_again : (p : Rule) (old mid last : EndpointState) (steps ys : List Step) (b : Stand) → 8 ≤ old.input.limit → IsUntil p old steps mid → b ≡ Starved → Serves p reading mid ys b last →
     IsAmple p reading old Starved last (fed (steps ++ ys)) (moved (steps ++ ys)) (recorded (steps ++ ys))
 until_again p old mid last steps ys b least u is x =
     elim (until_goes least (λ over. subst (λ (a : Stand). IsEnded a) is over) u x).1 [
@@ -80,7 +80,7 @@ until_again p old mid last steps ys b least u is x =
       | inr z ↦ subst (λ (a : Stand). IsAmple p reading old a last (fed (steps ++ ys)) (moved (steps ++ ys)) (recorded (steps ++ ys))) is z
     ]
 
-until : {p : Policy} {old mid : EndpointState} {held now kept keeps : Option (List ℕ)} {steps : List Step} → 8 ≤ old.input.limit → Interrupted p old held kept steps mid now keeps → Until p old steps mid
+until : {p : Rule} {old mid : EndpointState} {held now kept keeps : Option (List ℕ)} {steps : List Step} → 8 ≤ old.input.limit → Interrupted p old held kept steps mid now keeps → Until p old steps mid
 until least Never = inl (refl, refl)
 until least (Again {p} {old} {mid} {held} {now} {kept} {keeps} {steps} bytes new last lasts before x) =
     inr (record {
@@ -96,7 +96,7 @@ until least (Again {p} {old} {mid} {held} {now} {kept} {keeps} {steps} bytes new
 all_recorded : (steps : List Step) (noted unnoted : List ℕ) → recorded steps ≡ noted ++ unnoted → unnoted ≡ [] → noted ≡ recorded steps
 all_recorded steps noted unnoted is none = sym (is ∙ ap (λ (l : List ℕ). noted ++ l) none ∙ append-nil noted)
 
-all_written : {p : Policy} {old mid : EndpointState} {held now kept keeps : Option (List ℕ)} {steps : List Step} → Interrupted p old held kept steps mid now keeps →
+all_written : {p : Rule} {old mid : EndpointState} {held now kept keeps : Option (List ℕ)} {steps : List Step} → Interrupted p old held kept steps mid now keeps →
     Appends held now (moved steps) × Appends kept keeps (recorded steps)
 all_written (Never {p} {old} {held} {kept}) = (Appends-nil held, Appends-nil kept)
 all_written (Again {p} {old} {mid} {held} {now} {kept} {keeps} {steps} bytes new last lasts before x) =
@@ -112,7 +112,7 @@ waits_again a b c u x y w = let z = unchanged_on x y in waits_before c a u (reco
 
 -- The whole of it. ----------------------------------------------------------------------------------------------------
 
-module _ (p : Policy) (end : End) (more : List ℕ) (ended : Bool) (old mid new : EndpointState) (held now last kept keeps lasts : Option (List ℕ)) (steps : List Step) (least : 8 ≤ old.input.limit)
+module _ (p : Rule) (end : End) (more : List ℕ) (ended : Bool) (old mid new : EndpointState) (held now last kept keeps lasts : Option (List ℕ)) (steps : List Step) (least : 8 ≤ old.input.limit)
     (i : Interrupted p old held kept steps mid now keeps) (y : IsServed p end more ended mid new now last keeps lasts) where
   -- it is served over all bytes, and all that was written and recorded is what that moved out and recorded
   abbrev pub WholeOne : Type 0
@@ -158,7 +158,7 @@ module _ (p : Policy) (end : End) (more : List ℕ) (ended : Bool) (old mid new 
       ]
 
 -- At any moment before the end a beginning was moved out and recorded of what the units of the bytes make.
-pub interrupted_begins : (p : Policy) (config : Configured) (end : End) (unfed : List ℕ) (old mid t : EndpointState) (held now kept keeps : Option (List ℕ)) (steps ys : List Step) (b : Stand) (made : Made) →
+pub interrupted_begins : (p : Rule) (config : Configured) (end : End) (unfed : List ℕ) (old mid t : EndpointState) (held now kept keeps : Option (List ℕ)) (steps ys : List Step) (b : Stand) (made : Made) →
     8 ≤ config.max_frame → IsStart config old → Interrupted p old held kept steps mid now keeps → Serves p reading mid ys b t → (b ≡ Over → ⊥) →
     IsMade p config (fed (steps ++ ys) ++ unfed) made end → IsFront (moved (steps ++ ys)) made.written × IsFront (recorded (steps ++ ys)) made.recorded
 interrupted_begins p config end unfed old mid t held now kept keeps steps ys b made least start i y before is =
@@ -190,7 +190,7 @@ abbrev ends : ConnectionState → List ℕ → End
 ends c filled = if c.failed then ended.Failed else (if c.closed then ended.Closed else end_between (length filled))
 
 -- Steps from an endpoint are steps from one that was kept as it, unless there are none.
-from_kept : {p : Policy} {a b : Stand} {s t : EndpointState} {ys : List Step} → Serves p a s ys b t → a ≡ reading → (b ≡ a → ⊥) → (m : EndpointState) → IsKept m s → Serves p a m ys b t
+from_kept : {p : Rule} {a b : Stand} {s t : EndpointState} {ys : List Step} → Serves p a s ys b t → a ≡ reading → (b ≡ a → ⊥) → (m : EndpointState) → IsKept m s → Serves p a m ys b t
 from_kept Rests e other m k = absurd (other refl)
 from_kept (MovesOut {p} {a} {b} {s} next room bytes does x) e other m k =
     MovesOut next room bytes
@@ -230,18 +230,18 @@ record IsRunUntil (old mid : EndpointState) (steps : List Step) : Type 0 where
   range : AreInRange (calls_of steps)
   kept : IsKept last mid
 
-run_goes : {p : Policy} {old mid t : EndpointState} {steps ys : List Step} {b : Stand} → IsRunUntil old mid steps → (b ≡ reading → ⊥) → Serves p reading mid ys b t →
+run_goes : {p : Rule} {old mid t : EndpointState} {steps ys : List Step} {b : Stand} → IsRunUntil old mid steps → (b ≡ reading → ⊥) → Serves p reading mid ys b t →
     Run old (calls_of (steps ++ ys)) (answers_of (steps ++ ys)) t × AreInRange (calls_of (steps ++ ys))
 run_goes {p} {old} {mid} {t} {steps} {ys} {b} u other y =
     let z = from_kept y refl other u.last u.kept in (run_joins old u.last t steps ys u.run (run_of z), ranges_join steps ys u.range (ranges_of z))
 
-run_until : {p : Policy} {old mid : EndpointState} {held now kept keeps : Option (List ℕ)} {steps : List Step} → Interrupted p old held kept steps mid now keeps → IsRunUntil old mid steps
+run_until : {p : Rule} {old mid : EndpointState} {held now kept keeps : Option (List ℕ)} {steps : List Step} → Interrupted p old held kept steps mid now keeps → IsRunUntil old mid steps
 run_until (Never {p} {old} {held} {kept}) = record { last = old; run = refl; range = tt; kept = kept_same old }
 run_until (Again {p} {old} {mid} {held} {now} {kept} {keeps} {steps} bytes new last lasts before x) =
     let y = run_goes (run_until before) (λ e. starved_not_reading (sym e ∙ x.left.0)) x.serves in record { last = x.last; run = y.0; range = y.1; kept = x.same }
 
 -- and so are all of them
-pub interrupted_runs : (p : Policy) (end : End) (more : List ℕ) (ended : Bool) (old mid new : EndpointState) (held now last kept keeps lasts : Option (List ℕ)) (steps : List Step) →
+pub interrupted_runs : (p : Rule) (end : End) (more : List ℕ) (ended : Bool) (old mid new : EndpointState) (held now last kept keeps lasts : Option (List ℕ)) (steps : List Step) →
     Interrupted p old held kept steps mid now keeps → (y : IsServed p end more ended mid new now last keeps lasts) →
     Run old (calls_of (steps ++ y.steps ++ finish_of end ∷ [])) (answers_of (steps ++ y.steps ++ finish_of end ∷ [])) new × AreInRange (calls_of (steps ++ y.steps ++ finish_of end ∷ []))
 interrupted_runs p end more ended old mid new held now last kept keeps lasts steps i y =

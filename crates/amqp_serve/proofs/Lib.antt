@@ -1,4 +1,5 @@
 pub mod Servings
+pub mod Deeds
 pub mod ServingRecords
 pub mod ServingTops
 pub mod ServingFeeds
@@ -6,9 +7,14 @@ pub mod ServingReads
 pub mod ServingMessages
 pub mod CutTops
 pub mod Supplied
+pub mod Looks
+pub mod Settles
+pub mod OneLink
+pub mod Stepping
 pub mod CutSteps
 pub mod CutRuns
 pub mod Cuts
+pub mod Ends
 pub mod CutFronts
 pub mod Ready
 pub mod AllTaken

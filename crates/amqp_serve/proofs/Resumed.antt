@@ -18,9 +18,10 @@ use Rattle.amqp_endpoint.specs.Runs.{Call, Feed, InSession, Output, Answer, Fed,
 use Rattle.amqp_endpoint.specs.Steps as steps
 use Rattle.amqp_endpoint.specs.Steps.{EndpointState, IsKept, IsActed, IsFed, Acts, Comes, acted_after, acted_outcome, room_for, told_outcome}
 use Rattle.amqp_endpoint.specs.Traces.{IsInRange, moved_by, taken_by}
-use Rattle.amqp_serve.specs.declared.serving.Policy.{Policy}
+use Rattle.amqp_serve.specs.declared.rules.Rule.{Rule}
 use Rattle.amqp_serve.specs.Cuts.{supply_channel, call_for}
-use Rattle.amqp_serve.specs.Serving.{Supply, Stand, ToppingUp, Settling, Starved, Over, reading, all_supplies, stand_told, stand_taken, lack, top_up_by}
+use Rattle.amqp_serve.specs.Serving.{Stand, ToppingUp, Settling, Starved, Over, reading, all_supplies, stand_told, stand_taken, lack, top_up_by}
+use Rattle.amqp_serve.specs.declared.supplies.Supply.{Supply}
 use Rattle.amqp_serve.specs.Serving.{Step, Serves, Rests, MovesOut, Feeds, Takes, Settles, TopsUp, Passes, Finishes, recorded_by, fed, moved, recorded}
 use Rattle.amqp_serve.proofs.CutRuns.{IsEnded, ended}
 use Rattle.amqp_serve.proofs.CutSteps.{top_call}
@@ -145,7 +146,7 @@ nothing_on s next t room bytes xs none x = record {
 }
 
 -- once memory was refused nothing is done
-starved_stays : {p : Policy} {a b : Stand} {s t : EndpointState} {xs : List Step} → Serves p a s xs b t → a ≡ Starved → s.unsent ≡ [] → DoNothing s t xs
+starved_stays : {p : Rule} {a b : Stand} {s t : EndpointState} {xs : List Step} → Serves p a s xs b t → a ≡ Starved → s.unsent ≡ [] → DoNothing s t xs
 starved_stays (Rests {p} {a} {s}) e none = record { kept = kept_same s; fed = refl; moved = refl; recorded = refl }
 starved_stays (MovesOut {p} {a} {b} {s} {last} {steps} next room bytes does x) e none =
     let n = moved_none s next room bytes does none in nothing_on s next last room bytes steps n (starved_stays x e (n.1.unsent ∙ none))
@@ -159,7 +160,7 @@ starved_stays (Finishes next end silent does x) e none = absurd (grind (arith, e
 -- Serving with memory at first. -----------------------------------------------------------------------------------------
 
 -- It is served so that these bytes are fed, moved out and recorded.
-pub record IsAmple (p : Policy) (a : Stand) (s : EndpointState) (b : Stand) (t : EndpointState) (bytes wrote noted : List ℕ) : Type 0 where
+pub record IsAmple (p : Rule) (a : Stand) (s : EndpointState) (b : Stand) (t : EndpointState) (bytes wrote noted : List ℕ) : Type 0 where
   pub steps : List Step
   pub serves : Serves p a s steps b t
   pub fed : fed steps ≡ bytes
@@ -167,7 +168,7 @@ pub record IsAmple (p : Policy) (a : Stand) (s : EndpointState) (b : Stand) (t :
   pub recorded : recorded steps ≡ noted
 
 -- Serving that goes on tries the unit again, unless it does nothing.
-resumes : {p : Policy} {a b : Stand} {s t : EndpointState} {ys : List Step} → Serves p a s ys b t → a ≡ reading → (IsEnded b → ⊥) → (first m : EndpointState) (piece : List ℕ) (used : ℕ) →
+resumes : {p : Rule} {a b : Stand} {s t : EndpointState} {ys : List Step} → Serves p a s ys b t → a ≡ reading → (IsEnded b → ⊥) → (first m : EndpointState) (piece : List ℕ) (used : ℕ) →
     IsInRange (Feed piece) → IsWanting first m piece used → IsKept m s → ((b ≡ reading) × DoNothing s t ys) ⊎ IsAmple p reading first b t (take used piece ++ fed ys) (moved ys) (recorded ys)
 resumes (Rests {p} {a} {s}) e over first m piece used range w k = inl (e, record { kept = kept_same s; fed = refl; moved = refl; recorded = refl })
 resumes (MovesOut {p} {a} {b} {s} {last} {steps} next room bytes does x) e over first m piece used range w k =
@@ -200,14 +201,14 @@ pub record StandsStill (b : Stand) (m n t : EndpointState) (ys : List Step) : Ty
   pub waits : Waits m.input unit
 
 -- Two runs are one with memory at first, unless the second does nothing.
-pub record IsJoined (p : Policy) (a : Stand) (s m : EndpointState) (xs : List Step) (n : EndpointState) (b : Stand) (t : EndpointState) (ys : List Step) : Type 0 where
+pub record IsJoined (p : Rule) (a : Stand) (s m : EndpointState) (xs : List Step) (n : EndpointState) (b : Stand) (t : EndpointState) (ys : List Step) : Type 0 where
   pub alive : is_dead m.connection.phase ≡ false
   pub goes : StandsStill b m n t ys ⊎ IsAmple p a s b t (fed xs ++ fed ys) (moved xs ++ moved ys) (recorded xs ++ recorded ys)
 
-abbrev OneMore : Policy → Stand → EndpointState → Stand → EndpointState → Step → Stand → EndpointState → Type 0
+abbrev OneMore : Rule → Stand → EndpointState → Stand → EndpointState → Step → Stand → EndpointState → Type 0
 OneMore p a s c next x b t = (zs : List Step) → Serves p c next zs b t → Serves p a s (x ∷ zs) b t
 
-joined_more : {p : Policy} {a c b : Stand} {s next m n t : EndpointState} {xs ys : List Step} (x : Step) → OneMore p a s c next x b t → IsJoined p c next m xs n b t ys →
+joined_more : {p : Rule} {a c b : Stand} {s next m n t : EndpointState} {xs ys : List Step} (x : Step) → OneMore p a s c next x b t → IsJoined p c next m xs n b t ys →
     IsJoined p a s m (x ∷ xs) n b t ys
 joined_more {xs} {ys} x on j = record {
   alive = j.alive;
@@ -247,12 +248,12 @@ taken_starves config channel answer is = absurd (grind (arith, is))
 never_topping : (supplies : List Supply) → ToppingUp supplies ≡ Starved → ⊥
 never_topping supplies is = absurd (grind (arith, is))
 
-never_over : {p : Policy} {s t : EndpointState} {b : Stand} {xs : List Step} → Serves p Over s xs b t → b ≡ Starved → ⊥
+never_over : {p : Rule} {s t : EndpointState} {b : Stand} {xs : List Step} → Serves p Over s xs b t → b ≡ Starved → ⊥
 never_over x is = subst (λ (a : Stand). IsEnded a) is (ended x tt)
 
 module _ {b : Stand} {n t : EndpointState} {ys : List Step} (over : IsEnded b → ⊥) where
   -- the piece whose unit waits, and what goes on from there
-  wanting_joined : {p : Policy} {c : Stand} {s next m : EndpointState} {xs : List Step} (piece : List ℕ) (used : ℕ) (told : Outcome) → IsInRange (Feed piece) → IsWanting s next piece used →
+  wanting_joined : {p : Rule} {c : Stand} {s next m : EndpointState} {xs : List Step} (piece : List ℕ) (used : ℕ) (told : Outcome) → IsInRange (Feed piece) → IsWanting s next piece used →
       told ≡ outcome.NoMemory → Serves p (stand_told next.connection.config told) next xs c m → IsKept m n → Serves p reading n ys b t →
       IsJoined p reading s m (record { call = Feed piece; answer = Fed used told } ∷ xs) n b t ys
   wanting_joined {p} {c} {s} {next} {m} {xs} piece used told range w is x k y =
@@ -279,7 +280,7 @@ module _ {b : Stand} {n t : EndpointState} {ys : List Step} (over : IsEnded b �
       }
 
   -- Two runs are joined where the first ends at a want of memory.
-  pub joined : {p : Policy} {a c : Stand} {s m : EndpointState} {xs : List Step} → Serves p a s xs c m → (a ≡ Starved → ⊥) → c ≡ Starved → 8 ≤ s.input.limit → IsKept m n → Serves p reading n ys b t →
+  pub joined : {p : Rule} {a c : Stand} {s m : EndpointState} {xs : List Step} → Serves p a s xs c m → (a ≡ Starved → ⊥) → c ≡ Starved → 8 ≤ s.input.limit → IsKept m n → Serves p reading n ys b t →
       IsJoined p a s m xs n b t ys
   joined Rests fine is least k y = absurd (fine is)
   joined (MovesOut {p} {s} next room bytes does x) fine is least k y =

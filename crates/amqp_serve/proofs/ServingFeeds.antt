@@ -12,7 +12,7 @@ use Rattle.amqp_frame.proofs.Fronts.{header_exact, frame_length, waits_or_not}
 use Rattle.amqp_endpoint.specs.declared.event.Event.{Event}
 use Rattle.amqp_endpoint.specs.declared.event.Outcome.{Outcome}
 use Rattle.amqp_endpoint.specs.declared.event.Outcome.TheVariants as outcome
-use Rattle.amqp_serve.specs.declared.serving.Policy.{Policy}
+use Rattle.amqp_serve.specs.declared.rules.Rule.{Rule}
 use Rattle.amqp_endpoint.specs.Connections.{ConnectionState, is_dead}
 use Rattle.amqp_endpoint.specs.Lines.{line_of, told_on, may_grow_on}
 use Rattle.amqp_endpoint.specs.Runs.{Feed, Fed, Does}
@@ -118,14 +118,14 @@ idle_wants s idle over (inl one) = idle one.unit one.stands
 idle_wants s idle over (inr gone) = over gone
 
 -- the front of bytes is of bytes
-bytes_in_front : (xs : List ℕ) (n : ℕ) → ((i : ℕ) → slice_index xs i < 256) → (i : ℕ) → slice_index (take n xs) i < 256
+pub bytes_in_front : (xs : List ℕ) (n : ℕ) → ((i : ℕ) → slice_index xs i < 256) → (i : ℕ) → slice_index (take n xs) i < 256
 bytes_in_front xs zero bytes i = let none : slice_index (take 0 xs) i ≡ 0 = refl in omega (arith, none)
 bytes_in_front [] (suc n) bytes i = bytes i
 bytes_in_front (x ∷ xs) (suc n) bytes zero = bytes zero
 bytes_in_front (x ∷ xs) (suc n) bytes (suc i) = bytes_in_front xs n (λ j. bytes (suc j)) i
 
 -- the front of a front
-take_twice : (n : ℕ) (xs : List ℕ) → take n (take n xs) ≡ take n xs
+pub take_twice : (n : ℕ) (xs : List ℕ) → take n (take n xs) ≡ take n xs
 take_twice n xs = let long = length-take n xs in take_all n (take n xs) (omega (arith, long))
 
 -- what was read stands at the front of the room
@@ -143,8 +143,8 @@ pub front_short : (front bytes : List ℕ) → front ≡ take (length front) byt
 front_short front bytes is = let long = length-take (length front) bytes in let same = ap length is in omega (arith, long, same)
 
 -- what a feed took of a piece was served
-pub fed_served : ((s t u : EndpointState) (piece : List ℕ) (used : ℕ) (told : Outcome) → IsKept s t → IsFed t u piece used told → Does s u (Feed piece) (Fed used told))
-    → (p : Policy) (s t u : EndpointState) (piece : List ℕ) (used : ℕ) (told : Outcome) (w k : Option (List ℕ)) → t.unsent ≡ [] → ((i : ℕ) → slice_index piece i < 256) → IsKept s t
+unfoldable pub fed_served : ((s t u : EndpointState) (piece : List ℕ) (used : ℕ) (told : Outcome) → IsKept s t → IsFed t u piece used told → Does s u (Feed piece) (Fed used told))
+    → (p : Rule) (s t u : EndpointState) (piece : List ℕ) (used : ℕ) (told : Outcome) (w k : Option (List ℕ)) → t.unsent ≡ [] → ((i : ℕ) → slice_index piece i < 256) → IsKept s t
     → IsFed t u piece used told → Served p reading (stand_told u.connection.config told) (take used piece) s u w w k k
 fed_served law p s t u piece used told w k none bytes kept x = record {
   steps = record { call = Feed piece; answer = Fed used told } ∷ [];
@@ -153,11 +153,3 @@ fed_served law p s t u piece used told w k none bytes kept x = record {
   written = Appends-nil w;
   recorded = Appends-nil k;
 }
-
--- what was read into the room and fed was
-pub read_served : ((s t u : EndpointState) (piece : List ℕ) (used : ℕ) (told : Outcome) → IsKept s t → IsFed t u piece used told → Does s u (Feed piece) (Fed used told))
-    → (p : Policy) (s t u : EndpointState) (n : ℕ) (told : Outcome) (w k : Option (List ℕ)) → t.unsent ≡ [] → ((i : ℕ) → slice_index t.input.spare i < 256) → IsKept s t
-    → IsFed t u (take n t.input.spare) n told → Served p reading (stand_told u.connection.config told) (take n t.input.spare) s u w w k k
-read_served law p s t u n told w k none bytes kept x =
-    subst (λ (l : List ℕ). Served p reading (stand_told u.connection.config told) l s u w w k k) (take_twice n t.input.spare)
-    (fed_served law p s t u (take n t.input.spare) n told w k none (bytes_in_front t.input.spare n bytes) kept x)

@@ -1,24 +1,26 @@
 -- Serving that goes on, or breaks off.
-use Rattle.std.proofs.Common.{◌≡◌, ℕ, ◌≤◌, ◌⊎◌, inl, inr, List, [], ◌∷◌, ◌++◌, Option, length, take, drop, refl, sym, ap, subst, ◌∙◌, append_assoc, append-nil, ◌+◌, map}
-use Rattle.std.proofs.Common.{Result, Ok, Err, OnOk, OnErr, IfErr}
+use Rattle.std.proofs.Common.{◌≡◌, ℕ, ◌≤◌, ◌⊎◌, inl, inr, List, [], ◌∷◌, ◌++◌, Option, length, take, drop, refl, sym, ap, subst, ◌∙◌, append_assoc, append-nil, map, OnErr}
+use Rattle.std.proofs.Common.{Result, Ok, Err, IfErr}
 use Rattle.std.proofs.KnownBytes.{Appends-nil, Appends-trans, Appends-kept}
 use Rattle.std.proofs.lemmas.Grind.{flat_map-append}
 use Rattle.std.proofs.lemmas.List.{take-append-le}
 use Rattle.std.specs.Io.KnownBytes.{Keeps, Appends}
 use Rattle.amqp_frame.specs.Splits.{SplitterState, IsUnchanged}
-use Rattle.amqp_serve.specs.declared.serving.Policy.{Policy}
+use Rattle.amqp_serve.specs.declared.rules.Rule.{Rule}
 use Rattle.amqp_serve.specs.declared.serving.ServeFault.{ServeFault}
 use Rattle.amqp_serve.specs.declared.serving.ServeFault.TheVariants as fault
 use Rattle.amqp_endpoint.specs.Runs.{InSession, Output, HandedUp, MovedOut, Does, Run}
 use Rattle.amqp_session.specs.Calls.{Take}
-use Rattle.amqp_serve.specs.Serving.{Stand, Step, Serves, Rests, MovesOut, Feeds, Takes, Settles, TopsUp, Passes, Finishes, Supply, WindowOf, CreditOf, lack, top_up_by, recorded_by, fed}
+use Rattle.amqp_serve.specs.Serving.{Stand, Step, Serves, Rests, MovesOut, Feeds, Takes, Settles, TopsUp, Passes, Finishes, lack, top_up_by, recorded_by, fed}
+use Rattle.amqp_serve.specs.declared.supplies.Supply.{Supply}
+use Rattle.amqp_serve.specs.declared.supplies.Supply.TheVariants.{WindowOf, CreditOf}
 use Rattle.amqp_serve.specs.Serving.{moved, recorded, Served, IsLeft, BrokeOff, Works}
 use Rattle.amqp_frame.specs.Devices.{AppendsFront}
 use Rattle.amqp_endpoint.specs.Steps.{EndpointState, IsKept}
 use Rattle.amqp_endpoint.specs.Traces.{IsInRange, AreInRange, moved_by, taken_by}
 
 -- one list of steps behind another
-pub serves_on : {p : Policy} {a b c : Stand} {s t u : EndpointState} {xs ys : List Step} → Serves p a s xs b t → Serves p b t ys c u → Serves p a s (xs ++ ys) c u
+pub serves_on : {p : Rule} {a b c : Stand} {s t u : EndpointState} {xs ys : List Step} → Serves p a s xs b t → Serves p b t ys c u → Serves p a s (xs ++ ys) c u
 serves_on Rests y = y
 serves_on (MovesOut next room bytes does x) y = MovesOut next room bytes does (serves_on x y)
 serves_on (Feeds next piece used told none bytes does x) y = Feeds next piece used told none bytes does (serves_on x y)
@@ -29,7 +31,7 @@ serves_on (Passes supply supplies lacks x) y = Passes supply supplies lacks (ser
 serves_on (Finishes next end none does x) y = Finishes next end none does (serves_on x y)
 
 -- what is served is a run
-pub run_of : {p : Policy} {a b : Stand} {s t : EndpointState} {xs : List Step} → Serves p a s xs b t → Run s (map (λ x. x.call) xs) (map (λ x. x.answer) xs) t
+pub run_of : {p : Rule} {a b : Stand} {s t : EndpointState} {xs : List Step} → Serves p a s xs b t → Run s (map (λ x. x.call) xs) (map (λ x. x.answer) xs) t
 run_of Rests = refl
 run_of (MovesOut next room bytes does x) = (next, does, run_of x)
 run_of (Feeds next piece used told none bytes does x) = (next, does, run_of x)
@@ -44,7 +46,7 @@ top_up_ranges (WindowOf channel) n = tt
 top_up_ranges (CreditOf channel handle) n = tt
 
 -- and its calls are in range
-pub ranges_of : {p : Policy} {a b : Stand} {s t : EndpointState} {xs : List Step} → Serves p a s xs b t → AreInRange (map (λ x. x.call) xs)
+pub ranges_of : {p : Rule} {a b : Stand} {s t : EndpointState} {xs : List Step} → Serves p a s xs b t → AreInRange (map (λ x. x.call) xs)
 ranges_of Rests = tt
 ranges_of (MovesOut next room bytes does x) = (tt, ranges_of x)
 ranges_of (Feeds next piece used told none bytes does x) = (bytes, ranges_of x)
@@ -83,9 +85,9 @@ left_on fault.Sink stand xs ys noted unnoted (inr b) = inr (record {
 })
 left_on fault.NoMemory stand xs ys noted unnoted x = x
 
-module _ {p : Policy} {a b : Stand} {bytes : List ℕ} {s t u : EndpointState} {w w1 w2 k k1 k2 : Option (List ℕ)} where
+module _ {p : Rule} {a b : Stand} {bytes : List ℕ} {s t u : EndpointState} {w w1 w2 k k1 k2 : Option (List ℕ)} where
   -- serving goes on
-  pub served_on : {c : Stand} {more : List ℕ} → Served p a b bytes s t w w1 k k1 → Served p b c more t u w1 w2 k1 k2 → Served p a c (bytes ++ more) s u w w2 k k2
+  unfoldable pub served_on : {c : Stand} {more : List ℕ} → Served p a b bytes s t w w1 k k1 → Served p b c more t u w1 w2 k1 k2 → Served p a c (bytes ++ more) s u w w2 k k2
   served_on x y = record {
     steps = x.steps ++ y.steps;
     serves = serves_on x.serves y.serves;
@@ -111,29 +113,42 @@ module _ {p : Policy} {a b : Stand} {bytes : List ℕ} {s t u : EndpointState} {
     left = left_on e y.stand x.steps y.steps y.noted y.unnoted y.left;
   }
 
+  pub broke_then : {e : ServeFault} → Served p a b bytes s t w w1 k k1 → BrokeOff p e b [] t u w1 w2 k1 k2 → BrokeOff p e a bytes s u w w2 k k2
+  broke_then {e} x y = subst (λ (l : List ℕ). BrokeOff p e a l s u w w2 k k2) (append-nil bytes) (broke_on x y)
+
 -- A splitter that is unchanged twice is unchanged.
 pub unchanged_on : {a b c : SplitterState} → IsUnchanged a b → IsUnchanged b c → IsUnchanged a c
 unchanged_on x y = record { limit = y.limit ∙ x.limit; stage = y.stage ∙ x.stage; filled = y.filled ∙ x.filled }
 
-module _ {p : Policy} {a b : Stand} {s t u : EndpointState} {w w1 w2 k k1 k2 : Option (List ℕ)} where
+module _ {p : Rule} {a b : Stand} {s t u : EndpointState} {w w1 w2 k k1 k2 : Option (List ℕ)} where
   -- the same with no piece fed
-  pub works_on : {c : Stand} → Works p a b s t w w1 k k1 → Works p b c t u w1 w2 k1 k2 → Works p a c s u w w2 k k2
+  unfoldable pub works_on : {c : Stand} → Works p a b s t w w1 k k1 → Works p b c t u w1 w2 k1 k2 → Works p a c s u w w2 k k2
   works_on x y = record { served = served_on x.served y.served; input = unchanged_on x.input y.input }
+
+  -- the same behind a piece that was fed
+  unfoldable pub served_then : {c : Stand} {bytes : List ℕ} → Served p a b bytes s t w w1 k k1 → Works p b c t u w1 w2 k1 k2 → Served p a c bytes s u w w2 k k2
+  served_then {c} {bytes} x y =
+      let z = served_on x y.served in
+      record { steps = z.steps; serves = z.serves; fed = z.fed ∙ append-nil bytes; written = z.written; recorded = z.recorded }
 
   -- and it breaks off
   pub works_broke : {e : ServeFault} → Works p a b s t w w1 k k1 → BrokeOff p e b [] t u w1 w2 k1 k2 → BrokeOff p e a [] s u w w2 k k2
   works_broke x y = broke_on x.served y
 
--- nothing is done
-pub works_none : (p : Policy) (a : Stand) (s : EndpointState) (w k : Option (List ℕ)) → Works p a a s s w w k k
-works_none p a s w k = record {
-  served = record { steps = []; serves = Rests; fed = refl; written = Appends-nil w; recorded = Appends-nil k };
+-- steps that make no call
+unfoldable pub works_silent : (p : Rule) (a b : Stand) (s : EndpointState) (w k : Option (List ℕ)) → Serves p a s [] b s → Works p a b s s w w k k
+works_silent p a b s w k serves = record {
+  served = record { steps = []; serves = serves; fed = refl; written = Appends-nil w; recorded = Appends-nil k };
   input = record { limit = refl; stage = refl; filled = refl };
 }
 
-module _ (p : Policy) (a b : Stand) (s t : EndpointState) (w w1 w2 k k1 k2 : Option (List ℕ)) (x : Works p a b s t w w1 k k1) (answers : Keeps w1 w2) (records : Keeps k1 k2) where
+-- nothing is done
+unfoldable pub works_none : (p : Rule) (a : Stand) (s : EndpointState) (w k : Option (List ℕ)) → Works p a a s s w w k k
+works_none p a s w k = works_silent p a a s w k Rests
+
+module _ (p : Rule) (a b : Stand) (s t : EndpointState) (w w1 w2 k k1 k2 : Option (List ℕ)) (x : Works p a b s t w w1 k k1) (answers : Keeps w1 w2) (records : Keeps k1 k2) where
   -- a flush of both does nothing
-  pub works_flushed : Works p a b s t w w2 k k2
+  unfoldable pub works_flushed : Works p a b s t w w2 k k2
   works_flushed = record {
     served = record {
       steps = x.served.steps;
@@ -163,7 +178,7 @@ module _ (p : Policy) (a b : Stand) (s t : EndpointState) (w w1 w2 k k1 k2 : Opt
   }
 
 -- one call that feeds nothing and moves nothing out
-pub works_one : (p : Policy) (a b : Stand) (s t : EndpointState) (w k k1 : Option (List ℕ)) (x : Step) → Serves p a s (x ∷ []) b t → taken_by x.call x.answer ≡ [] → moved_by
+unfoldable pub works_one : (p : Rule) (a b : Stand) (s t : EndpointState) (w k k1 : Option (List ℕ)) (x : Step) → Serves p a s (x ∷ []) b t → taken_by x.call x.answer ≡ [] → moved_by
     x.answer ≡ [] → Appends k k1 (recorded_by x.call x.answer) → IsUnchanged s.input t.input
     → Works p a b s t w w k k1
 works_one p a b s t w k k1 x serves none silent noted input = record {
@@ -178,7 +193,7 @@ works_one p a b s t w k k1 x serves none silent noted input = record {
 }
 
 -- So many bytes were moved out.
-moved_out : (s t : EndpointState) (n : ℕ) → t ≡ record s { unsent = drop n s.unsent } → Does s t (Output n) (MovedOut (take n s.unsent))
+pub moved_out : (s t : EndpointState) (n : ℕ) → t ≡ record s { unsent = drop n s.unsent } → Does s t (Output n) (MovedOut (take n s.unsent))
 moved_out s t n is = record {
   input = record { limit = ap (λ (x : EndpointState). x.input.limit) is; stage = ap (λ (x : EndpointState). x.input.stage) is; filled = ap (λ (x : EndpointState). x.input.filled) is };
   moved = refl;
@@ -187,7 +202,7 @@ moved_out s t n is = record {
 }
 
 -- and written
-pub works_moved : (p : Policy) (a : Stand) (s t : EndpointState) (n : ℕ) (w w1 k : Option (List ℕ)) → t ≡ record s { unsent = drop n s.unsent } → Appends w w1 (take n s.unsent) → Works
+unfoldable pub works_moved : (p : Rule) (a : Stand) (s t : EndpointState) (n : ℕ) (w w1 k : Option (List ℕ)) → t ≡ record s { unsent = drop n s.unsent } → Appends w w1 (take n s.unsent) → Works
     p a a s t w w1 k k
 works_moved p a s t n w w1 k is written = record {
   served = record {
@@ -238,23 +253,3 @@ part_behind_failed (Err e) k k1 k2 head bytes before part = part_behind k k1 k2 
 -- what holds of an error holds where there is that error
 pub if_err : {X E : Type 0} (r : Result X E) (F : E → Type 0) (e : E) → r ≡ Err e → F e → IfErr r F
 if_err r F e is f = subst (λ (x : Result _ _). IfErr x F) (sym is) f
-
--- what follows from what holds where there is no fault
-pub on_ok : {X E : Type 0} (r : Result X E) (F G : Type 0) → (F → G) → OnOk r F → OnOk r G
-on_ok (Ok x) F G f h = f h
-on_ok (Err e) F G f h = tt
-
--- what holds of the one fault that there can be
-pub only_err : {X E : Type 0} (r : Result X E) (F : E → Type 0) (e : E) (G : Type 0) → OnErr r (r ≡ Err e) → (G → F e) → OnErr r G → IfErr r F
-only_err (Ok x) F e G is f h = tt
-only_err (Err d) F e G is f h = let same : e ≡ d = cc in subst F same (f h)
-
--- what follows from two things that hold there
-pub on_ok2 : {X E : Type 0} (r : Result X E) (F G H : Type 0) → (F → G → H) → OnOk r F → OnOk r G → OnOk r H
-on_ok2 (Ok x) F G H f h i = f h i
-on_ok2 (Err e) F G H f h i = tt
-
--- what follows from what holds of a fault
-pub on_fault : {X E : Type 0} (r : Result X E) (F G : E → Type 0) → ((e : E) → F e → G e) → IfErr r F → IfErr r G
-on_fault (Ok x) F G f h = tt
-on_fault (Err e) F G f h = f e h

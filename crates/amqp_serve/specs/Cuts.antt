@@ -8,14 +8,16 @@ use Rattle.amqp_session.specs.Calls.{Widen, Grant, Take, Settle}
 use Rattle.amqp_endpoint.specs.declared.event.End.{End}
 use Rattle.amqp_endpoint.specs.declared.event.End.TheVariants as ended
 use Rattle.amqp_endpoint.specs.declared.fault.CallFault.{CallFault}
-use Rattle.amqp_serve.specs.declared.serving.Policy.{Policy}
+use Rattle.amqp_serve.specs.declared.rules.Rule.{Rule}
 use Rattle.amqp_endpoint.specs.Calls.{call_fault, call_event, call_spoken}
 use Rattle.amqp_endpoint.specs.Configs.{Configured}
 use Rattle.amqp_endpoint.specs.Connections.{ConnectionState, connection_begins, connection_after, slot_at, is_dead}
 use Rattle.amqp_endpoint.specs.Lines.{line_of}
 use Rattle.amqp_endpoint.specs.Replies.{joined, reply_on}
 use Rattle.amqp_endpoint.specs.Runs.{InSession, Answer, Refused, accepted_answer, end_between}
-use Rattle.amqp_serve.specs.Serving.{Supply, WindowOf, CreditOf, lack, all_supplies, Stand, ToppingUp, Receiving, Settling, Starved, Over, stand_told, stand_taken, recorded_by}
+use Rattle.amqp_serve.specs.Serving.{lack, all_supplies, Stand, ToppingUp, Receiving, Settling, Starved, Over, stand_told, stand_taken, recorded_by}
+use Rattle.amqp_serve.specs.declared.supplies.Supply.{Supply}
+use Rattle.amqp_serve.specs.declared.supplies.Supply.TheVariants.{WindowOf, CreditOf}
 use Rattle.amqp_endpoint.specs.Steps.{acted_after, acted_outcome}
 
 -- A connection, with all that was written and all that was recorded until then.
@@ -62,22 +64,22 @@ topped_by zero m supply = m
 topped_by (suc n) m supply = called m (supply_channel supply) (call_for supply (suc n))
 
 -- a supply is given what it lacks
-abbrev pub topped : Policy → Made → Supply → Made
+abbrev pub topped : Rule → Made → Supply → Made
 topped p m supply = topped_by (lack p m.connection supply) m supply
 
 -- these supplies, one after another
-abbrev pub all_topped : Policy → List Supply → Made → Made
+abbrev pub all_topped : Rule → List Supply → Made → Made
 all_topped p [] m = m
 all_topped p (supply ∷ supplies) m = all_topped p supplies (topped p m supply)
 
 -- all supplies of the connection
-abbrev pub topped_up : Policy → Made → Made
+abbrev pub topped_up : Rule → Made → Made
 topped_up p m = all_topped p (all_supplies m.connection.config) m
 
 -- What is done from a stand on, until the next piece is fed. ------------------------------------------------------------
 
 -- once a message was taken
-abbrev pub done_taken : Policy → Stand → Made → Made
+abbrev pub done_taken : Rule → Stand → Made → Made
 done_taken p (ToppingUp supplies) m = all_topped p supplies m
 done_taken p (Receiving channel handle) m = m  -- no take leads there, nor to the last two
 done_taken p (Settling channel id) m = topped_up p (called m channel (Settle id p.outcome))
@@ -85,7 +87,7 @@ done_taken p Starved m = m
 done_taken p Over m = m
 
 -- a message that is ready is taken first
-abbrev pub done_from : Policy → Stand → Made → Made
+abbrev pub done_from : Rule → Stand → Made → Made
 done_from p (Receiving channel handle) m =
     let after = called m channel (Take handle) in done_taken p (stand_taken after.connection.config channel (answer_at m.connection channel (Take handle))) after
 done_from p stand m = done_taken p stand m
@@ -97,15 +99,15 @@ abbrev pub answered : Made → StreamUnit → Made
 answered m u = record m { connection = acted_after m.connection u; written = m.written ++ reply_on m.connection (line_of m.connection u) }
 
 -- and what follows from it is done
-abbrev pub served_one : Policy → Made → StreamUnit → Made
+abbrev pub served_one : Rule → Made → StreamUnit → Made
 served_one p m u = done_from p (stand_told (acted_after m.connection u).config (acted_outcome m.connection u)) (answered m u)
 
-abbrev pub served_all : Policy → Made → List StreamUnit → Made
+abbrev pub served_all : Rule → Made → List StreamUnit → Made
 served_all p m [] = m
 served_all p m (u ∷ us) = served_all p (served_one p m u) us
 
 -- the connection is not over before any of them
-abbrev pub AreTimely : Policy → Made → List StreamUnit → Type 0
+abbrev pub AreTimely : Rule → Made → List StreamUnit → Type 0
 AreTimely p m [] = Unit {0}
 AreTimely p m (u ∷ us) = (is_dead m.connection.phase ≡ false) × AreTimely p (served_one p m u) us
 
@@ -124,7 +126,7 @@ abbrev pub end_with : ConnectionState → List ℕ → End
 end_with s buffer = if s.failed then ended.Failed else (if s.closed then ended.Closed else end_between (length buffer))
 
 -- The bytes are units and a rest; the units served one by one, until the connection is over or none is left, make this of a new connection, and it ends so.
-pub record IsMade (p : Policy) (config : Configured) (bytes : List ℕ) (made : Made) (end : End) : Type 0 where
+pub record IsMade (p : Rule) (config : Configured) (bytes : List ℕ) (made : Made) (end : End) : Type 0 where
   pub units : List StreamUnit
   pub rest : List ℕ
   pub joined : bytes ≡ flat_map bytes_of units ++ rest

@@ -15,8 +15,10 @@ use Rattle.amqp_endpoint.specs.declared.event.End.{End}
 use Rattle.amqp_endpoint.specs.declared.event.Event.TheVariants as event
 use Rattle.amqp_endpoint.specs.declared.event.Outcome.{Outcome}
 use Rattle.amqp_endpoint.specs.declared.event.Outcome.TheVariants as outcome
-use Rattle.amqp_serve.specs.declared.serving.Policy.{Policy}
+use Rattle.amqp_serve.specs.declared.rules.Rule.{Rule}
 use Rattle.amqp_serve.specs.declared.serving.ServeFault.{ServeFault}
+use Rattle.amqp_serve.specs.declared.supplies.Supply.{Supply}
+use Rattle.amqp_serve.specs.declared.supplies.Supply.TheVariants.{WindowOf, CreditOf}
 use Rattle.amqp_serve.specs.declared.serving.ServeFault.TheVariants as fault
 use Rattle.amqp_endpoint.specs.Configs.{Configured}
 use Rattle.amqp_endpoint.specs.Connections.{ConnectionState, channels, slot_at, is_dead}
@@ -28,26 +30,21 @@ use Rattle.amqp_endpoint.specs.Traces.{IsInRange, AreInRange, taken_by, moved_by
 
 -- What is lacking. ----------------------------------------------------------------------------------------------------
 
--- what is topped up
-pub data Supply : Type 0 where
-  WindowOf : ℕ → Supply  -- the incoming window of the session on this channel [2.5.6]
-  CreditOf : ℕ → ℕ → Supply  -- the credit of the link on this channel with this handle [2.6.7]
-
 -- Where at most half of the places that a session began with are left, it lacks the others.
 abbrev pub window_lack : ℕ → Slot SessionState → ℕ
 window_lack window Free = 0
 window_lack window (Live s) = if nat_le (2 * s.window) window then window - s.window else 0
 window_lack window Awaits = 0
 
--- A link lacks what its credit is short of the policy's, within what it is allowed beside its credit and its open deliveries.
-abbrev pub credit_lack : ℕ → Slot LiveLink → ℕ
-credit_lack credit Free = 0
-credit_lack credit (Live l) = min (credit - l.link.credit) (l.link.terms.bounds.allowed - l.link.credit - open_count l.link)
-credit_lack credit Awaits = 0
+-- A link whose credit is at most the mark lacks what it is short of the rule's, within what it is allowed beside its credit and its open deliveries.
+abbrev pub credit_lack : Rule → Slot LiveLink → ℕ
+credit_lack p Free = 0
+credit_lack p (Live l) = if nat_le l.link.credit p.mark then min (p.credit - l.link.credit) (l.link.terms.bounds.allowed - l.link.credit - open_count l.link) else 0
+credit_lack p Awaits = 0
 
-abbrev pub lack : Policy → ConnectionState → Supply → ℕ
+abbrev pub lack : Rule → ConnectionState → Supply → ℕ
 lack p s (WindowOf channel) = window_lack s.config.window (slot_at s channel)
-lack p s (CreditOf channel handle) = credit_lack p.credit (link_in handle (slot_at s channel))
+lack p s (CreditOf channel handle) = credit_lack p (link_in handle (slot_at s channel))
 
 -- the call that gives a supply so much
 abbrev pub top_up_by : Supply → ℕ → Call
@@ -99,34 +96,34 @@ pub record Step : Type 0 where
   pub answer : Answer
 
 -- These calls with their answers lead the server from where it stands, with the endpoint in this state, to where it stands then, and the endpoint to that state.
-pub data Serves : Policy → Stand → EndpointState → List Step → Stand → EndpointState → Type 0 where
-  Rests : {p : Policy} {a : Stand} {s : EndpointState} → Serves p a s [] a s
+pub data Serves : Rule → Stand → EndpointState → List Step → Stand → EndpointState → Type 0 where
+  Rests : {p : Rule} {a : Stand} {s : EndpointState} → Serves p a s [] a s
   -- at any time some of what waits to be sent is moved out
-  MovesOut : {p : Policy} {a b : Stand} {s last : EndpointState} {steps : List Step} (next : EndpointState) (room : ℕ) (bytes : List ℕ)
+  MovesOut : {p : Rule} {a b : Stand} {s last : EndpointState} {steps : List Step} (next : EndpointState) (room : ℕ) (bytes : List ℕ)
       → Does s next (Output room) (MovedOut bytes) → Serves p a next steps b last
       → Serves p a s (record { call = Output room; answer = MovedOut bytes } ∷ steps) b last
   -- nothing waits, and a piece of bytes is fed
-  Feeds : {p : Policy} {b : Stand} {s last : EndpointState} {steps : List Step} (next : EndpointState) (piece : List ℕ) (used : ℕ) (told : Outcome)
+  Feeds : {p : Rule} {b : Stand} {s last : EndpointState} {steps : List Step} (next : EndpointState) (piece : List ℕ) (used : ℕ) (told : Outcome)
       → s.unsent ≡ [] → IsInRange (Feed piece) → Does s next (Feed piece) (Fed used told) → Serves p (stand_told next.connection.config told) next steps b last
       → Serves p reading s (record { call = Feed piece; answer = Fed used told } ∷ steps) b last
   -- the message that is ready is taken
-  Takes : {p : Policy} {b : Stand} {s last : EndpointState} {steps : List Step} (next : EndpointState) (channel handle : ℕ) (answer : Answer)
+  Takes : {p : Rule} {b : Stand} {s last : EndpointState} {steps : List Step} (next : EndpointState) (channel handle : ℕ) (answer : Answer)
       → Does s next (InSession channel (Take handle)) answer → Serves p (stand_taken next.connection.config channel answer) next steps b last
       → Serves p (Receiving channel handle) s (record { call = InSession channel (Take handle); answer = answer } ∷ steps) b last
   -- nothing waits, and it is settled
-  Settles : {p : Policy} {b : Stand} {s last : EndpointState} {steps : List Step} (next : EndpointState) (channel id : ℕ) (answer : Answer)
+  Settles : {p : Rule} {b : Stand} {s last : EndpointState} {steps : List Step} (next : EndpointState) (channel id : ℕ) (answer : Answer)
       → s.unsent ≡ [] → id < 2 ^ 32 → Does s next (InSession channel (Settle id p.outcome)) answer → Serves p (ToppingUp (all_supplies next.connection.config)) next steps b last
       → Serves p (Settling channel id) s (record { call = InSession channel (Settle id p.outcome); answer = answer } ∷ steps) b last
   -- the first supply lacks something, nothing waits, and the supply is given what it lacks
-  TopsUp : {p : Policy} {b : Stand} {s last : EndpointState} {steps : List Step} (next : EndpointState) (supply : Supply) (supplies : List Supply) (answer : Answer)
+  TopsUp : {p : Rule} {b : Stand} {s last : EndpointState} {steps : List Step} (next : EndpointState) (supply : Supply) (supplies : List Supply) (answer : Answer)
       → s.unsent ≡ [] → 0 < lack p s.connection supply → Does s next (top_up_by supply (lack p s.connection supply)) answer → Serves p (ToppingUp supplies) next steps b last
       → Serves p (ToppingUp (supply ∷ supplies)) s (record { call = top_up_by supply (lack p s.connection supply); answer = answer } ∷ steps) b last
   -- it lacks nothing
-  Passes : {p : Policy} {b : Stand} {s last : EndpointState} {steps : List Step} (supply : Supply) (supplies : List Supply)
+  Passes : {p : Rule} {b : Stand} {s last : EndpointState} {steps : List Step} (supply : Supply) (supplies : List Supply)
       → lack p s.connection supply ≡ 0 → Serves p (ToppingUp supplies) s steps b last
       → Serves p (ToppingUp (supply ∷ supplies)) s steps b last
   -- nothing waits, and the input ends
-  Finishes : {p : Policy} {b : Stand} {s last : EndpointState} {steps : List Step} (next : EndpointState) (end : End)
+  Finishes : {p : Rule} {b : Stand} {s last : EndpointState} {steps : List Step} (next : EndpointState) (end : End)
       → s.unsent ≡ [] → Does s next Finish (Ended end) → Serves p Over next steps b last
       → Serves p reading s (record { call = Finish; answer = Ended end } ∷ steps) b last
 
@@ -155,7 +152,7 @@ abbrev pub recorded : List Step → List ℕ
 recorded steps = flat_map (λ x. recorded_by x.call x.answer) steps
 
 -- From one stand to another these bytes were fed; what was moved out stands behind what the writer held, and the records behind what the sink held.
-pub record Served (p : Policy) (a b : Stand) (bytes : List ℕ) (old new : EndpointState) (held now kept keeps : Option (List ℕ)) : Type 0 where
+pub record Served (p : Rule) (a b : Stand) (bytes : List ℕ) (old new : EndpointState) (held now kept keeps : Option (List ℕ)) : Type 0 where
   pub steps : List Step
   pub serves : Serves p a old steps b new
   pub fed : fed steps ≡ bytes
@@ -181,7 +178,7 @@ IsLeft fault.NoMemory stand steps noted unnoted = (stand ≡ Starved) × (unnote
 
 -- Serving broke off with this fault: these bytes were fed, all that was moved out was written, and a beginning of the records was recorded. A reader that failed may have put something into the room of the
 -- endpoint's buffer, where it says nothing.
-pub record BrokeOff (p : Policy) (e : ServeFault) (a : Stand) (bytes : List ℕ) (old new : EndpointState) (held now kept keeps : Option (List ℕ)) : Type 0 where
+pub record BrokeOff (p : Rule) (e : ServeFault) (a : Stand) (bytes : List ℕ) (old new : EndpointState) (held now kept keeps : Option (List ℕ)) : Type 0 where
   pub stand : Stand
   pub steps : List Step
   pub last : EndpointState
@@ -196,13 +193,13 @@ pub record BrokeOff (p : Policy) (e : ServeFault) (a : Stand) (bytes : List ℕ)
   pub left : IsLeft e stand steps noted unnoted
 
 -- These bytes were read and fed.
-pub record HasRead (p : Policy) (old new : EndpointState) (input left held now kept keeps : Option (List ℕ)) : Type 0 where
+pub record HasRead (p : Rule) (old new : EndpointState) (input left held now kept keeps : Option (List ℕ)) : Type 0 where
   pub bytes : List ℕ
   pub read : Consumes input left bytes
   pub served : Served p reading reading bytes old new held now kept keeps
 
 -- They were read, and serving broke off with this fault.
-abbrev pub HasBroken : Policy → ServeFault → EndpointState → EndpointState → Option (List ℕ) → Option (List ℕ) → Option (List ℕ) → Option (List ℕ) → Option (List ℕ) → Option (List ℕ) → Type 0
+abbrev pub HasBroken : Rule → ServeFault → EndpointState → EndpointState → Option (List ℕ) → Option (List ℕ) → Option (List ℕ) → Option (List ℕ) → Option (List ℕ) → Option (List ℕ) → Type 0
 HasBroken p e old new input left held now kept keeps = (bytes : List ℕ) × Consumes input left bytes × BrokeOff p e reading bytes old new held now kept keeps
 
 -- no unit waits
@@ -222,7 +219,7 @@ abbrev pub HasAllTaken : ConnectionState → Type 0
 HasAllTaken s = (channel handle : ℕ) → slot_ready (link_at s channel handle) ≡ 0
 
 -- these were served with no piece fed
-pub record Works (p : Policy) (a b : Stand) (old new : EndpointState) (held now kept keeps : Option (List ℕ)) : Type 0 where
+pub record Works (p : Rule) (a b : Stand) (old new : EndpointState) (held now kept keeps : Option (List ℕ)) : Type 0 where
   pub served : Served p a b [] old new held now kept keeps
   pub input : IsUnchanged old.input new.input
 
@@ -236,7 +233,7 @@ abbrev pub answers_of : List Step → List Answer
 answers_of steps = map (λ x. x.answer) steps
 
 -- The whole run over the bytes that were read. Its last call is the finish, which came once the connection was over, or the reader had ended.
-pub record IsServed (p : Policy) (end : End) (bytes : List ℕ) (ended : Bool) (old new : EndpointState) (held now kept keeps : Option (List ℕ)) : Type 0 where
+pub record IsServed (p : Rule) (end : End) (bytes : List ℕ) (ended : Bool) (old new : EndpointState) (held now kept keeps : Option (List ℕ)) : Type 0 where
   pub steps : List Step
   pub before : EndpointState
   pub serves : Serves p reading old steps reading before

@@ -1,13 +1,18 @@
 -- Which supplies lack nothing while serving, so that they are passed (AMQP 1.0, part 2, sections 2.5.6 and 2.6.7).
-use Rattle.std.specs.Prelude.{◌≡◌, ℕ, suc, ◌<◌, ◌≤◌, List, ◌∷◌, Option, Some, None}
+use Rattle.std.specs.Prelude.{◌≡◌, ℕ, suc, ◌<◌, ◌≤◌, Bool, true, false, if◌then◌else◌, List, [], ◌∷◌}
 use Rattle.amqp_endpoint.specs.declared.event.Event.TheVariants as event
 use Rattle.amqp_endpoint.specs.declared.event.Outcome.{Outcome}
 use Rattle.amqp_endpoint.specs.declared.event.Outcome.TheVariants as outcome
 use Rattle.amqp_endpoint.specs.Configs.{Configured}
 use Rattle.amqp_endpoint.specs.Connections.{ConnectionState, channels}
-use Rattle.amqp_serve.specs.declared.serving.Policy.{Policy}
+use Rattle.amqp_serve.specs.declared.rules.Rule.{Rule}
+use Rattle.amqp_serve.specs.declared.steps.Course.{Course}
+use Rattle.amqp_serve.specs.declared.supplies.Look.{Look}
+use Rattle.amqp_serve.specs.declared.supplies.Look.TheVariants as look
+use Rattle.amqp_serve.specs.declared.supplies.Supply.{Supply}
+use Rattle.amqp_serve.specs.declared.supplies.Supply.TheVariants.{WindowOf, CreditOf}
 use Rattle.amqp_serve.specs.Cuts.{supply_channel}
-use Rattle.amqp_serve.specs.Serving.{Supply, WindowOf, CreditOf, lack}
+use Rattle.amqp_serve.specs.Serving.{lack}
 
 -- it is one of those that are topped up
 abbrev pub IsListed : Configured → Supply → Type 0
@@ -15,48 +20,65 @@ IsListed config (WindowOf channel) = channel < channels config
 IsListed config (CreditOf channel handle) = (channel < channels config) × (handle < suc config.handle_max)
 
 -- none of them lacks anything
-abbrev pub IsSupplied : Policy → ConnectionState → Type 0
+abbrev pub IsSupplied : Rule → ConnectionState → Type 0
 IsSupplied p s = (x : Supply) → IsListed s.config x → lack p s x ≡ 0
 
+-- what is known to be so
+abbrev pub IsRight : Course → ConnectionState → Type 0
+IsRight course s = course.supplied ≡ true → IsSupplied course.rule s
+
 -- the session on this channel and its links at the first handles lack nothing
-pub record IsSuppliedAt (p : Policy) (handles channel : ℕ) (s : ConnectionState) : Type 0 where
+pub record IsSuppliedAt (p : Rule) (handles channel : ℕ) (s : ConnectionState) : Type 0 where
   pub window : lack p s (WindowOf channel) ≡ 0
   pub credit : (handle : ℕ) → handle < handles → lack p s (CreditOf channel handle) ≡ 0
 
--- where a channel is named, none lacks anything but that session and its links
-abbrev pub IsSuppliedBut : Option ℕ → Policy → ConnectionState → Type 0
-IsSuppliedBut None p s = Unit {0}
-IsSuppliedBut (Some channel) p s = (x : Supply) → IsListed s.config x → (supply_channel x ≡ channel → ⊥) → lack p s x ≡ 0
+-- no session lacks anything but those from one channel to before another, nor do its links
+abbrev pub IsSuppliedOutside : ℕ → ℕ → Rule → ConnectionState → Type 0
+IsSuppliedOutside first end p s = (x : Supply) → IsListed s.config x → (first ≤ supply_channel x → supply_channel x < end → ⊥) → lack p s x ≡ 0
 
--- The channel of the session whose frame this was told of, which went on behind it.
-abbrev pub session_told : Outcome → Option ℕ
-session_told (outcome.Event (event.Attached channel handle)) = Some channel
-session_told (outcome.Event (event.Unfinished channel handle)) = Some channel
-session_told (outcome.Event (event.Ready channel handle)) = Some channel
-session_told (outcome.Event (event.Aborted channel handle)) = Some channel
-session_told (outcome.Event (event.Drained channel handle)) = Some channel
-session_told (outcome.Event (event.Settled channel count)) = Some channel
-session_told (outcome.Event (event.Detached channel handle dropped)) = Some channel
-session_told told = None
+-- it is not looked at
+abbrev pub IsBeside : Look → Supply → Type 0
+IsBeside look.Nothing x = Unit {0}
+IsBeside (look.Link channel handle) x = (x ≡ WindowOf channel → ⊥) × (x ≡ CreditOf channel handle → ⊥)
+IsBeside (look.Session channel) x = supply_channel x ≡ channel → ⊥
+IsBeside look.All x = ⊥
 
--- What lacks nothing behind a feed that told this and left these bytes in the buffer, where nothing lacked anything before it: all, where less than a unit came.
-abbrev pub IsSuppliedBehind : Outcome → List ℕ → Policy → ConnectionState → Type 0
-IsSuppliedBehind outcome.More (b ∷ bytes) p s = IsSupplied p s
-IsSuppliedBehind told bytes p s = IsSuppliedBut (session_told told) p s
+-- what is not looked at lacks nothing
+abbrev pub IsSuppliedBut : Look → Rule → ConnectionState → Type 0
+IsSuppliedBut look p s = (x : Supply) → IsListed s.config x → IsBeside look x → lack p s x ≡ 0
 
--- The configuration is the same, and what each supply lacks, but for those of the session on this channel.
-pub record IsOnlyIn (p : Policy) (channel : ℕ) (old new : ConnectionState) : Type 0 where
+-- What taking the message that is ready may have changed, and settling it: its link.
+abbrev pub received_look : Outcome → Look
+received_look (outcome.Event (event.Ready channel handle)) = look.Link channel handle
+received_look told = look.Nothing
+
+abbrev pub is_nil : List ℕ → Bool
+is_nil [] = true
+is_nil (b ∷ bytes) = false
+
+-- What may lack something behind a feed that told this, and behind the message that was ready then, where nothing lacked anything before it: the link that it told of and the window of its session, all of a session whose
+-- deliveries were settled, nothing where bytes of a unit wait and none came to an end; else all.
+abbrev pub told_look : Outcome → Bool → Look
+told_look outcome.More false = look.Nothing
+told_look (outcome.Event (event.Attached channel handle)) between = look.Link channel handle
+told_look (outcome.Event (event.Unfinished channel handle)) between = look.Link channel handle
+told_look (outcome.Event (event.Ready channel handle)) between = look.Link channel handle
+told_look (outcome.Event (event.Aborted channel handle)) between = look.Link channel handle
+told_look (outcome.Event (event.Drained channel handle)) between = look.Link channel handle
+told_look (outcome.Event (event.Detached channel handle dropped)) between = look.Link channel handle
+told_look (outcome.Event (event.Settled channel count)) between = look.Session channel
+told_look told between = look.All
+
+-- all, where it is not known that nothing lacked anything
+abbrev pub look_behind : Bool → Outcome → Bool → Look
+look_behind supplied told between = if supplied then told_look told between else look.All
+
+-- The configuration is the same, and what each supply lacks, but for those that are looked at.
+pub record IsOnlyAt (p : Rule) (look : Look) (old new : ConnectionState) : Type 0 where
   pub config : new.config ≡ old.config
-  pub others : (x : Supply) → (supply_channel x ≡ channel → ⊥) → lack p new x ≡ lack p old x
+  pub others : (x : Supply) → IsBeside look x → lack p new x ≡ lack p old x
 
 -- the same but for one supply
-pub record IsOnlyOf (p : Policy) (supply : Supply) (old new : ConnectionState) : Type 0 where
+pub record IsOnlyOf (p : Rule) (supply : Supply) (old new : ConnectionState) : Type 0 where
   pub config : new.config ≡ old.config
   pub others : (x : Supply) → (x ≡ supply → ⊥) → lack p new x ≡ lack p old x
-
--- Of so many channels those from the first one to before the end are gone through: the one that is named, where it is one of them, and else all.
-pub record IsSpan (only : Option ℕ) (channels first end : ℕ) : Type 0 where
-  pub ordered : first ≤ end
-  pub within : end ≤ channels
-  pub one : (channel : ℕ) → only ≡ Some channel → channel < channels → (first ≡ channel) × (end ≡ suc channel)
-  pub others : (k : ℕ) → k < channels → (first ≤ k → k < end → ⊥) → (channel : ℕ) × (only ≡ Some channel) × (k ≡ channel → ⊥)

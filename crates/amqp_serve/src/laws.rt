@@ -6,9 +6,10 @@ ghost use Rattle.amqp_endpoint.specs.Runs.{Run, IsStart};
 ghost use Rattle.amqp_endpoint.specs.Steps.{EndpointState};
 ghost use Rattle.amqp_endpoint.specs.Traces.{AreInRange, IsWholeRun, heard, message_in};
 ghost use Rattle.amqp_endpoint.specs.declared.event.End.{End};
-ghost use Rattle.amqp_serve.specs.Serving.{Stand, Receiving, Over, reading, Step, Serves, HasAllTaken, IsServed, finish_of, fed, moved, recorded, record_of, calls_of, answers_of};
-ghost use Rattle.amqp_serve.specs.Cuts.{Made, IsMade, AreAlike, IsFront};
-ghost use Rattle.amqp_serve.specs.Interrupted.{Interrupted};
+ghost use Rattle.amqp_serve.specs.Policies.{Serves, IsServed, IsMade, Interrupted};
+ghost use Rattle.amqp_serve.specs.Serving.{Stand, Receiving, Over, reading, Step, Served, IsIdle, HasAllTaken, finish_of, fed, moved, recorded, record_of, calls_of, answers_of};
+ghost use Rattle.amqp_serve.specs.Cuts.{Made, AreAlike, IsFront};
+ghost use Rattle.amqp_serve.specs.declared.rules.Rule.{Rule};
 ghost use Rattle.amqp_serve.specs.declared.serving.Policy.{Policy};
 
 use amqp_endpoint::laws::runs_have_a_history;
@@ -58,6 +59,18 @@ pub fn serving_begins_the_same()
 {
     serving_follows_the_units();
 }
+
+/// What is served one behind another is served at once: so any list of steps is one run of the rule over the joined bytes.
+#[tactic(auto, using(crate::proofs::Servings::served_on))]
+pub fn steps_are_one_run()
+    ensures { (r : Rule) (a b c : Stand) (bytes more : List ℕ) (old mid new : EndpointState) (held now last kept keeps lasts : Option (List ℕ)) → Served r a b bytes old mid held now kept keeps → Served r b c more mid new now last keeps lasts → Served r a c (bytes ++ more) old new held last kept lasts }
+{}
+
+/// And it is a function of these bytes: over the same bytes, by the same rule, two new endpoints of which no answer and no unit waits
+/// stand alike, and wrote and recorded the same, however the bytes were cut into steps.
+pub fn steps_ignore_cuts()
+    ensures { (r : Rule) (config : Configured) (bytes : List ℕ) (old old2 new new2 : EndpointState) (held held2 now now2 kept kept2 keeps keeps2 : Option (List ℕ)) → IsConfigured config.container_id config.max_frame config.window → IsStart config old → IsStart config old2 → (x : Served r reading reading bytes old new held now kept keeps) → (y : Served r reading reading bytes old2 new2 held2 now2 kept2 keeps2) → new.unsent ≡ [] → new2.unsent ≡ [] → IsIdle new → IsIdle new2 → (new.connection ≡ new2.connection) × (moved x.steps ≡ moved y.steps) × (recorded x.steps ≡ recorded y.steps) }
+{}
 
 /// No message is ready in a new endpoint. Serving one in which none is leaves none ready, but the one that it takes next.
 #[tactic(auto, using(crate::proofs::AllTaken::start_taken, crate::proofs::AllTaken::leaves_taken))]

@@ -6,10 +6,17 @@
 //! `specs/Cuts.antt` what a stream comes to that is served unit by unit. The tests stand in `layer_rows` and `endpoint_tests`.
 #![tactic(auto)]
 
+mod hosting;
 pub mod laws;
 mod records;
+mod rules;
 mod sending;
 mod serving;
+mod steps;
 mod supplies;
 
+pub use hosting::Server;
+pub use rules::Rule;
 pub use serving::{Policy, ServeFault, serve};
+pub use steps::{Course, Done, Receipt, Received, Stepped, serve_piece, serve_read};
+pub use supplies::{Supply, Topped};

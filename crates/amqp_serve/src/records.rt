@@ -1,5 +1,5 @@
 //! The records of messages.
-ghost use Rattle.std.specs.Prelude.{◌≡◌, ◌+◌, ◌≤◌, ◌++◌, ◌↔◌, length, take, Err, IsErr, IsTrue, OnErr, OnOk, IfSome};
+ghost use Rattle.std.specs.Prelude.{◌≡◌, ◌+◌, ◌-◌, ◌^◌, ◌≤◌, ◌++◌, ◌↔◌, min, length, take, Err, IsErr, IsTrue, OnErr, OnOk, IfSome};
 ghost use Rattle.std.specs.Io.KnownBytes.{Appends};
 ghost use Rattle.amqp_frame.specs.Devices.{device_inner, has_failed, AppendsFront};
 ghost use Rattle.amqp_endpoint.specs.Endpoints.{handed_in};
@@ -66,7 +66,7 @@ fn put_out<S: Write + Drop>(sink: &mut Device<S>, bytes: &[u8]) -> Result<(), Se
 fn head_of<A: Allocator + Copy>(channel: u16, handle: u32, taken: &Taken<A>) -> [u8; 18]
     ensures { result ≡ record_head channel handle (handed_in taken.now) }
 {
-    let len = u32::try_from(taken.message.len()).unwrap_or(u32::MAX);
+    let len = recorded_len(&taken.message);
     let mut head = [0; 18];
     put(&mut head, 0, &channel.to_be_bytes());
     put(&mut head, 2, &handle.to_be_bytes());
@@ -74,6 +74,13 @@ fn head_of<A: Allocator + Copy>(channel: u16, handle: u32, taken: &Taken<A>) -> 
     put(&mut head, 10, &taken.message_format.to_be_bytes());
     put(&mut head, 14, &len.to_be_bytes());
     head
+}
+
+/// How long a record says that its message is.
+pub fn recorded_len<A: Allocator + Copy>(message: &Message<A>) -> u32
+    ensures { result ≡ min (length message.now) (2 ^ 32 - 1) }
+{
+    u32::try_from(message.len()).unwrap_or(u32::MAX)
 }
 
 /// Puts the bytes at their place.

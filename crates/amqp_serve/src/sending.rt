@@ -1,15 +1,16 @@
 //! What is written to the peer, what is flushed before it, and the one read.
 ghost use Rattle.std.specs.Prelude.{◌≡◌, ◌≢◌, ◌↔◌, ◌≤◌, ◌⊎◌, ◌<◌, [], length, take, true, false, Err, Ok, IsErr, IsTrue, IfOk, OnErr, OnOk, IfErr};
 ghost use Rattle.std.specs.Io.KnownBytes.{Appends, Consumes, Keeps};
-ghost use Rattle.amqp_frame.specs.Devices.{device_inner, has_failed, has_ended, is_flushed, reads_ahead};
+ghost use Rattle.amqp_frame.specs.Devices.{device_inner, has_failed, device_hand, has_ended, is_flushed, reads_ahead};
 ghost use Rattle.amqp_frame.specs.Splits.{TakesNothing};
 ghost use Rattle.amqp_endpoint.specs.Connections.{is_dead};
 ghost use Rattle.amqp_endpoint.specs.Steps.{MayRead, IsKept};
-ghost use Rattle.amqp_serve.specs.Serving.{Stand, Works, BrokeOff};
+ghost use Rattle.amqp_serve.specs.Deeds.{no_deeds, Went, ends, AreOpen};
+ghost use Rattle.amqp_serve.specs.Serving.{Stand};
 
-use crate::{Policy, ServeFault};
+use crate::{Rule, ServeFault};
 use amqp_endpoint::Endpoint;
-use amqp_frame::{Device, HoldsBack};
+use amqp_frame::{AtHand, Device, HoldsBack};
 use std::alloc::Allocator;
 use std::io::{Read, Write};
 
@@ -40,28 +41,33 @@ pub fn read_in<A: Allocator + Copy, R: Read + Drop, W: Write + Drop, S: Write + 
     }
 }
 
-/// Writes all that waits to be sent, and flushes the records, and then it.
-pub fn send_out<A: Allocator + Copy, W: Write + HoldsBack + Drop, S: Write + Drop>(
-    endpoint: &mut Endpoint<A>,
-    writer: &mut Device<W>,
-    sink: &mut Device<S>,
-) -> Result<(), ServeFault>
-    requires writer { ¬ (IsTrue (has_failed writer.old)) }
-    requires sink { ¬ (IsTrue (has_failed sink.old)) }
-    ensures read { result ≢ Err ServeFault.Read }
-    ensures memory { result ≢ Err ServeFault.NoMemory }
-    ensures write { (result ≡ Err ServeFault.Write) ↔ IsTrue (has_failed writer.new) }
-    ensures sink { (result ≡ Err ServeFault.Sink) ↔ IsTrue (has_failed sink.new) }
-    ensures flushed { OnOk result ((is_flushed writer.new ≡ true) × (is_flushed sink.new ≡ true)) }
-    ensures empty { OnOk result (endpoint.new.unsent ≡ []) }
-    ensures connection { OnOk result (endpoint.new.connection ≡ endpoint.old.connection) }
-    ensures works { OnOk result ((p : Policy) (a : Stand) → Works p a a endpoint.old endpoint.new (W.contents (device_inner writer.old)) (W.contents (device_inner writer.new))
-        (S.contents (device_inner sink.old)) (S.contents (device_inner sink.new))) }
-    ensures begun { IfErr result (λ e. (p : Policy) (a : Stand) → BrokeOff p e a [] endpoint.old endpoint.new (W.contents (device_inner writer.old))
-        (W.contents (device_inner writer.new)) (S.contents (device_inner sink.old)) (S.contents (device_inner sink.new))) }
+/// Lets the reader fill what it has at hand, which is empty, where the endpoint stands between two units. It may wait for the
+/// peer, so that it needs what [`read_in`] needs. Answers whether the reader was asked, so that it has some at hand or has ended.
+pub fn fill_hand<A: Allocator + Copy, R: AtHand + Drop, W: Write + Drop, S: Write + Drop>(
+    endpoint: &Endpoint<A>,
+    reader: &mut Device<R>,
+    writer: &Device<W>,
+    sink: &Device<S>,
+) -> Result<bool, ServeFault>
+    requires reader { ¬ (IsTrue (has_failed reader.old)) }
+    requires alive { is_dead endpoint.now.connection.phase ≡ false }
+    requires sent { endpoint.now.unsent ≡ [] }
+    requires flushed { is_flushed writer.now ≡ true }
+    requires recorded { is_flushed sink.now ≡ true }
+    ensures fault { OnErr result (result ≡ Err ServeFault.Read) }
+    ensures failed { IsErr result ↔ IsTrue (has_failed reader.new) }
+    ensures asked { IfOk result (λ b. b ≡ true → has_ended reader.new ≡ false → 0 < length (device_hand R.hand reader.new)) }
+    ensures fewer { IfOk result (λ b. b ≡ true → reads_ahead reader.new < reads_ahead reader.old) }
+    ensures still { IfOk result (λ b. b ≡ false → reader.new ≡ reader.old) }
+    ensures kept { Keeps (R.remaining (device_inner reader.old)) (R.remaining (device_inner reader.new)) }
 {
-    write_out(endpoint, writer, sink)?;
-    flush_both(writer, sink)
+    if !endpoint.is_between() {
+        return Ok(false);
+    }
+    match reader.fill() {
+        Ok(filled) => Ok(filled.is_some()),
+        Err(_) => Err(ServeFault::Read),
+    }
 }
 
 /// Flushes the records, and then the answers to them, so that no peer hears of a message that is not recorded.
@@ -78,6 +84,7 @@ pub fn flush_both<W: Write + Drop, S: Write + Drop>(
     ensures flushed { OnOk result (is_flushed writer.new ≡ true) }
     ensures recorded { ¬ (IsTrue (has_failed sink.new)) → is_flushed sink.new ≡ true }
     ensures first { IsTrue (has_failed sink.new) → writer.new ≡ writer.old }
+    ensures still { OnOk result (AreOpen (ends W.contents S.contents writer.new sink.new)) }
     ensures answers { Keeps (W.contents (device_inner writer.old)) (W.contents (device_inner writer.new)) }
     ensures records { Keeps (S.contents (device_inner sink.old)) (S.contents (device_inner sink.new)) }
 {
@@ -113,18 +120,11 @@ pub fn write_out<A: Allocator + Copy, W: Write + HoldsBack + Drop, S: Write + Dr
     writer: &mut Device<W>,
     sink: &mut Device<S>,
 ) -> Result<(), ServeFault>
-    requires writer { ¬ (IsTrue (has_failed writer.old)) }
-    requires sink { ¬ (IsTrue (has_failed sink.old)) }
-    ensures read { result ≢ Err ServeFault.Read }
-    ensures memory { result ≢ Err ServeFault.NoMemory }
-    ensures write { (result ≡ Err ServeFault.Write) ↔ IsTrue (has_failed writer.new) }
-    ensures sink { (result ≡ Err ServeFault.Sink) ↔ IsTrue (has_failed sink.new) }
+    requires ends { AreOpen (ends W.contents S.contents writer.old sink.old) }
     ensures empty { OnOk result (endpoint.new.unsent ≡ []) }
     ensures connection { OnOk result (endpoint.new.connection ≡ endpoint.old.connection) }
-    ensures works { OnOk result ((p : Policy) (a : Stand) → Works p a a endpoint.old endpoint.new (W.contents (device_inner writer.old)) (W.contents (device_inner writer.new))
-        (S.contents (device_inner sink.old)) (S.contents (device_inner sink.new))) }
-    ensures begun { IfErr result (λ e. (p : Policy) (a : Stand) → BrokeOff p e a [] endpoint.old endpoint.new (W.contents (device_inner writer.old))
-        (W.contents (device_inner writer.new)) (S.contents (device_inner sink.old)) (S.contents (device_inner sink.new))) }
+    ensures went { (p : Rule) (a : Stand) → Went p (λ _. no_deeds) a a result endpoint.old endpoint.new (ends W.contents S.contents writer.old sink.old)
+        (ends W.contents S.contents writer.new sink.new) }
 {
     'pieces: loop {
         let piece = endpoint.unsent_front();

@@ -1,22 +1,24 @@
 //! A whole connection, over a reader, a writer and a sink.
-ghost use Rattle.std.specs.Prelude.{◌≡◌, ◌≢◌, ◌↔◌, ◌<◌, [], ℕ, List, length, take, true, false, Err, IsTrue, OnOk, IfOk, IfErr};
+ghost use Rattle.std.specs.Prelude.{◌≡◌, ◌↔◌, ◌<◌, [], ℕ, List, true, false, length, Err, IsTrue, OnOk, IfOk, IfErr};
 ghost use Rattle.std.specs.Io.KnownBytes.{Consumes};
 ghost use Rattle.amqp_frame.specs.Devices.{device_inner, device_hand, has_failed, has_ended, is_flushed, reads_ahead};
 ghost use Rattle.amqp_frame.specs.Splits.{IsOver};
 ghost use Rattle.amqp_endpoint.specs.Connections.{is_dead};
-ghost use Rattle.amqp_endpoint.specs.Steps.{EndpointState, MayRead, IsKept};
-ghost use Rattle.amqp_serve.specs.Serving.{ToppingUp, Receiving, all_supplies, reading, stand_told, Works, Served, HasRead, BrokeOff, HasBroken, IsServed, IsIdle, IsStarved, HasAllTaken};
-ghost use Rattle.amqp_serve.specs.Supplied.{IsSupplied, IsSuppliedBehind, IsOnlyIn, session_told};
+ghost use Rattle.amqp_serve.specs.Deeds.{ends, AreOpen, IsLost, Goes};
+ghost use Rattle.amqp_serve.specs.Policies.{BrokeOff, IsServed};
+ghost use Rattle.amqp_serve.specs.Serving as by;
+ghost use Rattle.amqp_serve.specs.Serving.{reading, IsIdle, IsStarved, HasAllTaken};
+ghost use Rattle.amqp_serve.specs.Supplied.{IsRight};
 
-use crate::records::write_record;
-use crate::sending::{flush_both, read_in, send_out, write_out};
-use crate::supplies::top_up;
-use amqp_endpoint::laws::{are_bytes, fills_are_feeds, is_id};
-use amqp_endpoint::{End, Endpoint, Event, Outcome};
+use crate::Rule;
+use crate::sending::{fill_hand, flush_both, read_in, write_out};
+use crate::steps::{Course, Done, serve_piece, serve_read};
+use amqp_endpoint::{End, Endpoint};
 use amqp_frame::{AtHand, Device, HoldsBack};
 use amqp_perform::Outcome as Settlement;
 use std::alloc::Allocator;
 use std::io::Write;
+use thiserror::Error;
 
 /// What is done with each message.
 #[derive(Clone, Copy, Debug)]
@@ -28,25 +30,29 @@ pub struct Policy {
 }
 
 /// Why a connection was not served to its end.
-#[derive(Clone, Copy, Debug, PartialEq, Eq, Drop)]
+#[derive(Clone, Copy, Debug, PartialEq, Eq, Drop, Error)]
 pub enum ServeFault {
     /// The reader has failed.
+    #[error("the reader has failed")]
     Read,
     /// The writer has failed.
+    #[error("the writer has failed")]
     Write,
     /// The sink has failed.
+    #[error("the sink has failed")]
     Sink,
     /// Memory was refused.
+    #[error("memory was refused")]
     NoMemory,
 }
 
-/// Serves an endpoint, a new one or one that `NoMemory` left: feeds it what the reader has at hand, and where that is nothing
-/// reads into its buffer what it asks for next, no byte beyond the unit that is due. It writes what is to be sent before each
-/// read and each call that writes. A message that is ready is
-/// taken, its record goes to the sink, and it is settled unless its sender settled it. After each feed windows and credit are topped up: a session whose window is at most half
-/// of its opening places is widened to them, and a link is granted up to the policy's credit, within what it is allowed.
-/// It stops when the connection is over or the reader has ended, and answers how the connection stood then. Where a unit
-/// waits at first, it is acted upon before anything is read.
+/// Serves an endpoint, a new one or one that `NoMemory` left: feeds it what the reader has at hand. Where that is nothing, and no
+/// byte of a unit waits, the reader may fill what it has at hand; else it is asked to read into the endpoint's buffer what is due
+/// next, no byte beyond the unit. What is to be sent is written before each of these, and before each call that writes. A message
+/// that is ready is taken, its record goes to the sink, and it is settled unless its sender settled it. After each feed windows and
+/// credit are topped up: a session whose window is at most half of its opening places is widened to them, and a link is granted up
+/// to the policy's credit, within what it is allowed. It stops when the connection is over or the reader has ended, and answers how
+/// the connection stood then. Where a unit waits at first, it is acted upon before anything is read.
 ///
 /// The writer and the sink may buffer. The sink is flushed, and then the writer, before each read, and at the end: so no peer
 /// waits for an answer that stands in a buffer while this side waits for
@@ -103,11 +109,15 @@ pub fn serve<A: Allocator + Copy, R: AtHand + Drop, W: Write + HoldsBack + Drop,
         (S.contents (device_inner sink.new))) }
 {
     endpoint.holds_a_header(); // a law, for the proof
-    match run(endpoint, reader, writer, sink, policy) {
+    match run(endpoint, reader, writer, sink, Rule::of(policy)) {
         Ok(end) => Ok(end),
         Err(ServeFault::Read) => {
             flush_both(writer, sink)?;
             Err(ServeFault::Read)
+        }
+        Err(ServeFault::NoMemory) => {
+            flush_both(writer, sink)?;
+            Err(ServeFault::NoMemory)
         }
         Err(ServeFault::Write) => match sink.flush() {
             Ok(()) => Err(ServeFault::Write),
@@ -117,248 +127,124 @@ pub fn serve<A: Allocator + Copy, R: AtHand + Drop, W: Write + HoldsBack + Drop,
     }
 }
 
-/// The same, without the flush behind a device that failed.
+/// The same, without the flush behind a failure.
 fn run<A: Allocator + Copy, R: AtHand + Drop, W: Write + HoldsBack + Drop, S: Write + Drop>(
     endpoint: &mut Endpoint<A>,
     reader: &mut Device<R>,
     writer: &mut Device<W>,
     sink: &mut Device<S>,
-    policy: Policy,
+    rule: Rule,
 ) -> Result<End, ServeFault>
     requires reader { ¬ (IsTrue (has_failed reader.old)) }
-    requires writer { ¬ (IsTrue (has_failed writer.old)) }
-    requires sink { ¬ (IsTrue (has_failed sink.old)) }
-    ensures read { (result ≡ Err ServeFault.Read) ↔ IsTrue (has_failed reader.new) }
-    ensures write { (result ≡ Err ServeFault.Write) ↔ IsTrue (has_failed writer.new) }
-    ensures sink { (result ≡ Err ServeFault.Sink) ↔ IsTrue (has_failed sink.new) }
-    ensures waited { result ≡ Err ServeFault.Read → (endpoint.new.unsent ≡ []) × (is_dead endpoint.new.connection.phase ≡ false) }
-    ensures starved { result ≡ Err ServeFault.NoMemory → IsStarved endpoint.new }
-    ensures ended { OnOk result ((is_flushed writer.new ≡ true) × (is_flushed sink.new ≡ true)) }
-    ensures short { result ≡ Err ServeFault.NoMemory → (is_flushed writer.new ≡ true) × (is_flushed sink.new ≡ true) }
+    requires ends { AreOpen (ends W.contents S.contents writer.old sink.old) }
+    ensures flushed { OnOk result ((is_flushed writer.new ≡ true) × (is_flushed sink.new ≡ true)) }
+    ensures still { OnOk result (AreOpen (ends W.contents S.contents writer.new sink.new) × ¬ (IsTrue (has_failed reader.new))) }
     ensures served { IfOk result (λ end. (bytes : List ℕ) × Consumes (R.remaining (device_inner reader.old)) (R.remaining (device_inner reader.new)) bytes
-        × IsServed policy end bytes (has_ended reader.new) endpoint.old endpoint.new (W.contents (device_inner writer.old)) (W.contents (device_inner writer.new))
+        × by.IsServed rule end bytes (has_ended reader.new) endpoint.old endpoint.new (W.contents (device_inner writer.old)) (W.contents (device_inner writer.new))
         (S.contents (device_inner sink.old)) (S.contents (device_inner sink.new))) }
-    ensures begun { IfErr result (λ e. (bytes : List ℕ) × Consumes (R.remaining (device_inner reader.old)) (R.remaining (device_inner reader.new)) bytes
-        × BrokeOff policy e reading bytes endpoint.old endpoint.new (W.contents (device_inner writer.old)) (W.contents (device_inner writer.new)) (S.contents (device_inner sink.old))
-        (S.contents (device_inner sink.new))) }
+    ensures lost { IfErr result (λ x. IsLost rule x endpoint.old endpoint.new (R.remaining (device_inner reader.old)) (R.remaining (device_inner reader.new)) (has_failed reader.new)
+        (ends W.contents S.contents writer.old sink.old) (ends W.contents S.contents writer.new sink.new)) }
 {
-    let mut supplied = false;
+    let mut course = Course {
+        rule,
+        supplied: false,
+    };
+    write_out(endpoint, writer, sink)?;
     if !endpoint.is_over() {
-        write_out(endpoint, writer, sink)?;
-        supplied = take_in(endpoint, 0, false, writer, sink, policy)?;
+        serve_read(endpoint, &mut course, 0, writer, sink).done?;
     }
     'reads: while !endpoint.is_over() && !reader.ended() {
-        supplied = go_on(endpoint, reader, supplied, writer, sink, policy)?;
+        go_on(endpoint, reader, &mut course, writer, sink)?;
     }
-    send_out(endpoint, writer, sink)?;
+    flush_both(writer, sink)?;
     Ok(endpoint.finish())
 }
 
-/// Takes what the reader has at hand, or else reads, and does what follows from it. It is told whether nothing was lacking
-/// before, where that is known, and answers whether nothing is then.
+/// Makes a step with what the reader has at hand, which it may be asked for, or else with what it reads.
 fn go_on<A: Allocator + Copy, R: AtHand + Drop, W: Write + HoldsBack + Drop, S: Write + Drop>(
     endpoint: &mut Endpoint<A>,
     reader: &mut Device<R>,
-    supplied: bool,
+    course: &mut Course,
     writer: &mut Device<W>,
     sink: &mut Device<S>,
-    policy: Policy,
-) -> Result<bool, ServeFault>
+) -> Result<Done, ServeFault>
     requires reader { ¬ (IsTrue (has_failed reader.old)) }
-    requires writer { ¬ (IsTrue (has_failed writer.old)) }
-    requires sink { ¬ (IsTrue (has_failed sink.old)) }
+    requires ends { AreOpen (ends W.contents S.contents writer.old sink.old) }
     requires alive { is_dead endpoint.old.connection.phase ≡ false }
     requires begun { has_ended reader.old ≡ false }
     requires goes_on { IsOver endpoint.old.input.stage → ⊥ }
+    requires sent { endpoint.old.unsent ≡ [] }
     requires idle { IsIdle endpoint.old }
-    requires supplied { supplied ≡ true → IsSupplied policy endpoint.old.connection }
-    ensures read { (result ≡ Err ServeFault.Read) ↔ IsTrue (has_failed reader.new) }
-    ensures write { (result ≡ Err ServeFault.Write) ↔ IsTrue (has_failed writer.new) }
-    ensures sink { (result ≡ Err ServeFault.Sink) ↔ IsTrue (has_failed sink.new) }
-    ensures waited { result ≡ Err ServeFault.Read → (endpoint.new.unsent ≡ []) × (is_dead endpoint.new.connection.phase ≡ false) }
-    ensures flushed { result ≡ Err ServeFault.NoMemory → (is_flushed writer.new ≡ true) × (is_flushed sink.new ≡ true) }
-    ensures starved { result ≡ Err ServeFault.NoMemory → IsStarved endpoint.new }
+    requires course { IsRight course.old endpoint.old.connection }
+    ensures rule { course.new.rule ≡ course.old.rule }
+    ensures course { IsRight course.new endpoint.new.connection }
     ensures fewer { OnOk result (reads_ahead reader.new < reads_ahead reader.old) }
-    ensures idle { OnOk result (IsIdle endpoint.new) }
-    ensures supplied { IfOk result (λ b. (b ≡ true) ↔ IsSupplied policy endpoint.new.connection) }
-    ensures served { OnOk result (HasRead policy endpoint.old endpoint.new (R.remaining (device_inner reader.old)) (R.remaining (device_inner reader.new))
-        (W.contents (device_inner writer.old)) (W.contents (device_inner writer.new)) (S.contents (device_inner sink.old)) (S.contents (device_inner sink.new))) }
-    ensures begun { IfErr result (λ e. HasBroken policy e endpoint.old endpoint.new (R.remaining (device_inner reader.old)) (R.remaining (device_inner reader.new))
-        (W.contents (device_inner writer.old)) (W.contents (device_inner writer.new)) (S.contents (device_inner sink.old)) (S.contents (device_inner sink.new))) }
+    ensures goes { Goes course.old.rule result endpoint.old endpoint.new (R.remaining (device_inner reader.old)) (R.remaining (device_inner reader.new)) (has_failed reader.new)
+        (ends W.contents S.contents writer.old sink.old) (ends W.contents S.contents writer.new sink.new) }
 {
-    if reader.at_hand().is_empty() {
-        send_out(endpoint, writer, sink)?;
-        let count = read_in(endpoint, reader, writer, sink)?;
-        take_in(endpoint, count, supplied, writer, sink, policy)
-    } else {
-        write_out(endpoint, writer, sink)?;
-        take_hand(endpoint, reader, supplied, writer, sink, policy)
+    if !reader.at_hand().is_empty() {
+        return hand_on(endpoint, reader, course, writer, sink);
     }
+    flush_both(writer, sink)?;
+    if !fill_hand(endpoint, reader, writer, sink)? {
+        return read_on(endpoint, reader, course, writer, sink);
+    }
+    if reader.ended() {
+        return Ok(Done::NOTHING);
+    }
+    hand_on(endpoint, reader, course, writer, sink)
 }
 
-/// Feeds the bytes that the reader has at hand, as far as the endpoint takes them, and does what follows from that.
-fn take_hand<A: Allocator + Copy, R: AtHand + Drop, W: Write + HoldsBack + Drop, S: Write + Drop>(
+/// Makes a step with what the reader has at hand.
+// Else the answer of the step is copied: 72 instructions of a message.
+#[inline(always)]
+fn hand_on<A: Allocator + Copy, R: AtHand + Drop, W: Write + HoldsBack + Drop, S: Write + Drop>(
     endpoint: &mut Endpoint<A>,
     reader: &mut Device<R>,
-    supplied: bool,
+    course: &mut Course,
     writer: &mut Device<W>,
     sink: &mut Device<S>,
-    policy: Policy,
-) -> Result<bool, ServeFault>
+) -> Result<Done, ServeFault>
     requires some { 0 < length (device_hand R.hand reader.old) }
-    requires writer { ¬ (IsTrue (has_failed writer.old)) }
-    requires sink { ¬ (IsTrue (has_failed sink.old)) }
+    requires ends { AreOpen (ends W.contents S.contents writer.old sink.old) }
     requires alive { is_dead endpoint.old.connection.phase ≡ false }
     requires sent { endpoint.old.unsent ≡ [] }
-    requires supplied { supplied ≡ true → IsSupplied policy endpoint.old.connection }
-    ensures reader { ¬ (IsTrue (has_failed reader.new)) }
+    requires course { IsRight course.old endpoint.old.connection }
+    ensures rule { course.new.rule ≡ course.old.rule }
+    ensures course { IsRight course.new endpoint.new.connection }
     ensures fewer { reads_ahead reader.new < reads_ahead reader.old }
-    ensures read { result ≢ Err ServeFault.Read }
-    ensures write { (result ≡ Err ServeFault.Write) ↔ IsTrue (has_failed writer.new) }
-    ensures sink { (result ≡ Err ServeFault.Sink) ↔ IsTrue (has_failed sink.new) }
-    ensures flushed { result ≡ Err ServeFault.NoMemory → (is_flushed writer.new ≡ true) × (is_flushed sink.new ≡ true) }
-    ensures starved { result ≡ Err ServeFault.NoMemory → IsStarved endpoint.new }
-    ensures idle { OnOk result (IsIdle endpoint.new) }
-    ensures supplied { IfOk result (λ b. (b ≡ true) ↔ IsSupplied policy endpoint.new.connection) }
-    ensures served { OnOk result (HasRead policy endpoint.old endpoint.new (R.remaining (device_inner reader.old)) (R.remaining (device_inner reader.new))
-        (W.contents (device_inner writer.old)) (W.contents (device_inner writer.new)) (S.contents (device_inner sink.old)) (S.contents (device_inner sink.new))) }
-    ensures begun { IfErr result (λ e. HasBroken policy e endpoint.old endpoint.new (R.remaining (device_inner reader.old)) (R.remaining (device_inner reader.new))
-        (W.contents (device_inner writer.old)) (W.contents (device_inner writer.new)) (S.contents (device_inner sink.old)) (S.contents (device_inner sink.new))) }
+    ensures goes { Goes course.old.rule result endpoint.old endpoint.new (R.remaining (device_inner reader.old)) (R.remaining (device_inner reader.new)) (has_failed reader.new)
+        (ends W.contents S.contents writer.old sink.old) (ends W.contents S.contents writer.new sink.new) }
 {
-    endpoint.holds_a_header(); // three laws, for the proof
-    are_bytes(reader.at_hand());
-    fills_are_feeds();
-    let fed = endpoint.feed(reader.at_hand());
-    reader.took(fed.used);
-    follow(endpoint, fed.outcome, supplied, writer, sink, policy)
+    let stepped = serve_piece(endpoint, course, reader.at_hand(), writer, sink);
+    reader.took(stepped.used);
+    stepped.done
 }
 
-/// Takes the bytes that were read into the endpoint's room, and does what follows from them.
-fn take_in<A: Allocator + Copy, W: Write + HoldsBack + Drop, S: Write + Drop>(
+/// Makes a step with what it reads.
+fn read_on<A: Allocator + Copy, R: AtHand + Drop, W: Write + HoldsBack + Drop, S: Write + Drop>(
     endpoint: &mut Endpoint<A>,
-    count: usize,
-    supplied: bool,
+    reader: &mut Device<R>,
+    course: &mut Course,
     writer: &mut Device<W>,
     sink: &mut Device<S>,
-    policy: Policy,
-) -> Result<bool, ServeFault>
-    requires writer { ¬ (IsTrue (has_failed writer.old)) }
-    requires sink { ¬ (IsTrue (has_failed sink.old)) }
+) -> Result<Done, ServeFault>
+    requires reader { ¬ (IsTrue (has_failed reader.old)) }
+    requires ends { AreOpen (ends W.contents S.contents writer.old sink.old) }
+    requires flushed { is_flushed writer.old ≡ true }
+    requires recorded { is_flushed sink.old ≡ true }
     requires alive { is_dead endpoint.old.connection.phase ≡ false }
+    requires begun { has_ended reader.old ≡ false }
+    requires goes_on { IsOver endpoint.old.input.stage → ⊥ }
     requires sent { endpoint.old.unsent ≡ [] }
-    requires read { MayRead endpoint.old count }
-    requires supplied { supplied ≡ true → IsSupplied policy endpoint.old.connection }
-    ensures read { result ≢ Err ServeFault.Read }
-    ensures write { (result ≡ Err ServeFault.Write) ↔ IsTrue (has_failed writer.new) }
-    ensures sink { (result ≡ Err ServeFault.Sink) ↔ IsTrue (has_failed sink.new) }
-    ensures flushed { result ≡ Err ServeFault.NoMemory → (is_flushed writer.new ≡ true) × (is_flushed sink.new ≡ true) }
-    ensures starved { result ≡ Err ServeFault.NoMemory → IsStarved endpoint.new }
-    ensures idle { OnOk result (IsIdle endpoint.new) }
-    ensures supplied { IfOk result (λ b. (b ≡ true) ↔ IsSupplied policy endpoint.new.connection) }
-
-    // It is so from before they were read, since what stands in that room says nothing.
-    ensures served { OnOk result ((s : EndpointState) → IsKept s endpoint.old → Served policy reading reading (take count endpoint.old.input.spare) s endpoint.new
-        (W.contents (device_inner writer.old)) (W.contents (device_inner writer.new)) (S.contents (device_inner sink.old)) (S.contents (device_inner sink.new))) }
-    ensures begun { IfErr result (λ e. (s : EndpointState) → IsKept s endpoint.old → BrokeOff policy e reading (take count endpoint.old.input.spare) s endpoint.new
-        (W.contents (device_inner writer.old)) (W.contents (device_inner writer.new)) (S.contents (device_inner sink.old)) (S.contents (device_inner sink.new))) }
+    requires idle { IsIdle endpoint.old }
+    requires course { IsRight course.old endpoint.old.connection }
+    ensures rule { course.new.rule ≡ course.old.rule }
+    ensures course { IsRight course.new endpoint.new.connection }
+    ensures fewer { OnOk result (reads_ahead reader.new < reads_ahead reader.old) }
+    ensures goes { Goes course.old.rule result endpoint.old endpoint.new (R.remaining (device_inner reader.old)) (R.remaining (device_inner reader.new)) (has_failed reader.new)
+        (ends W.contents S.contents writer.old sink.old) (ends W.contents S.contents writer.new sink.new) }
 {
-    endpoint.holds_a_header(); // three laws, for the proof
-    endpoint.spare_is_bytes();
-    fills_are_feeds();
-    let fed = endpoint.filled(count);
-    follow(endpoint, fed.outcome, supplied, writer, sink, policy)
-}
-
-/// Does what follows from what a feed told: takes the message that is ready, and tops up what may lack something. Where
-/// nothing was lacking before the feed that is nothing while a unit is on its way, and one session behind a frame of it.
-// For `telemetry` and `gateway` (docs/PERF.md).
-#[inline(always)]
-fn follow<A: Allocator + Copy, W: Write + HoldsBack + Drop, S: Write + Drop>(
-    endpoint: &mut Endpoint<A>,
-    told: Outcome,
-    supplied: bool,
-    writer: &mut Device<W>,
-    sink: &mut Device<S>,
-    policy: Policy,
-) -> Result<bool, ServeFault>
-    requires writer { ¬ (IsTrue (has_failed writer.old)) }
-    requires sink { ¬ (IsTrue (has_failed sink.old)) }
-    requires supplied { supplied ≡ true → IsSuppliedBehind told endpoint.old.input.filled policy endpoint.old.connection }
-    ensures read { result ≢ Err ServeFault.Read }
-    ensures write { (result ≡ Err ServeFault.Write) ↔ IsTrue (has_failed writer.new) }
-    ensures sink { (result ≡ Err ServeFault.Sink) ↔ IsTrue (has_failed sink.new) }
-    ensures flushed { result ≡ Err ServeFault.NoMemory → (is_flushed writer.new ≡ true) × (is_flushed sink.new ≡ true) }
-    ensures fed { OnOk result (told ≢ Outcome.NoMemory) }
-    ensures starved { result ≡ Err ServeFault.NoMemory → (told ≡ Outcome.NoMemory) × (endpoint.new ≡ endpoint.old) }
-    ensures supplied { IfOk result (λ b. (b ≡ true) ↔ IsSupplied policy endpoint.new.connection) }
-    ensures works { OnOk result (Works policy (stand_told endpoint.old.connection.config told) reading endpoint.old endpoint.new (W.contents (device_inner writer.old))
-        (W.contents (device_inner writer.new)) (S.contents (device_inner sink.old)) (S.contents (device_inner sink.new))) }
-    ensures begun { IfErr result (λ e. BrokeOff policy e (stand_told endpoint.old.connection.config told) [] endpoint.old endpoint.new (W.contents (device_inner writer.old))
-        (W.contents (device_inner writer.new)) (S.contents (device_inner sink.old)) (S.contents (device_inner sink.new))) }
-{
-    let only = if supplied { one_session(told) } else { None };
-    match told {
-        Outcome::NoMemory => {
-            flush_both(writer, sink)?;
-            Err(ServeFault::NoMemory)
-        }
-        Outcome::More if supplied && !endpoint.is_between() => Ok(true),
-        Outcome::Event(Event::Ready { channel, handle }) => {
-            receive(endpoint, channel, handle, writer, sink, policy)?;
-            top_up(endpoint, writer, sink, only, policy)
-        }
-        _ => top_up(endpoint, writer, sink, only, policy),
-    }
-}
-
-/// The channel of the session of whose frame this was told, where that is all that it changed.
-fn one_session(told: Outcome) -> Option<u16>
-    ensures { result ≡ session_told told }
-{
-    match told {
-        Outcome::Event(
-            Event::Attached { channel, .. }
-            | Event::Unfinished { channel, .. }
-            | Event::Ready { channel, .. }
-            | Event::Aborted { channel, .. }
-            | Event::Drained { channel, .. }
-            | Event::Settled { channel, .. }
-            | Event::Detached { channel, .. },
-        ) => Some(channel),
-        _ => None,
-    }
-}
-
-/// Takes the message that is ready, writes its record, and settles it unless its sender did.
-fn receive<A: Allocator + Copy, W: Write + HoldsBack + Drop, S: Write + Drop>(
-    endpoint: &mut Endpoint<A>,
-    channel: u16,
-    handle: u32,
-    writer: &mut Device<W>,
-    sink: &mut Device<S>,
-    policy: Policy,
-) -> Result<(), ServeFault>
-    requires writer { ¬ (IsTrue (has_failed writer.old)) }
-    requires sink { ¬ (IsTrue (has_failed sink.old)) }
-    ensures read { result ≢ Err ServeFault.Read }
-    ensures memory { result ≢ Err ServeFault.NoMemory }
-    ensures write { (result ≡ Err ServeFault.Write) ↔ IsTrue (has_failed writer.new) }
-    ensures sink { (result ≡ Err ServeFault.Sink) ↔ IsTrue (has_failed sink.new) }
-    ensures only { OnOk result (IsOnlyIn policy channel endpoint.old.connection endpoint.new.connection) }
-    ensures works { OnOk result (Works policy (Receiving channel handle) (ToppingUp (all_supplies endpoint.new.connection.config)) endpoint.old endpoint.new
-        (W.contents (device_inner writer.old)) (W.contents (device_inner writer.new)) (S.contents (device_inner sink.old)) (S.contents (device_inner sink.new))) }
-    ensures begun { IfErr result (λ e. BrokeOff policy e (Receiving channel handle) [] endpoint.old endpoint.new (W.contents (device_inner writer.old))
-        (W.contents (device_inner writer.new)) (S.contents (device_inner sink.old)) (S.contents (device_inner sink.new))) }
-{
-    let taken = match endpoint.take(channel, handle) {
-        Ok(taken) => taken,
-        Err(_) => return Ok(()),
-    };
-    write_record(sink, channel, handle, &taken)?;
-    if !taken.settled {
-        write_out(endpoint, writer, sink)?;
-        is_id(taken.delivery_id);
-        let _ = endpoint.settle(channel, taken.delivery_id, policy.outcome);
-    }
-    Ok(())
+    let count = read_in(endpoint, reader, writer, sink)?;
+    serve_read(endpoint, course, count, writer, sink).done
 }

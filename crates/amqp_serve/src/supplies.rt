@@ -1,91 +1,190 @@
 //! What is topped up: the windows of sessions and the credit of links.
-ghost use Rattle.std.specs.Prelude.{◌≡◌, ◌≢◌, ◌≤◌, ◌<◌, ◌↔◌, ◌++◌, ◌∷◌, [], ℕ, List, true, Err, IsTrue, OnOk, IfOk, IfErr};
-ghost use Rattle.amqp_frame.specs.Devices.{device_inner, has_failed};
-ghost use Rattle.amqp_endpoint.specs.Connections.{slot_at};
+ghost use Rattle.std.specs.Prelude.{◌≡◌, ◌≢◌, ◌≤◌, ◌<◌, ◌↔◌, ◌++◌, ◌∷◌, [], ℕ, List, suc, OnOk, IfOk};
+ghost use Rattle.amqp_endpoint.specs.Connections.{channels, slot_at};
+ghost use Rattle.amqp_endpoint.specs.Endpoints.{accepted_by};
+ghost use Rattle.amqp_endpoint.specs.Runs.{CallDone};
 ghost use Rattle.amqp_endpoint.specs.Takings.{link_in, link_at};
-ghost use Rattle.amqp_serve.specs.Serving.{Supply, WindowOf, CreditOf, window_lack, credit_lack, lack, session_supplies, all_supplies, ToppingUp, reading, Works, BrokeOff};
-ghost use Rattle.amqp_serve.specs.Supplied.{IsSupplied, IsSuppliedAt, IsSuppliedBut, IsOnlyIn, IsOnlyOf, IsSpan};
+ghost use Rattle.amqp_serve.specs.Cuts.{supply_channel, call_for};
+ghost use Rattle.amqp_serve.specs.Deeds.{with_both, topped_as, topped_deeds, Went, ends, AreOpen};
+ghost use Rattle.amqp_serve.specs.Serving.{window_lack, credit_lack, lack, session_supplies, all_supplies, ToppingUp, reading};
+ghost use Rattle.amqp_serve.specs.Supplied.{IsSupplied, IsSuppliedAt, IsSuppliedBut, IsSuppliedOutside, IsOnlyAt, IsOnlyOf};
+ghost use Rattle.amqp_serve.specs.declared.supplies.Look.TheVariants as look;
+ghost use Rattle.amqp_serve.specs.declared.supplies.Supply.{Supply};
 
 use crate::sending::write_out;
-use crate::{Policy, ServeFault};
-use amqp_endpoint::Endpoint;
+use crate::{Rule, ServeFault};
+use amqp_endpoint::{CallFault, Endpoint};
 use amqp_frame::{Device, HoldsBack};
 use std::alloc::Allocator;
 use std::io::Write;
 
-/// Tops up the windows and the credit of all sessions and their links, by rising channel and handle; where only one session
-/// may lack something, its own. Answers whether nothing is lacking then, which is so unless something was refused.
-pub fn top_up<A: Allocator + Copy, W: Write + HoldsBack + Drop, S: Write + Drop>(
-    endpoint: &mut Endpoint<A>,
-    writer: &mut Device<W>,
-    sink: &mut Device<S>,
-    only: Option<u16>,
-    policy: Policy,
-) -> Result<bool, ServeFault>
-    requires writer { ¬ (IsTrue (has_failed writer.old)) }
-    requires sink { ¬ (IsTrue (has_failed sink.old)) }
-    requires only { IsSuppliedBut only policy endpoint.old.connection }
-    ensures read { result ≢ Err ServeFault.Read }
-    ensures memory { result ≢ Err ServeFault.NoMemory }
-    ensures write { (result ≡ Err ServeFault.Write) ↔ IsTrue (has_failed writer.new) }
-    ensures sink { (result ≡ Err ServeFault.Sink) ↔ IsTrue (has_failed sink.new) }
-    ensures supplied { IfOk result (λ b. (b ≡ true) ↔ IsSupplied policy endpoint.new.connection) }
-    ensures works { OnOk result (Works policy (ToppingUp (all_supplies endpoint.old.connection.config)) reading endpoint.old endpoint.new
-        (W.contents (device_inner writer.old)) (W.contents (device_inner writer.new)) (S.contents (device_inner sink.old)) (S.contents (device_inner sink.new))) }
-    ensures begun { IfErr result (λ e. BrokeOff policy e (ToppingUp (all_supplies endpoint.old.connection.config)) [] endpoint.old endpoint.new
-        (W.contents (device_inner writer.old)) (W.contents (device_inner writer.new)) (S.contents (device_inner sink.old)) (S.contents (device_inner sink.new))) }
-{
-    let channels = endpoint.config().channel_max() as u16 + 1;
-    let handles = endpoint.config().handle_max() as u32 + 1;
-    let (first, end) = span(only, channels);
-    let mut supplied = true;
-    for channel in first..end {
-        if endpoint.window(channel).is_some() {
-            supplied &= top_up_session(endpoint, writer, sink, channel, handles, policy)?;
+/// What is topped up.
+#[derive(Clone, Copy, Debug, PartialEq, Eq)]
+pub enum Supply {
+    /// The incoming window of the session on a channel [2.5.6].
+    WindowOf { channel: u16 },
+    /// The credit of the link with a handle, of the session on a channel [2.6.7].
+    CreditOf { channel: u16, handle: u32 },
+}
+
+/// What may lack something.
+#[derive(Clone, Copy, Debug, PartialEq, Eq)]
+pub enum Look {
+    Nothing,
+    /// The link with a handle, and the window of its session.
+    Link { channel: u16, handle: u32 },
+    /// The session on a channel, and its links.
+    Session { channel: u16 },
+    All,
+}
+
+/// What was topped up. Each number stops at the highest that it holds.
+#[derive(Clone, Copy, Debug, PartialEq, Eq)]
+pub struct Topped {
+    /// The places that windows were widened by.
+    pub widened: u32,
+    /// The credit that links were granted.
+    pub granted: u32,
+    /// How many windows and links were refused what they lacked.
+    pub refused: u32,
+}
+
+impl Topped {
+    /// Nothing.
+    pub const NOTHING: Topped = Topped {
+        widened: 0,
+        granted: 0,
+        refused: 0,
+    };
+
+    /// This, and then more.
+    fn and(self, more: Topped) -> Topped
+        ensures { result ≡ with_both self more }
+    {
+        Topped {
+            widened: self.widened.saturating_add(more.widened),
+            granted: self.granted.saturating_add(more.granted),
+            refused: self.refused.saturating_add(more.refused),
         }
     }
-    Ok(supplied)
 }
 
-/// The channels to go through, of so many: the one that is named, or all; the last is before the second number.
-fn span(only: Option<u16>, channels: u16) -> (u16, u16)
-    ensures { IsSpan only channels result.0 result.1 }
-{
-    match only {
-        Some(channel) if channel < channels => (channel, channel + 1),
-        _ => (0, channels),
-    }
-}
-
-/// The same of the session on a channel, which has so many handles: nothing else changes.
-fn top_up_session<A: Allocator + Copy, W: Write + HoldsBack + Drop, S: Write + Drop>(
+/// Tops up what may lack something, the windows and the credit of sessions and their links by rising channel and handle, and
+/// fills in what was.
+#[inline(always)]
+pub fn top_up<A: Allocator + Copy, W: Write + HoldsBack + Drop, S: Write + Drop>(
     endpoint: &mut Endpoint<A>,
+    look: Look,
+    rule: &Rule,
+    topped: &mut Topped,
     writer: &mut Device<W>,
     sink: &mut Device<S>,
+) -> Result<(), ServeFault>
+    requires ends { AreOpen (ends W.contents S.contents writer.old sink.old) }
+    requires but { IsSuppliedBut look rule.now endpoint.old.connection }
+    ensures supplied { OnOk result ((topped.new.refused ≡ 0) ↔ IsSupplied rule.now endpoint.new.connection) }
+    ensures went { Went rule.now (λ _. topped_deeds topped.new) (ToppingUp (all_supplies endpoint.old.connection.config)) reading result endpoint.old endpoint.new
+        (ends W.contents S.contents writer.old sink.old) (ends W.contents S.contents writer.new sink.new) }
+{
+    let channel_max = endpoint.config().channel_max() as u16;
+    let handle_max = endpoint.config().handle_max() as u32;
+    match look {
+        Look::Nothing => {
+            *topped = Topped::NOTHING;
+            Ok(())
+        }
+        Look::Link { channel, handle } if channel <= channel_max && handle <= handle_max => {
+            top_up_link(endpoint, channel, handle, rule, topped, writer, sink)
+        }
+        Look::Session { channel } if channel <= channel_max => {
+            top_up_sessions(endpoint, channel, channel + 1, rule, topped, writer, sink)
+        }
+        _ => top_up_sessions(endpoint, 0, channel_max + 1, rule, topped, writer, sink),
+    }
+}
+
+/// Tops up a link and the window of its session, where nothing else lacks anything.
+#[inline(always)]
+fn top_up_link<A: Allocator + Copy, W: Write + HoldsBack + Drop, S: Write + Drop>(
+    endpoint: &mut Endpoint<A>,
+    channel: u16,
+    handle: u32,
+    rule: &Rule,
+    topped: &mut Topped,
+    writer: &mut Device<W>,
+    sink: &mut Device<S>,
+) -> Result<(), ServeFault>
+    requires ends { AreOpen (ends W.contents S.contents writer.old sink.old) }
+    requires channel { channel < channels endpoint.old.connection.config }
+    requires handle { handle < suc endpoint.old.connection.config.handle_max }
+    requires but { IsSuppliedBut (look.Link channel handle) rule.now endpoint.old.connection }
+    ensures supplied { OnOk result ((topped.new.refused ≡ 0) ↔ IsSupplied rule.now endpoint.new.connection) }
+    ensures went { Went rule.now (λ _. topped_deeds topped.new) (ToppingUp (all_supplies endpoint.old.connection.config)) reading result endpoint.old endpoint.new
+        (ends W.contents S.contents writer.old sink.old) (ends W.contents S.contents writer.new sink.new) }
+{
+    let window = Supply::WindowOf { channel };
+    let widened = top_up_one(endpoint, window, rule, writer, sink)?;
+    let credit = Supply::CreditOf { channel, handle };
+    let granted = top_up_one(endpoint, credit, rule, writer, sink)?;
+    *topped = widened.and(granted);
+    Ok(())
+}
+
+/// Tops up the sessions from one channel to before another, where no other session lacks anything.
+fn top_up_sessions<A: Allocator + Copy, W: Write + HoldsBack + Drop, S: Write + Drop>(
+    endpoint: &mut Endpoint<A>,
+    first: u16,
+    end: u16,
+    rule: &Rule,
+    topped: &mut Topped,
+    writer: &mut Device<W>,
+    sink: &mut Device<S>,
+) -> Result<(), ServeFault>
+    requires ends { AreOpen (ends W.contents S.contents writer.old sink.old) }
+    requires ordered { first ≤ end }
+    requires within { end ≤ channels endpoint.old.connection.config }
+    requires but { IsSuppliedOutside first end rule.now endpoint.old.connection }
+    ensures supplied { OnOk result ((topped.new.refused ≡ 0) ↔ IsSupplied rule.now endpoint.new.connection) }
+    ensures went { Went rule.now (λ _. topped_deeds topped.new) (ToppingUp (all_supplies endpoint.old.connection.config)) reading result endpoint.old endpoint.new
+        (ends W.contents S.contents writer.old sink.old) (ends W.contents S.contents writer.new sink.new) }
+{
+    let handles = endpoint.config().handle_max() as u32 + 1;
+    let mut all = Topped::NOTHING;
+    for channel in first..end {
+        if endpoint.window(channel).is_some() {
+            let more = top_up_session(endpoint, channel, handles, rule, writer, sink)?;
+            all = all.and(more);
+        }
+    }
+    *topped = all;
+    Ok(())
+}
+
+/// Tops up the session on a channel, which has so many handles.
+fn top_up_session<A: Allocator + Copy, W: Write + HoldsBack + Drop, S: Write + Drop>(
+    endpoint: &mut Endpoint<A>,
     channel: u16,
     handles: u32,
-    policy: Policy,
-) -> Result<bool, ServeFault>
-    requires writer { ¬ (IsTrue (has_failed writer.old)) }
-    requires sink { ¬ (IsTrue (has_failed sink.old)) }
-    ensures read { result ≢ Err ServeFault.Read }
-    ensures memory { result ≢ Err ServeFault.NoMemory }
-    ensures write { (result ≡ Err ServeFault.Write) ↔ IsTrue (has_failed writer.new) }
-    ensures sink { (result ≡ Err ServeFault.Sink) ↔ IsTrue (has_failed sink.new) }
-    ensures supplied { IfOk result (λ b. (b ≡ true) ↔ IsSuppliedAt policy handles channel endpoint.new.connection) }
-    ensures only { OnOk result (IsOnlyIn policy channel endpoint.old.connection endpoint.new.connection) }
-    ensures works { OnOk result ((rest : List Supply) → Works policy (ToppingUp (session_supplies handles channel ++ rest)) (ToppingUp rest) endpoint.old
-        endpoint.new (W.contents (device_inner writer.old)) (W.contents (device_inner writer.new)) (S.contents (device_inner sink.old)) (S.contents (device_inner sink.new))) }
-    ensures begun { IfErr result (λ e. (rest : List Supply) → BrokeOff policy e (ToppingUp (session_supplies handles channel ++ rest)) [] endpoint.old
-        endpoint.new (W.contents (device_inner writer.old)) (W.contents (device_inner writer.new)) (S.contents (device_inner sink.old)) (S.contents (device_inner sink.new))) }
+    rule: &Rule,
+    writer: &mut Device<W>,
+    sink: &mut Device<S>,
+) -> Result<Topped, ServeFault>
+    requires ends { AreOpen (ends W.contents S.contents writer.old sink.old) }
+    ensures supplied { IfOk result (λ t. (t.refused ≡ 0) ↔ IsSuppliedAt rule.now handles channel endpoint.new.connection) }
+    ensures only { OnOk result (IsOnlyAt rule.now (look.Session channel) endpoint.old.connection endpoint.new.connection) }
+    ensures went { (rest : List Supply) → Went rule.now topped_deeds (ToppingUp (session_supplies handles channel ++ rest)) (ToppingUp rest) result endpoint.old endpoint.new
+        (ends W.contents S.contents writer.old sink.old) (ends W.contents S.contents writer.new sink.new) }
 {
-    let mut supplied = top_up_window(endpoint, writer, sink, channel, policy)?;
-    let mut handle = first_lacking(endpoint, channel, 0, handles, policy.credit);
+    let window = Supply::WindowOf { channel };
+    let mut topped = top_up_one(endpoint, window, rule, writer, sink)?;
+    let mut handle = first_lacking(endpoint, channel, 0, handles, rule);
     while handle < handles {
-        supplied &= top_up_credit(endpoint, writer, sink, channel, handle, policy)?;
-        handle = first_lacking(endpoint, channel, handle + 1, handles, policy.credit);
+        let credit = Supply::CreditOf { channel, handle };
+        let granted = top_up_one(endpoint, credit, rule, writer, sink)?;
+        topped = topped.and(granted);
+        handle = first_lacking(endpoint, channel, handle + 1, handles, rule);
     }
-    Ok(supplied)
+    Ok(topped)
 }
 
 /// The first handle from one on, of so many, whose link lacks credit; so many where none does.
@@ -94,81 +193,89 @@ fn first_lacking<A: Allocator + Copy>(
     channel: u16,
     from: u32,
     handles: u32,
-    credit: u32,
+    rule: &Rule,
 ) -> u32
     requires { from ≤ handles }
     ensures from { from ≤ result }
     ensures within { result ≤ handles }
-    ensures passed { (h : ℕ) → from ≤ h → h < result → credit_lack credit (link_at endpoint.now.connection channel h) ≡ 0 }
+    ensures passed { (h : ℕ) → from ≤ h → h < result → credit_lack rule.now (link_at endpoint.now.connection channel h) ≡ 0 }
 {
-    match endpoint.first_lacking(channel, from, credit) {
+    // A link at its mark, or at less, has less than that.
+    let short = rule.mark.saturating_add(1).min(rule.credit);
+    match endpoint.first_lacking(channel, from, short) {
         Some(handle) => handle.min(handles),
         None => handles,
     }
 }
 
-/// Widens the window of the session on a channel by what it lacks. Answers whether it lacks nothing then.
-fn top_up_window<A: Allocator + Copy, W: Write + HoldsBack + Drop, S: Write + Drop>(
+/// Gives one supply what it lacks.
+#[inline(always)]
+fn top_up_one<A: Allocator + Copy, W: Write + HoldsBack + Drop, S: Write + Drop>(
     endpoint: &mut Endpoint<A>,
+    supply: Supply,
+    rule: &Rule,
     writer: &mut Device<W>,
     sink: &mut Device<S>,
-    channel: u16,
-    policy: Policy,
-) -> Result<bool, ServeFault>
-    requires writer { ¬ (IsTrue (has_failed writer.old)) }
-    requires sink { ¬ (IsTrue (has_failed sink.old)) }
-    ensures read { result ≢ Err ServeFault.Read }
-    ensures memory { result ≢ Err ServeFault.NoMemory }
-    ensures write { (result ≡ Err ServeFault.Write) ↔ IsTrue (has_failed writer.new) }
-    ensures sink { (result ≡ Err ServeFault.Sink) ↔ IsTrue (has_failed sink.new) }
-    ensures supplied { IfOk result (λ b. (b ≡ true) ↔ (lack policy endpoint.new.connection (WindowOf channel) ≡ 0)) }
-    ensures only { OnOk result (IsOnlyOf policy (WindowOf channel) endpoint.old.connection endpoint.new.connection) }
-    ensures works { OnOk result ((rest : List Supply) → Works policy (ToppingUp (WindowOf channel ∷ rest)) (ToppingUp rest) endpoint.old endpoint.new
-        (W.contents (device_inner writer.old)) (W.contents (device_inner writer.new)) (S.contents (device_inner sink.old)) (S.contents (device_inner sink.new))) }
-    ensures begun { IfErr result (λ e. (rest : List Supply) → BrokeOff policy e (ToppingUp (WindowOf channel ∷ rest)) [] endpoint.old endpoint.new
-        (W.contents (device_inner writer.old)) (W.contents (device_inner writer.new)) (S.contents (device_inner sink.old)) (S.contents (device_inner sink.new))) }
+) -> Result<Topped, ServeFault>
+    requires ends { AreOpen (ends W.contents S.contents writer.old sink.old) }
+    ensures supplied { IfOk result (λ t. (t.refused ≡ 0) ↔ (lack rule.now endpoint.new.connection supply ≡ 0)) }
+    ensures only { OnOk result (IsOnlyOf rule.now supply endpoint.old.connection endpoint.new.connection) }
+    ensures went { (rest : List Supply) → Went rule.now topped_deeds (ToppingUp (supply ∷ rest)) (ToppingUp rest) result endpoint.old endpoint.new
+        (ends W.contents S.contents writer.old sink.old) (ends W.contents S.contents writer.new sink.new) }
 {
-    let more = missing_places(endpoint, channel);
+    let more = missing(endpoint, supply, rule);
     if more == 0 {
-        return Ok(true);
+        return Ok(Topped::NOTHING);
     }
     write_out(endpoint, writer, sink)?;
-    match endpoint.widen(channel, more) {
-        Ok(()) => Ok(true),
-        Err(_) => Ok(false),
+    let given = give(endpoint, supply, more);
+    Ok(topped_by(supply, more, given))
+}
+
+/// What topping up a supply by so much came to.
+#[inline(always)]
+fn topped_by(supply: Supply, n: u32, given: Result<(), CallFault>) -> Topped
+    ensures { result ≡ topped_as supply n given }
+{
+    match (supply, given) {
+        (Supply::WindowOf { .. }, Ok(())) => Topped {
+            widened: n,
+            ..Topped::NOTHING
+        },
+        (Supply::CreditOf { .. }, Ok(())) => Topped {
+            granted: n,
+            ..Topped::NOTHING
+        },
+        (_, Err(_)) => Topped {
+            refused: 1,
+            ..Topped::NOTHING
+        },
     }
 }
 
-/// Grants the link at a handle of the session on a channel what it lacks. Answers whether it lacks nothing then.
-fn top_up_credit<A: Allocator + Copy, W: Write + HoldsBack + Drop, S: Write + Drop>(
+/// Widens a window, or grants credit.
+#[inline(always)]
+fn give<A: Allocator + Copy>(
     endpoint: &mut Endpoint<A>,
-    writer: &mut Device<W>,
-    sink: &mut Device<S>,
-    channel: u16,
-    handle: u32,
-    policy: Policy,
-) -> Result<bool, ServeFault>
-    requires writer { ¬ (IsTrue (has_failed writer.old)) }
-    requires sink { ¬ (IsTrue (has_failed sink.old)) }
-    ensures read { result ≢ Err ServeFault.Read }
-    ensures memory { result ≢ Err ServeFault.NoMemory }
-    ensures write { (result ≡ Err ServeFault.Write) ↔ IsTrue (has_failed writer.new) }
-    ensures sink { (result ≡ Err ServeFault.Sink) ↔ IsTrue (has_failed sink.new) }
-    ensures supplied { IfOk result (λ b. (b ≡ true) ↔ (lack policy endpoint.new.connection (CreditOf channel handle) ≡ 0)) }
-    ensures only { OnOk result (IsOnlyOf policy (CreditOf channel handle) endpoint.old.connection endpoint.new.connection) }
-    ensures works { OnOk result ((rest : List Supply) → Works policy (ToppingUp (CreditOf channel handle ∷ rest)) (ToppingUp rest) endpoint.old endpoint.new
-        (W.contents (device_inner writer.old)) (W.contents (device_inner writer.new)) (S.contents (device_inner sink.old)) (S.contents (device_inner sink.new))) }
-    ensures begun { IfErr result (λ e. (rest : List Supply) → BrokeOff policy e (ToppingUp (CreditOf channel handle ∷ rest)) [] endpoint.old endpoint.new
-        (W.contents (device_inner writer.old)) (W.contents (device_inner writer.new)) (S.contents (device_inner sink.old)) (S.contents (device_inner sink.new))) }
+    supply: Supply,
+    n: u32,
+) -> Result<(), CallFault>
+    ensures { CallDone endpoint.old endpoint.new (supply_channel supply) (call_for supply n) (accepted_by result) }
 {
-    let more = missing_credit(endpoint, channel, handle, policy.credit);
-    if more == 0 {
-        return Ok(true);
+    match supply {
+        Supply::WindowOf { channel } => endpoint.widen(channel, n),
+        Supply::CreditOf { channel, handle } => endpoint.grant(channel, handle, n),
     }
-    write_out(endpoint, writer, sink)?;
-    match endpoint.grant(channel, handle, more) {
-        Ok(()) => Ok(true),
-        Err(_) => Ok(false),
+}
+
+/// What a supply lacks.
+#[inline(always)]
+fn missing<A: Allocator + Copy>(endpoint: &Endpoint<A>, supply: Supply, rule: &Rule) -> u32
+    ensures { result ≡ lack rule.now endpoint.now.connection supply }
+{
+    match supply {
+        Supply::WindowOf { channel } => missing_places(endpoint, channel),
+        Supply::CreditOf { channel, handle } => missing_credit(endpoint, channel, handle, rule),
     }
 }
 
@@ -187,22 +294,25 @@ fn missing_places<A: Allocator + Copy>(endpoint: &Endpoint<A>, channel: u16) -> 
     }
 }
 
-/// What a link lacks of this credit, within what it is allowed.
+/// What a link lacks.
 fn missing_credit<A: Allocator + Copy>(
     endpoint: &Endpoint<A>,
     channel: u16,
     handle: u32,
-    credit: u32,
+    rule: &Rule,
 ) -> u32
-    ensures { result ≡ credit_lack credit (link_in handle (slot_at endpoint.now.connection channel)) }
+    ensures { result ≡ credit_lack rule.now (link_in handle (slot_at endpoint.now.connection channel)) }
 {
     let Some(link) = endpoint.link(channel, handle) else {
         return 0;
     };
+    if rule.mark < link.credit {
+        return 0;
+    }
     let room = link
         .bounds
         .allowed()
         .saturating_sub(link.credit)
         .saturating_sub(link.opened);
-    credit.saturating_sub(link.credit).min(room)
+    rule.credit.saturating_sub(link.credit).min(room)
 }

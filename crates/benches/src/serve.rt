@@ -19,6 +19,8 @@ pub struct Case {
     links: u16,
     /// The credit that each link is kept at.
     credit: u32,
+    /// At how much credit, or less, it is topped up to that by steps; where none is said it is served at once, and kept there.
+    mark: Option<u32>,
     rounds: u32,
 }
 
@@ -30,9 +32,12 @@ impl Measured for Case {
     }
 
     fn about(&self) -> &'static str {
-        match self.credit {
-            CREDIT => "messages of 100 bytes on so many links in turn, recorded and settled",
-            _ => "the same on one link that is kept at so much credit",
+        match (self.credit, self.mark) {
+            (_, Some(_)) =>
+                "the same by steps, on one link that is topped up where its credit is at most so much",
+            (CREDIT, None) =>
+                "messages of 100 bytes on so many links in turn, recorded and settled",
+            (_, None) => "the same on one link that is kept at so much credit",
         }
     }
 
@@ -59,12 +64,23 @@ const fn on(name: &'static str, links: u16, credit: u32) -> Case {
         name,
         links,
         credit,
+        mark: None,
+        rounds: 1_000_000,
+    }
+}
+
+const fn by_steps(name: &'static str, mark: u32) -> Case {
+    Case {
+        name,
+        links: 1,
+        credit: 16,
+        mark: Some(mark),
         rounds: 1_000_000,
     }
 }
 
 /// Every case, in the order in which they are measured.
-pub fn cases() -> [Case; 6] {
+pub fn cases() -> [Case; 8] {
     [
         on("1-link", 1, CREDIT),
         on("8-links", 8, CREDIT),
@@ -72,5 +88,7 @@ pub fn cases() -> [Case; 6] {
         on("256-links", 256, CREDIT),
         on("credit-1", 1, 1),
         on("credit-16", 1, 16),
+        by_steps("mark-15-of-16", 15),
+        by_steps("mark-8-of-16", 8),
     ]
 }

@@ -31,4 +31,6 @@ mod shown;
 #[cfg(test)]
 mod starving;
 #[cfg(test)]
+mod stepping;
+#[cfg(test)]
 mod texts;

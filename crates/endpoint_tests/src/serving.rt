@@ -295,6 +295,23 @@ fn each_read_wants_what_is_due(rt: HostRuntime) -> Result<(), Fail> {
     Ok(())
 }
 
+/// A buffer that has room for all is filled once, and each unit is acted upon where it lies, the first one too.
+#[test]
+fn a_buffer_is_filled_between_two_units(rt: HostRuntime) -> Result<(), Fail> {
+    let rooms = RefCell::new(Vec::new(rt.alloc()));
+    let source = Filler {
+        rest: STREAM,
+        rooms: &rooms,
+    };
+    let reader = BufReader::with_capacity(rt.alloc(), 8192, source)?;
+    let mut writer = Kept::all(rt.alloc());
+    let mut sink = Kept::all(rt.alloc());
+    let end = serve_stream(rt.alloc(), reader, Direct::new(&mut writer), &mut sink)?;
+    assert_eq!(rt; end, Ok(End::Closed));
+    assert_eq!(rt; rooms.into_inner().as_slice(), [8192].as_slice());
+    Ok(())
+}
+
 /// Fails at its first write, where what it was given before is lost.
 #[derive(Drop)]
 struct Broken;

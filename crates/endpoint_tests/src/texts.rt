@@ -3,6 +3,7 @@
 use amqp_endpoint::{CallFault, End, Event, LimitFault, Outcome, Scope};
 use amqp_perform::Condition;
 use amqp_send::OfferFault;
+use amqp_serve::ServeFault;
 use std::alloc::Global;
 use std::error::Error;
 use std::fmt::Display;
@@ -170,6 +171,14 @@ fn faults_are_errors_with_sentences(rt: HostRuntime) -> Result<(), Fail> {
             "the connection is over, or this side has closed it",
         ),
         (CallFault::NotOpen, "the connection is not open"),
+    ] {
+        assert_said(&rt, alloc, fault, text)?;
+    }
+    for (fault, text) in [
+        (ServeFault::Read, "the reader has failed"),
+        (ServeFault::Write, "the writer has failed"),
+        (ServeFault::Sink, "the sink has failed"),
+        (ServeFault::NoMemory, "memory was refused"),
     ] {
         assert_said(&rt, alloc, fault, text)?;
     }

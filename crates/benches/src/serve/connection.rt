@@ -1,4 +1,5 @@
 //! A connection over bytes in memory, as a receiver over a socket serves it.
+ghost use Rattle.std.specs.Prelude.{◌≡◌, [], IfOk};
 
 use crate::measure::Failure;
 use crate::serve::{Case, MESSAGE};
@@ -6,7 +7,7 @@ use crate::stream::{Block, MAX_FRAME, Shape, opening};
 use amqp_endpoint::{Config, End, Endpoint};
 use amqp_frame::Device;
 use amqp_perform::Outcome;
-use amqp_serve::{Policy, ServeFault, serve};
+use amqp_serve::{Policy, Rule, ServeFault, Server, serve};
 use std::alloc::{AllocError, Global};
 use std::io::{self, BufReader, BufWriter, Read, Write};
 
@@ -68,7 +69,18 @@ pub struct Served {
 pub fn serve_all(alloc: Global, case: Case, messages: u32) -> Result<Served, Stopped> {
     let mut sender = Sender::new(alloc, case.links, messages)?;
     let (mut answers, mut records) = (Tally { bytes: 0 }, Tally { bytes: 0 });
-    match connect(alloc, case.credit, &mut sender, &mut answers, &mut records)? {
+    let end = match case.mark {
+        Some(mark) => {
+            let rule = Rule {
+                credit: case.credit,
+                mark,
+                outcome: Outcome::Accepted,
+            };
+            step_through(alloc, rule, &mut sender, &mut answers, &mut records)?
+        }
+        None => connect(alloc, case.credit, &mut sender, &mut answers, &mut records)?,
+    };
+    match end {
         End::Between => {}
         end => return Err(Stopped::Ended(end)),
     }
@@ -90,9 +102,7 @@ fn connect(
     answers: &mut Tally,
     records: &mut Tally,
 ) -> Result<End, Stopped> {
-    let name = String::from_str(alloc, "bench")?;
-    let settings = Config::checked(name, MAX_FRAME, 7, 255, credit, MESSAGE, WINDOW);
-    let mut endpoint = Endpoint::new(alloc, settings.ok_or(Stopped::Settings)?)?;
+    let mut endpoint = new_endpoint(alloc, credit)?;
     let mut reader = Device::new(BufReader::with_capacity(alloc, BUFFER, sender)?);
     let mut writer = Device::new(BufWriter::with_capacity(alloc, BUFFER, answers)?);
     let mut sink = Device::new(BufWriter::with_capacity(alloc, BUFFER, records)?);
@@ -101,6 +111,47 @@ fn connect(
         outcome: Outcome::Accepted,
     };
     Ok(serve(&mut endpoint, &mut reader, &mut writer, &mut sink, policy)?)
+}
+
+/// An endpoint whose links are allowed so much credit.
+fn new_endpoint(alloc: Global, credit: u32) -> Result<Endpoint, Stopped>
+    ensures { IfOk result (λ endpoint. endpoint.unsent ≡ []) }
+{
+    let name = String::from_str(alloc, "bench")?;
+    let settings = Config::checked(name, MAX_FRAME, 7, 255, credit, MESSAGE, WINDOW);
+    Ok(Endpoint::new(alloc, settings.ok_or(Stopped::Settings)?)?)
+}
+
+/// Steps a server through what a sender sends.
+fn step_through(
+    alloc: Global,
+    rule: Rule,
+    sender: &mut Sender,
+    answers: &mut Tally,
+    records: &mut Tally,
+) -> Result<End, Stopped> {
+    let mut server = Server::new(new_endpoint(alloc, rule.credit)?, rule);
+    let mut writer = Device::new(BufWriter::with_capacity(alloc, BUFFER, answers)?);
+    let mut sink = Device::new(BufWriter::with_capacity(alloc, BUFFER, records)?);
+    let mut buffer = Vec::from_elem(alloc, 0, BUFFER)?;
+    for _ in 0..u64::MAX {
+        let count = sender.read(buffer.as_mut_slice())?;
+        if count == 0 {
+            break;
+        }
+        let mut rest = buffer.get(..count).unwrap_or(&[]);
+        for _ in 0..count {
+            if rest.is_empty() || writer.failed() || sink.failed() {
+                break;
+            }
+            let stepped = server.step(rest, &mut writer, &mut sink);
+            stepped.done?;
+            rest = rest.get(stepped.used..).unwrap_or(&[]);
+        }
+    }
+    sink.flush()?;
+    writer.flush()?;
+    Ok(server.finish())
 }
 
 /// What a peer sends: its opening, and a block of messages again and again, each time with the next ids.

@@ -1,16 +1,14 @@
-use Rattle.std.proofs.Common.{◌≡◌, length, IsTrue}
-use Rattle.amqp_frame.specs.Devices.{device_inner, has_failed}
-use Rattle.amqp_serve.specs.declared.serving.Policy.{Policy}
-use Rattle.amqp_serve.specs.Serving.{Stand, Works}
+use Rattle.std.proofs.Common.{◌≡◌, length}
+use Rattle.amqp_serve.specs.declared.rules.Rule.{Rule}
+use Rattle.amqp_serve.specs.Deeds.{no_deeds, WentOn, ends, AreOpen}
+use Rattle.amqp_serve.specs.Serving.{Stand}
 use Rattle.amqp_serve.proofs.sending.write_out.Given as goal
 
 abbrev pub invariant-pieces : goal.invariant-pieces
 invariant-pieces g l = record {
-  writer : ¬ (IsTrue (has_failed l.writer));
-  sink : ¬ (IsTrue (has_failed l.sink));
+  open_ends : AreOpen (ends g.W.Write.contents g.S.Write.contents l.writer l.sink);
   connection : l.endpoint.connection ≡ l.fn.endpoint.connection;
-  works : (p : Policy) (a : Stand) → Works p a a l.fn.endpoint l.endpoint (g.W.Write.contents (device_inner l.fn.writer)) (g.W.Write.contents (device_inner l.writer))
-      (g.S.Write.contents (device_inner l.fn.sink)) (g.S.Write.contents (device_inner l.sink));
+  went : (p : Rule) (a : Stand) → WentOn p no_deeds a a l.fn.endpoint l.endpoint (ends g.W.Write.contents g.S.Write.contents l.fn.writer l.fn.sink) (ends g.W.Write.contents g.S.Write.contents l.writer l.sink);
 }
 
 -- each piece that is written leaves less

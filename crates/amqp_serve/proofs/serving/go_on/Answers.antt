@@ -1,103 +1,73 @@
-use Rattle.std.proofs.Common.{take, sym, subst}
+use Rattle.std.proofs.Common.{◌≡◌, Err, refl}
+use Rattle.std.proofs.lemmas.Bool.{false≢true}
 use Rattle.std.proofs.lemmas.Result.{err_from_is_err_and}
-use Rattle.amqp_frame.specs.Devices.{device_inner}
-use Rattle.amqp_frame.specs.Splits.{IsOver}
-use Rattle.amqp_frame.specs.declared.units.Stage.{Stage}
-use Rattle.amqp_serve.specs.declared.serving.ServeFault.{ServeFault}
+use Rattle.amqp_frame.specs.Devices.{device_inner, has_failed}
 use Rattle.amqp_serve.specs.declared.serving.ServeFault.TheVariants.{Read}
-use Rattle.amqp_serve.specs.Serving.{reading, HasBroken}
-use Rattle.amqp_serve.proofs.Servings.{if_err, on_ok, on_fault}
-use Rattle.amqp_serve.proofs.ServingFeeds.{waits_before, idle_wants}
-use Rattle.amqp_serve.proofs.ServingReads.{read_none, read_failed, read_broke, read_on, piece_broke, read_behind, broken_behind}
+use Rattle.amqp_serve.specs.Serving.{reading}
+use Rattle.amqp_serve.proofs.Servings.{kept_same, works_none, works_flushed}
+use Rattle.amqp_serve.proofs.ServingReads.{lost_at_ends, lost_at_reader, lost_behind, flush_lost, goes_behind, goes_ended, goes_lost}
 use Rattle.amqp_serve.proofs.serving.go_on.Goals as goal
 
-pub returns-in_err-send_out-clause-begun : goal.returns-in_err-send_out-clause-begun
-returns-in_err-send_out-clause-begun g c =
+pub returns-in_err-flush_both-clause-goes : goal.returns-in_err-flush_both-clause-goes
+returns-in_err-flush_both-clause-goes g c =
+    let q = err_from_is_err_and c.from_residual.result c.from_residual.ensures.1 in
+    goes_lost c.from_residual.result _ q.0 _ _ _ _ _ _ _ _ q.1 q.2
+    (lost_at_ends c.args.course.now.rule _ c.args.endpoint.now c.args.endpoint.now (g.R.Read.remaining (device_inner c.args.reader.now)) (has_failed c.args.reader.now) _ _ c.requires.reader
+    (flush_lost c.args.course.now.rule c.args.endpoint.now c.flush_both.result _ (g.W.Write.contents (device_inner c.args.writer.now)) (g.W.Write.contents (device_inner c.flush_both.new.writer))
+    (g.S.Write.contents (device_inner c.args.sink.now)) (g.S.Write.contents (device_inner c.flush_both.new.sink)) (has_failed c.args.writer.now) (has_failed c.flush_both.new.writer) (has_failed c.args.sink.now)
+    (has_failed c.flush_both.new.sink) c.in_err-flush_both.was c.flush_both.ensures.read c.flush_both.ensures.memory c.flush_both.ensures.write c.flush_both.ensures.sink c.flush_both.ensures.answers
+    c.flush_both.ensures.records c.requires.ends))
+
+pub returns-in_err-fill_hand-clause-goes : goal.returns-in_err-fill_hand-clause-goes
+returns-in_err-fill_hand-clause-goes g c =
     let s = c.args.endpoint.now in
-    let t = c.send_out.new.endpoint in
+    let p = c.args.course.now.rule in
     let r = g.R.Read.remaining (device_inner c.args.reader.now) in
+    let r1 = g.R.Read.remaining (device_inner c.fill_hand.new.reader) in
     let w = g.W.Write.contents (device_inner c.args.writer.now) in
-    let w1 = g.W.Write.contents (device_inner c.send_out.new.writer) in
+    let w1 = g.W.Write.contents (device_inner c.flush_both.new.writer) in
     let k = g.S.Write.contents (device_inner c.args.sink.now) in
-    let k1 = g.S.Write.contents (device_inner c.send_out.new.sink) in
-    let p = err_from_is_err_and c.from_residual.result c.from_residual.ensures.1 in
-    if_err c.from_residual.result _ p.0 p.1
-    (subst (λ (e : ServeFault). HasBroken c.args.policy e s t r r w w1 k k1) (sym p.2)
-    (read_broke c.args.policy s s r r w w k k (read_none c.args.policy s r w k) _ t w1 k1 (c.in_err-send_out.ensures.begun c.args.policy reading)))
+    let k1 = g.S.Write.contents (device_inner c.flush_both.new.sink) in
+    let q = err_from_is_err_and c.from_residual-in_err-fill_hand.result c.from_residual-in_err-fill_hand.ensures.1 in
+    let is : c.from_residual-in_err-fill_hand.result ≡ Err Read = cc (c.in_err-fill_hand.ensures.fault) in
+    goes_lost c.from_residual-in_err-fill_hand.result p Read Read s s r r1 (has_failed c.fill_hand.new.reader) _ _ is refl
+    (lost_behind r r1 (has_failed c.fill_hand.new.reader)
+    (works_flushed p reading reading s s w w w1 k k k1 (works_none p reading s w k) c.flush_both.ensures.answers c.flush_both.ensures.records)
+    (lost_at_reader p s s r r1 (has_failed c.fill_hand.new.reader) _ (c.in_err-fill_hand.ensures.failed.0 refl) c.fill_hand.ensures.kept (kept_same s) c.requires.sent c.requires.alive
+    c.in_ok-flush_both.ensures.still))
 
-pub read_in-requires-clause-wants : goal.read_in-requires-clause-wants
-read_in-requires-clause-wants g c =
+pub returns-then-not-branch-clause-goes : goal.returns-then-not-branch-clause-goes
+returns-then-not-branch-clause-goes g c =
     let s = c.args.endpoint.now in
-    let t = c.send_out.new.endpoint in
-    let input = (c.in_ok-send_out.ensures.works c.args.policy reading).input in
-    idle_wants t (λ u waits. c.requires.idle u (waits_before s.input t.input u input waits)) (λ over. c.requires.goes_on (subst (λ (k : Stage). IsOver k) input.stage over))
-
-pub returns-in_err-count-clause-begun : goal.returns-in_err-count-clause-begun
-returns-in_err-count-clause-begun g c =
-    let s = c.args.endpoint.now in
-    let r = g.R.Read.remaining (device_inner c.args.reader.now) in
-    let r1 = g.R.Read.remaining (device_inner c.read_in.new.reader) in
+    let p = c.args.course.now.rule in
     let w = g.W.Write.contents (device_inner c.args.writer.now) in
-    let w1 = g.W.Write.contents (device_inner c.send_out.new.writer) in
+    let w1 = g.W.Write.contents (device_inner c.flush_both.new.writer) in
     let k = g.S.Write.contents (device_inner c.args.sink.now) in
-    let k1 = g.S.Write.contents (device_inner c.send_out.new.sink) in
-    let p = err_from_is_err_and c.from_residual-in_err-count.result c.from_residual-in_err-count.ensures.1 in
-    if_err c.from_residual-in_err-count.result _ Read (cc (c.in_err-count.ensures.fault))
-    (read_failed c.args.policy s s r r w w k k (read_none c.args.policy s r w k) c.send_out.new.endpoint w1 k1 (c.in_ok-send_out.ensures.works c.args.policy reading) c.read_in.new.endpoint r1
-    c.in_err-count.ensures.kept.0 c.in_err-count.ensures.kept.1)
+    let k1 = g.S.Write.contents (device_inner c.flush_both.new.sink) in
+    goes_behind p c.read_on.result s s c.read_on.new.endpoint (g.R.Read.remaining (device_inner c.args.reader.now)) (g.R.Read.remaining (device_inner c.fill_hand.new.reader))
+    (g.R.Read.remaining (device_inner c.read_on.new.reader)) (has_failed c.read_on.new.reader) _ _ _
+    (works_flushed p reading reading s s w w w1 k k k1 (works_none p reading s w k) c.flush_both.ensures.answers c.flush_both.ensures.records) c.fill_hand.ensures.kept c.read_on.ensures.goes
 
-pub returns-in_err-write_out-clause-begun : goal.returns-in_err-write_out-clause-begun
-returns-in_err-write_out-clause-begun g c =
+pub returns-then-ended-clause-goes : goal.returns-then-ended-clause-goes
+returns-then-ended-clause-goes g c =
     let s = c.args.endpoint.now in
-    let t = c.write_out.new.endpoint in
-    let r = g.R.Read.remaining (device_inner c.args.reader.now) in
+    let p = c.args.course.now.rule in
     let w = g.W.Write.contents (device_inner c.args.writer.now) in
-    let w1 = g.W.Write.contents (device_inner c.write_out.new.writer) in
+    let w1 = g.W.Write.contents (device_inner c.flush_both.new.writer) in
     let k = g.S.Write.contents (device_inner c.args.sink.now) in
-    let k1 = g.S.Write.contents (device_inner c.write_out.new.sink) in
-    let p = err_from_is_err_and c.from_residual-in_err-write_out.result c.from_residual-in_err-write_out.ensures.1 in
-    if_err c.from_residual-in_err-write_out.result _ p.0 p.1
-    (subst (λ (e : ServeFault). HasBroken c.args.policy e s t r r w w1 k k1) (sym p.2)
-    (read_broke c.args.policy s s r r w w k k (read_none c.args.policy s r w k) _ t w1 k1 (c.in_err-write_out.ensures.begun c.args.policy reading)))
+    let k1 = g.S.Write.contents (device_inner c.flush_both.new.sink) in
+    goes_ended p s (g.R.Read.remaining (device_inner c.args.reader.now)) (g.R.Read.remaining (device_inner c.fill_hand.new.reader)) (has_failed c.fill_hand.new.reader) _ _
+    (works_flushed p reading reading s s w w w1 k k k1 (works_none p reading s w k) c.flush_both.ensures.answers c.flush_both.ensures.records) c.fill_hand.ensures.kept
+    (λ failed. false≢true (c.in_ok-fill_hand.ensures.failed.1 failed)) c.requires.sent c.requires.idle c.in_ok-flush_both.ensures.still
 
-pub returns-in_ok-count-clause-served : goal.returns-in_ok-count-clause-served
-returns-in_ok-count-clause-served g c =
+pub returns-clause-goes : goal.returns-clause-goes
+returns-clause-goes g c =
     let s = c.args.endpoint.now in
-    let t = c.send_out.new.endpoint in
-    let r = g.R.Read.remaining (device_inner c.args.reader.now) in
-    let r1 = g.R.Read.remaining (device_inner c.read_in.new.reader) in
+    let p = c.args.course.now.rule in
     let w = g.W.Write.contents (device_inner c.args.writer.now) in
-    let w1 = g.W.Write.contents (device_inner c.send_out.new.writer) in
-    let w2 = g.W.Write.contents (device_inner c.take_in.new.writer) in
+    let w1 = g.W.Write.contents (device_inner c.flush_both.new.writer) in
     let k = g.S.Write.contents (device_inner c.args.sink.now) in
-    let k1 = g.S.Write.contents (device_inner c.send_out.new.sink) in
-    let k2 = g.S.Write.contents (device_inner c.take_in.new.sink) in
-    let came = c.in_ok-count.ensures.read in
-    on_ok c.take_in.result _ _
-    (λ x. read_on c.args.policy s s r r w w k k (read_none c.args.policy s r w k) t w1 k1 (c.in_ok-send_out.ensures.works c.args.policy reading) r1
-    (take c.in_ok-count.count c.read_in.new.endpoint.input.spare) came.2 c.take_in.new.endpoint w2 k2 (x t came.1))
-    c.take_in.ensures.served
-
-pub returns-in_ok-count-clause-begun : goal.returns-in_ok-count-clause-begun
-returns-in_ok-count-clause-begun g c =
-    let s = c.args.endpoint.now in
-    let t = c.send_out.new.endpoint in
-    let r = g.R.Read.remaining (device_inner c.args.reader.now) in
-    let r1 = g.R.Read.remaining (device_inner c.read_in.new.reader) in
-    let w = g.W.Write.contents (device_inner c.args.writer.now) in
-    let w1 = g.W.Write.contents (device_inner c.send_out.new.writer) in
-    let w2 = g.W.Write.contents (device_inner c.take_in.new.writer) in
-    let k = g.S.Write.contents (device_inner c.args.sink.now) in
-    let k1 = g.S.Write.contents (device_inner c.send_out.new.sink) in
-    let k2 = g.S.Write.contents (device_inner c.take_in.new.sink) in
-    let came = c.in_ok-count.ensures.read in
-    on_fault c.take_in.result _ _
-    (λ e x. piece_broke c.args.policy s s r r w w k k (read_none c.args.policy s r w k) t w1 k1 (c.in_ok-send_out.ensures.works c.args.policy reading) r1
-    (take c.in_ok-count.count c.read_in.new.endpoint.input.spare) came.2 e c.take_in.new.endpoint w2 k2 (x t came.1))
-    c.take_in.ensures.begun
-
-pub returns-in_ok-write_out-clause-served : goal.returns-in_ok-write_out-clause-served
-returns-in_ok-write_out-clause-served g c = on_ok c.take_hand.result _ _ (λ x. read_behind (c.in_ok-write_out.ensures.works c.args.policy reading) x) c.take_hand.ensures.served
-
-pub returns-in_ok-write_out-clause-begun : goal.returns-in_ok-write_out-clause-begun
-returns-in_ok-write_out-clause-begun g c = on_fault c.take_hand.result _ _ (λ e x. broken_behind _ _ (c.in_ok-write_out.ensures.works c.args.policy reading) x) c.take_hand.ensures.begun
+    let k1 = g.S.Write.contents (device_inner c.flush_both.new.sink) in
+    goes_behind p c.hand_on-2.result s s c.hand_on-2.new.endpoint (g.R.Read.remaining (device_inner c.args.reader.now)) (g.R.Read.remaining (device_inner c.fill_hand.new.reader))
+    (g.R.Read.remaining (device_inner c.hand_on-2.new.reader)) (has_failed c.hand_on-2.new.reader) _ _ _
+    (works_flushed p reading reading s s w w w1 k k k1 (works_none p reading s w k) c.flush_both.ensures.answers c.flush_both.ensures.records) c.fill_hand.ensures.kept c.hand_on-2.ensures.goes

@@ -1,22 +1,22 @@
-use Rattle.std.proofs.Common.{◌≡◌, ◌≤◌, ◌↔◌, ◌-◌, ◌++◌, true, List, IsTrue}
-use Rattle.amqp_frame.specs.Devices.{device_inner, has_failed}
+use Rattle.std.proofs.Common.{◌≡◌, ◌≤◌, ◌↔◌, ◌-◌, ◌++◌, List}
 use Rattle.amqp_session.specs.Places.{tabulate}
-use Rattle.amqp_serve.specs.Serving.{Supply, CreditOf, session_supplies, ToppingUp, Works}
-use Rattle.amqp_serve.specs.Supplied.{IsOnlyIn, IsSuppliedAt}
+use Rattle.amqp_serve.specs.declared.supplies.Look.TheVariants as look
+use Rattle.amqp_serve.specs.declared.supplies.Supply.{Supply}
+use Rattle.amqp_serve.specs.declared.supplies.Supply.TheVariants.{CreditOf}
+use Rattle.amqp_serve.specs.Deeds.{topped_deeds, WentOn, ends, AreOpen}
+use Rattle.amqp_serve.specs.Serving.{session_supplies, ToppingUp}
+use Rattle.amqp_serve.specs.Supplied.{IsOnlyAt, IsSuppliedAt}
 use Rattle.amqp_serve.proofs.supplies.top_up_session.Given as goal
 
 abbrev pub invariant-loop-handle : goal.invariant-loop-handle
 invariant-loop-handle g l = record {
-  writer : ¬ (IsTrue (has_failed l.writer));
-  sink : ¬ (IsTrue (has_failed l.sink));
-  only : IsOnlyIn l.policy l.channel l.fn.endpoint.connection l.endpoint.connection;
+  open_ends : AreOpen (ends g.W.Write.contents g.S.Write.contents l.writer l.sink);
+  only : IsOnlyAt l.rule (look.Session l.channel) l.fn.endpoint.connection l.endpoint.connection;
   within : l.handle ≤ l.handles;
-  supplied : (l.supplied ≡ true) ↔ IsSuppliedAt l.policy l.handle l.channel l.endpoint.connection;
-  works : (rest : List Supply)
-      → Works l.policy (ToppingUp (session_supplies l.handles l.channel ++ rest)) (ToppingUp (tabulate l.handle (l.handles - l.handle) (λ handle. CreditOf l.channel handle) ++ rest))
-      l.fn.endpoint l.endpoint
-      (g.W.Write.contents (device_inner l.fn.writer)) (g.W.Write.contents (device_inner l.writer))
-      (g.S.Write.contents (device_inner l.fn.sink)) (g.S.Write.contents (device_inner l.sink));
+  supplied : (l.topped.refused ≡ 0) ↔ IsSuppliedAt l.rule l.handle l.channel l.endpoint.connection;
+  went : (rest : List Supply) → WentOn l.rule (topped_deeds l.topped) (ToppingUp (session_supplies l.handles l.channel ++ rest))
+      (ToppingUp (tabulate l.handle (l.handles - l.handle) (λ handle. CreditOf l.channel handle) ++ rest)) l.fn.endpoint l.endpoint
+      (ends g.W.Write.contents g.S.Write.contents l.fn.writer l.fn.sink) (ends g.W.Write.contents g.S.Write.contents l.writer l.sink);
 }
 
 abbrev pub decreases-loop-handle : goal.decreases-loop-handle

@@ -1,0 +1,108 @@
+//! A server for a host with a loop of its own.
+ghost use Rattle.std.specs.Prelude.{◌≡◌, ◌≤◌, [], take, length, Err, IfSome, None};
+ghost use Rattle.amqp_endpoint.specs.Runs.{IsFinished, end_of};
+ghost use Rattle.amqp_serve.specs.Deeds.{IsStepped, ends, AreOpen};
+ghost use Rattle.amqp_serve.specs.Hosting.{lost_by};
+
+use crate::steps::{Course, Done, Stepped, serve_piece};
+use crate::{Rule, ServeFault};
+use amqp_endpoint::{End, Endpoint, Outcome};
+use amqp_frame::{Device, HoldsBack};
+use std::alloc::{Allocator, Global};
+use std::io::Write;
+use std::marker::Model;
+
+/// Serves one connection, a step at a time, whose bytes its host brings. Between two steps all answers have gone to the writer.
+/// Once a writer or a sink failed, an answer may be owed: from then on each step is refused with that fault.
+#[derive(Drop)]
+pub struct Server<A: Allocator + Copy = Global> {
+    endpoint: Endpoint<A>,
+    course: Course,
+    lost: Option<ServeFault>,
+}
+
+impl<A: Allocator + Copy> Model for Server<A> {
+    ghost use Rattle.amqp_serve.specs.Hosting.{ServerState, IsAtRest};
+
+    ghost Value = { ServerState };
+
+    ghost view = { λ a. record { endpoint = a.endpoint; rule = a.course.rule; lost = a.lost } };
+
+    ghost invariant = { λ a. IsAtRest a.endpoint a.course a.lost };
+}
+
+impl<A: Allocator + Copy> Server<A> {
+    /// Serves an endpoint of which no answer waits, as a new one, by a rule.
+    pub fn new(endpoint: Endpoint<A>, rule: Rule) -> Self
+        requires { endpoint.unsent ≡ [] }
+        ensures endpoint { result.endpoint ≡ endpoint }
+        ensures rule { result.rule ≡ rule }
+        ensures lost { result.lost ≡ None }
+    {
+        Server {
+            endpoint,
+            course: Course {
+                rule,
+                supplied: false,
+            },
+            lost: None,
+        }
+    }
+
+    /// Serves a piece of what the peer sent, up to the end of a unit, as [`serve_piece`] does.
+    #[tactic(auto, using(crate::proofs::Stepping::rests))]
+    pub fn step<W: Write + HoldsBack + Drop, S: Write + Drop>(
+        &mut self,
+        piece: &[u8],
+        writer: &mut Device<W>,
+        sink: &mut Device<S>,
+    ) -> Stepped
+        requires ends { AreOpen (ends W.contents S.contents writer.old sink.old) }
+        ensures bound { result.used ≤ length piece.now }
+        ensures rule { self.new.rule ≡ self.old.rule }
+        ensures stepped { self.old.lost ≡ None → IsStepped self.old.rule (take result.used piece.now) result.told result.done self.old.endpoint self.new.endpoint
+            (ends W.contents S.contents writer.old sink.old) (ends W.contents S.contents writer.new sink.new) }
+        ensures lost { self.old.lost ≡ None → self.new.lost ≡ lost_by result.done }
+        ensures refused { IfSome self.old.lost (λ x. (result ≡ record { used = 0; told = Outcome.More; done = Err x }) × (self.new ≡ self.old)) }
+    {
+        if let Some(fault) = self.lost {
+            return Stepped {
+                used: 0,
+                told: Outcome::More,
+                done: Err(fault),
+            };
+        }
+        let stepped = serve_piece(&mut self.endpoint, &mut self.course, piece, writer, sink);
+        self.lost = lost_by(stepped.done);
+        stepped
+    }
+
+    /// The input has ended. Answers how the connection stood, as [`Endpoint::finish`] does, which is over then.
+    pub fn finish(&mut self) -> End
+        ensures end { result ≡ end_of self.old.endpoint }
+        ensures finished { IsFinished self.old.endpoint self.new.endpoint }
+        ensures rule { self.new.rule ≡ self.old.rule }
+        ensures lost { self.new.lost ≡ self.old.lost }
+    {
+        self.course.supplied = false;
+        self.endpoint.finish()
+    }
+
+    /// The endpoint that it serves.
+    pub fn endpoint(&self) -> &Endpoint<A>
+        ensures { result.now ≡ self.now.endpoint }
+    {
+        &self.endpoint
+    }
+}
+
+/// The end that a step lost.
+fn lost_by(done: Result<Done, ServeFault>) -> Option<ServeFault>
+    ensures { result ≡ lost_by done }
+{
+    match done {
+        Err(ServeFault::Write) => Some(ServeFault::Write),
+        Err(ServeFault::Sink) => Some(ServeFault::Sink),
+        _ => None,
+    }
+}

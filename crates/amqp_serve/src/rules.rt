@@ -1,0 +1,30 @@
+//! The rule by which an endpoint is served.
+ghost use Rattle.std.specs.Prelude.{◌≡◌};
+ghost use Rattle.amqp_serve.specs.Policies.{rule_of};
+
+use crate::Policy;
+use amqp_perform::Outcome;
+
+/// What is done with each message, and when a link gets credit.
+#[derive(Clone, Copy, Debug)]
+pub struct Rule {
+    /// The credit that a link is topped up to, within what it is allowed.
+    pub credit: u32,
+    /// A link is topped up where its credit is at most that. One that is allowed no more is topped up behind each message.
+    pub mark: u32,
+    /// What becomes of each message that its sender has not settled.
+    pub outcome: Outcome,
+}
+
+impl Rule {
+    /// That of a policy: its mark is one below the credit.
+    pub fn of(policy: Policy) -> Rule
+        ensures { result ≡ rule_of policy }
+    {
+        Rule {
+            credit: policy.credit,
+            mark: policy.credit.saturating_sub(1),
+            outcome: policy.outcome,
+        }
+    }
+}

@@ -1,0 +1,359 @@
+//! One step of serving: a piece of what a peer sent, up to the end of one unit, and what follows from it.
+ghost use Rattle.std.specs.Prelude.{◌≡◌, ◌≢◌, ◌≤◌, ◌↔◌, [], ℕ, List, true, take, length, IsTrue, IfOk, OnOk};
+ghost use Rattle.amqp_session.specs.Calls.{Take};
+ghost use Rattle.amqp_endpoint.specs.Endpoints.{handed_in};
+ghost use Rattle.amqp_endpoint.specs.Runs.{CallDone, HandedUp};
+ghost use Rattle.amqp_endpoint.specs.Steps.{EndpointState, MayRead, IsKept};
+ghost use Rattle.amqp_serve.specs.Deeds.{received_as, receipt_by, receipt_deeds, filled, Follows, IsStepped, Went, ends, AreOpen};
+ghost use Rattle.amqp_serve.specs.Serving.{ToppingUp, Receiving, all_supplies, stand_told};
+ghost use Rattle.amqp_serve.specs.Supplied.{IsRight, IsSuppliedBut, IsOnlyAt, is_nil, told_look, received_look, look_behind};
+ghost use Rattle.amqp_serve.specs.declared.supplies.Look.TheVariants as look;
+
+use crate::records::{recorded_len, write_record};
+use crate::sending::write_out;
+use crate::supplies::{Look, Topped, top_up};
+use crate::{Rule, ServeFault};
+use amqp_endpoint::laws::{are_bytes, fills_are_feeds, is_id};
+use amqp_endpoint::{CallFault, Endpoint, Event, Outcome};
+use amqp_frame::{Device, HoldsBack};
+use amqp_link::Taken;
+use amqp_perform::Outcome as Settlement;
+use std::alloc::Allocator;
+use std::io::Write;
+
+/// By what a step goes: the rule, and what is known of the endpoint that it serves.
+#[derive(Clone, Copy, Debug)]
+pub struct Course {
+    pub rule: Rule,
+    /// Whether it is known that no window and no link lacks anything. It need not be known.
+    pub supplied: bool,
+}
+
+/// A message that was taken, and recorded, from the link that was told of.
+#[derive(Clone, Copy, Debug, PartialEq, Eq)]
+pub struct Received {
+    pub delivery_id: u32,
+    /// How long it is, as its record says it.
+    pub len: u32,
+}
+
+/// What became of the message that was ready.
+#[derive(Clone, Copy, Debug, PartialEq, Eq)]
+pub enum Receipt {
+    /// None was.
+    Nothing,
+    /// It was not taken.
+    Refused(CallFault),
+    /// It was taken and recorded, and its sender had settled it.
+    Settled(Received),
+    /// It was taken and recorded, and its sender is told what became of it.
+    Told(Received),
+    /// It was taken and recorded, but its sender could not be told.
+    Untold(Received, CallFault),
+}
+
+/// What a step did, besides acting upon a unit.
+#[derive(Clone, Copy, Debug, PartialEq, Eq)]
+pub struct Done {
+    pub receipt: Receipt,
+    pub topped: Topped,
+}
+
+impl Done {
+    /// Nothing.
+    pub const NOTHING: Done = Done {
+        receipt: Receipt::Nothing,
+        topped: Topped::NOTHING,
+    };
+}
+
+/// What a step came to.
+#[derive(Clone, Copy, Debug, PartialEq, Eq)]
+pub struct Stepped {
+    /// How many bytes were taken: up to the end of one unit at most, and none once the connection is over.
+    pub used: usize,
+    /// What the bytes came to.
+    pub told: Outcome,
+    pub done: Result<Done, ServeFault>,
+}
+
+/// Serves a piece of what the peer sent: up to the end of a unit, which is acted upon. A message that is ready then is taken,
+/// its record goes to the sink, and it is settled unless its sender settled it; what lacks something by the rule is topped up.
+/// All answers have gone to the writer, and the record to the sink, when it returns. It flushes neither, but the sink before a
+/// write that the writer doesn't hold back. The rest of the piece is for the next step. So any list of steps is one run of the
+/// rule, and comes to the same however the bytes are cut into pieces.
+///
+/// # Errors
+///
+/// `Write` and `Sink` where that device has failed: an answer may be owed then, and the endpoint is not to be served on.
+/// `NoMemory` where memory for the unit is refused: it waits in the endpoint, nothing else has changed, and the next step, also
+/// one of no bytes, tries it again. `Read` never.
+// For the same reason as `hand_on`.
+#[inline(always)]
+pub fn serve_piece<A: Allocator + Copy, W: Write + HoldsBack + Drop, S: Write + Drop>(
+    endpoint: &mut Endpoint<A>,
+    course: &mut Course,
+    piece: &[u8],
+    writer: &mut Device<W>,
+    sink: &mut Device<S>,
+) -> Stepped
+    requires ends { AreOpen (ends W.contents S.contents writer.old sink.old) }
+    requires sent { endpoint.old.unsent ≡ [] }
+    requires course { IsRight course.old endpoint.old.connection }
+    ensures bound { result.used ≤ length piece.now }
+    ensures rule { course.new.rule ≡ course.old.rule }
+    ensures course { IsRight course.new endpoint.new.connection }
+    ensures stepped { IsStepped course.old.rule (take result.used piece.now) result.told result.done endpoint.old endpoint.new (ends W.contents S.contents writer.old sink.old)
+        (ends W.contents S.contents writer.new sink.new) }
+{
+    endpoint.holds_a_header(); // three laws, for the proof
+    are_bytes(piece);
+    fills_are_feeds();
+    let fed = endpoint.feed(piece);
+    let told = fed.outcome;
+    let done = follow(endpoint, course, &told, writer, sink);
+    Stepped {
+        used: fed.used,
+        told,
+        done,
+    }
+}
+
+/// Serves the `n` bytes that were read into the room that the endpoint lends, as [`serve_piece`] does with a piece of them.
+pub fn serve_read<A: Allocator + Copy, W: Write + HoldsBack + Drop, S: Write + Drop>(
+    endpoint: &mut Endpoint<A>,
+    course: &mut Course,
+    n: usize,
+    writer: &mut Device<W>,
+    sink: &mut Device<S>,
+) -> Stepped
+    requires ends { AreOpen (ends W.contents S.contents writer.old sink.old) }
+    requires sent { endpoint.old.unsent ≡ [] }
+    requires course { IsRight course.old endpoint.old.connection }
+    requires read { MayRead endpoint.old n }
+    ensures used { result.used ≡ n }
+    ensures rule { course.new.rule ≡ course.old.rule }
+    ensures course { IsRight course.new endpoint.new.connection }
+
+    // It is so from before they were read, since what stands in that room says nothing.
+    ensures stepped { (s : EndpointState) → IsKept s endpoint.old → IsStepped course.old.rule (take n endpoint.old.input.spare) result.told result.done s endpoint.new
+        (ends W.contents S.contents writer.old sink.old) (ends W.contents S.contents writer.new sink.new) }
+{
+    endpoint.holds_a_header(); // three laws, for the proof
+    endpoint.spare_is_bytes();
+    fills_are_feeds();
+    let fed = endpoint.filled(n);
+    let outcome = fed.outcome;
+    let done = follow(endpoint, course, &outcome, writer, sink);
+    Stepped {
+        used: n,
+        told: outcome,
+        done,
+    }
+}
+
+/// Does what follows from what a feed told. Where nothing was lacking before it, what may lack something then is named by that.
+#[inline(always)]
+fn follow<A: Allocator + Copy, W: Write + HoldsBack + Drop, S: Write + Drop>(
+    endpoint: &mut Endpoint<A>,
+    course: &mut Course,
+    told: &Outcome,
+    writer: &mut Device<W>,
+    sink: &mut Device<S>,
+) -> Result<Done, ServeFault>
+    requires ends { AreOpen (ends W.contents S.contents writer.old sink.old) }
+    requires supplied { course.old.supplied ≡ true → IsSuppliedBut (told_look told.now (is_nil endpoint.old.input.filled)) course.old.rule endpoint.old.connection }
+    ensures rule { course.new.rule ≡ course.old.rule }
+    ensures course { IsRight course.new endpoint.new.connection }
+    ensures follows { Follows course.old.rule told.now result endpoint.old endpoint.new (ends W.contents S.contents writer.old sink.old)
+        (ends W.contents S.contents writer.new sink.new) }
+{
+    let mut done = Done::NOTHING;
+    match follow_into(endpoint, course, told, &mut done, writer, sink) {
+        Ok(()) => Ok(done),
+        Err(fault) => Err(fault),
+    }
+}
+
+/// The same, which fills in what was done.
+// Filled in, since a large answer is copied with its gaps: 67 instructions of a message.
+fn follow_into<A: Allocator + Copy, W: Write + HoldsBack + Drop, S: Write + Drop>(
+    endpoint: &mut Endpoint<A>,
+    course: &mut Course,
+    told: &Outcome,
+    done: &mut Done,
+    writer: &mut Device<W>,
+    sink: &mut Device<S>,
+) -> Result<(), ServeFault>
+    requires ends { AreOpen (ends W.contents S.contents writer.old sink.old) }
+    requires supplied { course.old.supplied ≡ true → IsSuppliedBut (told_look told.now (is_nil endpoint.old.input.filled)) course.old.rule endpoint.old.connection }
+    ensures rule { course.new.rule ≡ course.old.rule }
+    ensures course { IsRight course.new endpoint.new.connection }
+    ensures follows { Follows course.old.rule told.now (filled result done.new) endpoint.old endpoint.new (ends W.contents S.contents writer.old sink.old)
+        (ends W.contents S.contents writer.new sink.new) }
+{
+    let supplied = course.supplied;
+    course.supplied = false;
+    if let Outcome::NoMemory = *told {
+        return Err(ServeFault::NoMemory);
+    }
+    let rule = &course.rule;
+    let look = receive(
+        endpoint,
+        *told,
+        supplied,
+        rule,
+        &mut done.receipt,
+        writer,
+        sink,
+    )?;
+    top_up(endpoint, look, rule, &mut done.topped, writer, sink)?;
+    write_out(endpoint, writer, sink)?;
+    course.supplied = done.topped.refused == 0;
+    Ok(())
+}
+
+/// Takes the message that is ready, if one is, writes its record, and settles it unless its sender did. Answers what may lack
+/// something behind it.
+#[tactic(auto, using(crate::proofs::Deeds::went_none, crate::proofs::Supplied::only_same))]
+#[inline(always)]
+fn receive<A: Allocator + Copy, W: Write + HoldsBack + Drop, S: Write + Drop>(
+    endpoint: &mut Endpoint<A>,
+    told: Outcome,
+    supplied: bool,
+    rule: &Rule,
+    receipt: &mut Receipt,
+    writer: &mut Device<W>,
+    sink: &mut Device<S>,
+) -> Result<Look, ServeFault>
+    requires ends { AreOpen (ends W.contents S.contents writer.old sink.old) }
+    requires fed { told ≢ Outcome.NoMemory }
+    ensures look { IfOk result (λ l. l ≡ look_behind supplied told (is_nil endpoint.old.input.filled)) }
+    ensures only { OnOk result (IsOnlyAt rule.now (received_look told) endpoint.old.connection endpoint.new.connection) }
+    ensures went { Went rule.now (λ _. receipt_deeds receipt.new) (stand_told endpoint.old.connection.config told) (ToppingUp (all_supplies endpoint.old.connection.config)) result
+        endpoint.old endpoint.new (ends W.contents S.contents writer.old sink.old) (ends W.contents S.contents writer.new sink.new) }
+{
+    match told {
+        Outcome::Event(Event::Ready { channel, handle }) => {
+            receive_from(endpoint, channel, handle, rule, receipt, writer, sink)?;
+            Ok(if supplied {
+                Look::Link { channel, handle }
+            } else {
+                Look::All
+            })
+        }
+        _ => {
+            *receipt = Receipt::Nothing;
+            Ok(look_behind(supplied, told, endpoint.is_between()))
+        }
+    }
+}
+
+/// What may lack something behind what was told, where nothing lacked anything before it, if that is known. It is told whether
+/// no byte of a unit waits.
+fn look_behind(supplied: bool, told: Outcome, between: bool) -> Look
+    ensures { result ≡ look_behind supplied told between }
+{
+    if !supplied {
+        return Look::All;
+    }
+    match told {
+        Outcome::More if !between => Look::Nothing,
+        Outcome::Event(
+            Event::Attached { channel, handle }
+            | Event::Unfinished { channel, handle }
+            | Event::Ready { channel, handle }
+            | Event::Aborted { channel, handle }
+            | Event::Drained { channel, handle }
+            | Event::Detached {
+                channel,
+                handle,
+                ..
+            },
+        ) => Look::Link { channel, handle },
+        Outcome::Event(Event::Settled { channel, .. }) => Look::Session { channel },
+        _ => Look::All,
+    }
+}
+
+/// Takes the message that is ready on a link, writes its record, and settles it unless its sender did.
+#[inline(always)]
+fn receive_from<A: Allocator + Copy, W: Write + HoldsBack + Drop, S: Write + Drop>(
+    endpoint: &mut Endpoint<A>,
+    channel: u16,
+    handle: u32,
+    rule: &Rule,
+    receipt: &mut Receipt,
+    writer: &mut Device<W>,
+    sink: &mut Device<S>,
+) -> Result<(), ServeFault>
+    requires ends { AreOpen (ends W.contents S.contents writer.old sink.old) }
+    ensures only { OnOk result (IsOnlyAt rule.now (look.Link channel handle) endpoint.old.connection endpoint.new.connection) }
+    ensures went { Went rule.now (λ _. receipt_deeds receipt.new) (Receiving channel handle) (ToppingUp (all_supplies endpoint.old.connection.config)) result
+        endpoint.old endpoint.new (ends W.contents S.contents writer.old sink.old) (ends W.contents S.contents writer.new sink.new) }
+{
+    match endpoint.take(channel, handle) {
+        Ok(taken) => record_and_settle(
+            endpoint, channel, handle, &taken, rule, receipt, writer, sink,
+        ),
+        Err(fault) => {
+            *receipt = Receipt::Refused(fault);
+            Ok(())
+        }
+    }
+}
+
+/// Writes the record of a message that was taken, and settles it unless its sender did.
+#[inline(always)]
+fn record_and_settle<A: Allocator + Copy, W: Write + HoldsBack + Drop, S: Write + Drop>(
+    endpoint: &mut Endpoint<A>,
+    channel: u16,
+    handle: u32,
+    taken: &Taken<A>,
+    rule: &Rule,
+    receipt: &mut Receipt,
+    writer: &mut Device<W>,
+    sink: &mut Device<S>,
+) -> Result<(), ServeFault>
+    requires ends { AreOpen (ends W.contents S.contents writer.old sink.old) }
+
+    // From before it was taken.
+    ensures only { (s : EndpointState) → CallDone s endpoint.old channel (Take handle) (HandedUp (handed_in taken.now))
+        → OnOk result (IsOnlyAt rule.now (look.Link channel handle) s.connection endpoint.new.connection) }
+    ensures went { (s : EndpointState) → CallDone s endpoint.old channel (Take handle) (HandedUp (handed_in taken.now))
+        → Went rule.now (λ _. receipt_deeds receipt.new) (Receiving channel handle) (ToppingUp (all_supplies s.connection.config)) result s endpoint.new
+        (ends W.contents S.contents writer.old sink.old) (ends W.contents S.contents writer.new sink.new) }
+{
+    write_record(sink, channel, handle, taken)?;
+    let message = received_of(taken);
+    if taken.settled {
+        *receipt = Receipt::Settled(message);
+        return Ok(());
+    }
+    write_out(endpoint, writer, sink)?;
+    endpoint.ids_are_apart(channel); // two laws, for the proof
+    is_id(message.delivery_id);
+    let told = endpoint.settle(channel, message.delivery_id, rule.outcome);
+    *receipt = receipt_of(message, told);
+    Ok(())
+}
+
+/// What became of a message that was to be settled.
+fn receipt_of(message: Received, told: Result<(), CallFault>) -> Receipt
+    ensures { result ≡ receipt_by message told }
+{
+    match told {
+        Ok(()) => Receipt::Told(message),
+        Err(fault) => Receipt::Untold(message, fault),
+    }
+}
+
+/// What is told of a message.
+fn received_of<A: Allocator + Copy>(taken: &Taken<A>) -> Received
+    ensures { result ≡ received_as (handed_in taken.now) }
+{
+    Received {
+        delivery_id: taken.delivery_id,
+        len: recorded_len(&taken.message),
+    }
+}

@@ -1,0 +1,109 @@
+//! A server that is stepped through a stream by its host.
+
+use crate::devices::Kept;
+use crate::serving::{ENDS, RECORDS, STREAM, WRITTEN, config, one_by_one};
+use amqp_endpoint::{End, Endpoint, Event, Outcome};
+use amqp_frame::{Device, Direct};
+use amqp_serve::{Receipt, Received, Rule, Server, Stepped, Topped};
+use std::alloc::Global;
+use std::process::Abort;
+use std::test::Fail;
+
+/// What steps came to: their answers, and the bytes that they wrote and recorded.
+#[derive(Drop)]
+struct Steps {
+    told: Vec<Stepped>,
+    written: Vec<u8>,
+    recorded: Vec<u8>,
+    end: End,
+}
+
+/// Steps a new server through bytes, in pieces of so many at most, and lets it take nothing twice behind them.
+fn step_through(alloc: Global, mut bytes: &[u8], most: usize) -> Result<Steps, Fail> {
+    let endpoint = Endpoint::new(alloc, config(alloc)?)?;
+    let mut server = Server::new(endpoint, Rule::of(one_by_one()));
+    let (mut written, mut recorded) = (Kept::all(alloc), Kept::all(alloc));
+    let mut told = Vec::new(alloc);
+    for _ in 0..STREAM.len().saturating_add(2) {
+        let mut writer = Device::new(Direct::new(&mut written));
+        let mut sink = Device::new(&mut recorded);
+        let piece = bytes.get(..most).unwrap_or(bytes);
+        let stepped = server.step(piece, &mut writer, &mut sink);
+        bytes = bytes.get(stepped.used..).unwrap_or(&[]);
+        told.push(stepped)?;
+    }
+    Ok(Steps {
+        told,
+        written: written.bytes,
+        recorded: recorded.bytes,
+        end: server.finish(),
+    })
+}
+
+/// However the stream is cut, the steps write and record what it makes, and take nothing behind its end.
+#[test]
+fn steps_ignore_cuts(rt: HostRuntime) -> Result<(), Fail> {
+    for most in [1, 3, 7, 50, STREAM.len()] {
+        let steps = step_through(rt.alloc(), STREAM, most)?;
+        assert_eq!(rt; steps.written.as_slice(), WRITTEN, "{most}");
+        assert_eq!(rt; steps.recorded.as_slice(), RECORDS, "{most}");
+        assert_eq!(rt; steps.end, End::Closed, "{most}");
+        let last = steps.told.last().copied();
+        assert_eq!(rt; last.map(|x| x.used), Some(0), "{most}");
+    }
+    Ok(())
+}
+
+/// A step takes no more than one unit, and tells what it did.
+#[test]
+fn a_step_tells_what_it_did(rt: HostRuntime) -> Result<(), Fail> {
+    let steps = step_through(rt.alloc(), STREAM, STREAM.len())?;
+    let mut at = 0_usize;
+    for (stepped, end) in steps.told.iter().zip(ENDS) {
+        at = at.saturating_add(stepped.used);
+        assert_eq!(rt; at, end);
+    }
+    assert_step(&rt, &steps, 3, attached(), Receipt::Nothing, 1)?;
+    let first = Received {
+        delivery_id: 0,
+        len: 1,
+    };
+    assert_step(&rt, &steps, 4, ready(), Receipt::Told(first), 1)
+}
+
+fn attached() -> Event {
+    Event::Attached {
+        channel: 0,
+        handle: 0,
+    }
+}
+
+fn ready() -> Event {
+    Event::Ready {
+        channel: 0,
+        handle: 0,
+    }
+}
+
+/// The step of this number told that, and granted so much.
+fn assert_step(
+    rt: &impl Abort,
+    steps: &Steps,
+    number: usize,
+    event: Event,
+    receipt: Receipt,
+    granted: u32,
+) -> Result<(), Fail> {
+    let stepped = steps.told.get(number).ok_or("no such step")?;
+    let Ok(done) = stepped.done else {
+        return Err(Fail::from("the step failed"));
+    };
+    let topped = Topped {
+        granted,
+        ..Topped::NOTHING
+    };
+    assert_eq!(rt; stepped.told, Outcome::Event(event));
+    assert_eq!(rt; done.receipt, receipt);
+    assert_eq!(rt; done.topped, topped);
+    Ok(())
+}
