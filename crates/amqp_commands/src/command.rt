@@ -1,6 +1,7 @@
 //! The command line.
 
-use clap::{Arg, ArgMatches, Command, value_parser};
+use amqp_records::Output;
+use clap::{Arg, ArgAction, ArgMatches, Command, value_parser};
 use std::alloc::{AllocError, Global};
 
 /// What `amqp --version` names.
@@ -23,6 +24,12 @@ pub enum Order<'a> {
         settings: RecvSettings,
         /// The file of the limits for links, if there is one.
         limits: Option<&'a str>,
+    },
+    /// To print the records of this file, or of standard input where it is `-`.
+    Records {
+        file: &'a str,
+        output: Output,
+        max_message: u32,
     },
     /// To send this file as one message to the listener at this address.
     Send {
@@ -104,6 +111,41 @@ fn recv_settings(recv: &ArgMatches<'_>) -> Option<RecvSettings> {
     })
 }
 
+/// The command that prints records.
+fn records_line<'a>(alloc: Global) -> Result<Command<'a>, AllocError> {
+    let file = Arg::new(alloc, "FILE")
+        .required(true)
+        .help("The records that recv wrote; - is standard input");
+    let json = Arg::new(alloc, "json")
+        .long("json")
+        .action(ArgAction::SetTrue)
+        .help("Prints one JSON object on a line");
+    let only = Arg::new(alloc, "only")
+        .long("only")
+        .value_name("N")
+        .value_parser(value_parser!(u64).range(1..))
+        .conflicts_with("json")?
+        .help("Writes the bytes of the Nth message, and nothing else");
+    let max_message = number(alloc, "max-message", 1, 1073741824, "1073741824").help(
+        "The longest message, in bytes",
+    );
+    Command::new(alloc, "records")
+        .about("Prints the records that recv wrote, as they come")
+        .arg(file)?
+        .arg(json)?
+        .arg(only)?
+        .arg(max_message)
+}
+
+/// The output that a command line asks for that was read as one of [`records_line`].
+fn records_output(records: &ArgMatches<'_>) -> Output {
+    match records.get_one("only") {
+        Some(number) => Output::Only(number),
+        None if records.get_flag("json") => Output::Json,
+        None => Output::Text,
+    }
+}
+
 /// The command that runs a script.
 fn replay_line<'a>(alloc: Global) -> Result<Command<'a>, AllocError> {
     let script = Arg::new(alloc, "SCRIPT")
@@ -143,6 +185,7 @@ pub fn command_line<'a>(alloc: Global) -> Result<Command<'a>, AllocError> {
         .subcommand(dump)?
         .subcommand(replay_line(alloc)?)?
         .subcommand(recv_line(alloc)?)?
+        .subcommand(records_line(alloc)?)?
         .subcommand(send_line(alloc)?)
 }
 
@@ -161,6 +204,15 @@ pub fn order_of<'a>(matches: &ArgMatches<'a>) -> Option<Order<'a>> {
             address,
             settings,
             limits,
+        });
+    }
+    if let Some(records) = matches.subcommand_matches("records") {
+        let file = records.get_str("FILE")?;
+        let max_message = records.get_one("max-message")?;
+        return Some(Order::Records {
+            file,
+            output: records_output(records),
+            max_message,
         });
     }
     if let Some(replay) = matches.subcommand_matches("replay") {

@@ -1,5 +1,5 @@
-//! What the program `amqp` does: `command` reads the command line, `run` does what it asks for: `dump` by `amqp_dump`, `replay` by
-//! `amqp_script`, `recv` by `amqp_serve` over sockets (`recv`), `send` by `amqp_send` (`send_file`, `send`).
+//! What the program `amqp` does: `command` reads the command line, `run` does what it asks for: `dump` by `amqp_dump`, `records` by
+//! `amqp_records`, `replay` by `amqp_script`, `recv` by `amqp_serve` over sockets (`recv`), `send` by `amqp_send` (`send_file`, `send`).
 //! The tests stand in `amqp_tests`.
 #![tactic(auto)]
 

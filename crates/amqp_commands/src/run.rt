@@ -11,6 +11,7 @@ use amqp_dump::{DumpFault, dump};
 use amqp_endpoint::Config;
 use amqp_frame::Device;
 use amqp_perform::Outcome;
+use amqp_records::{Output, RecordsFault, print_records};
 use amqp_script::{ScriptFault, read_limits, replay_script};
 use amqp_serve::Policy;
 use clap::error::ErrorKind;
@@ -34,6 +35,11 @@ enum Fault {
     NoMemory,
     #[error(transparent)]
     Dump(DumpFault),
+    /// There is no record of the number that is asked for.
+    #[error("Absent")]
+    Absent,
+    #[error(transparent)]
+    Records(RecordsFault),
     #[error(transparent)]
     Script(ScriptFault),
     #[error(transparent)]
@@ -81,6 +87,13 @@ fn obey<R: Print + Eprint + Input + Env + Files + Net + AllocGlobal>(
                 limits,
             },
         ) => recv(rt, address, settings, limits),
+        Some(
+            Order::Records {
+                file,
+                output,
+                max_message,
+            },
+        ) => records_file(rt, file, output, max_message),
         Some(Order::Replay { script }) => replay_file(rt, script),
         Some(Order::Send { address, file }) => send(rt, address, file),
         None => Ok(ExitCode::from(USAGE)),
@@ -139,6 +152,44 @@ fn dump_from<R: Print + AllocGlobal, I: Read + Drop>(rt: &R, input: I) -> Result
         Ok(true) => Ok(ExitCode::SUCCESS),
         Ok(false) => Ok(ExitCode::FAILURE),
         Err(fault) => Err(Fault::Dump(fault)),
+    }
+}
+
+/// Prints the records of a file, or of standard input, to standard output.
+fn records_file<R: Print + Input + Files + AllocGlobal>(
+    rt: &R,
+    path: &str,
+    output: Output,
+    max_message: u32,
+) -> Result<ExitCode, Fault> {
+    if path == STDIN {
+        return records_from(rt, rt.reader(), output, max_message);
+    }
+    match fs::open(rt, path) {
+        Ok(file) => records_from(rt, file, output, max_message),
+        Err(_) => Err(Fault::Open),
+    }
+}
+
+/// Prints the records that a reader gives to standard output, as they come. What was printed goes out whatever the end is.
+fn records_from<R: Print + AllocGlobal, I: Read + Drop>(
+    rt: &R,
+    input: I,
+    output: Output,
+    max_message: u32,
+) -> Result<ExitCode, Fault> {
+    let Ok(buffer) = io::BufWriter::with_capacity(rt.alloc(), BUFFER, io::writer(rt)) else {
+        return Err(Fault::NoMemory);
+    };
+    let mut reader = Device::new(input);
+    let mut writer = Device::new(buffer);
+    let printed = print_records(rt.alloc(), &mut reader, &mut writer, output, max_message);
+    let _ = writer.flush();
+    let _ = writer.into_inner().into_parts(); // what standard output refused is not tried again
+    match (printed, output) {
+        (Ok(count), Output::Only(number)) if count < number => Err(Fault::Absent),
+        (Ok(_), _) => Ok(ExitCode::SUCCESS),
+        (Err(fault), _) => Err(Fault::Records(fault)),
     }
 }
 

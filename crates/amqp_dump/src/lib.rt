@@ -15,5 +15,8 @@ mod scan;
 mod scanned;
 mod text;
 
+pub use digits::{put_hex, put_number, put_quoted};
+pub use page::Page;
 pub use printer::{DumpFault, dump};
 pub use scan::{LIMITS, MAX_FRAME};
+pub use text::put_value;

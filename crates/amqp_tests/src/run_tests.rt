@@ -345,6 +345,84 @@ fn dumps_standard_input(rt: HostRuntime) {
     assert_ends(&rt, host, ExitCode::FAILURE, CUT_LINES, "");
 }
 
+/// A record of the message `hello` as data, on channel 1 and handle 2, with id 3.
+const HELLO: &[u8] =
+    b"\x00\x01\x00\x00\x00\x02\x00\x00\x00\x03\x00\x00\x00\x00\x00\x00\x00\x0a\x00Su\xa0\x05hello";
+
+/// The same, behind which another one is cut off.
+const HELLO_AND_CUT: &[u8] =
+    b"\x00\x01\x00\x00\x00\x02\x00\x00\x00\x03\x00\x00\x00\x00\x00\x00\x00\x0a\x00Su\xa0\x05hello\x00\x01";
+
+/// Its line.
+const HELLO_LINE: &str = "1 channel=1 handle=2 id=3 format=0 size=10 data \"hello\"\n";
+
+const HELLO_OBJECT: &str =
+    "{\"channel\":1,\"data\":\"hello\",\"format\":0,\"handle\":2,\"id\":3,\"number\":1,\"size\":10}\n";
+
+#[test]
+fn prints_records(rt: HostRuntime) {
+    let words = ["amqp", "records", "a.amqp"];
+    let out = HELLO_LINE;
+    for (file, is_shut, status, out, err) in [
+        (whole(HELLO), false, ExitCode::SUCCESS, out, ""),
+        (
+            whole(HELLO_AND_CUT),
+            false,
+            ExitCode::FAILURE,
+            out,
+            "fault: 28 Cut\n",
+        ),
+        (
+            broken(HELLO),
+            false,
+            ExitCode::FAILURE,
+            out,
+            "fault: Read\n",
+        ),
+        (None, false, ExitCode::FAILURE, "", "fault: Open\n"),
+        (whole(HELLO), true, ExitCode::FAILURE, "", "fault: Write\n"),
+    ] {
+        let mut host = host_of(rt.alloc(), &words, file);
+        host.is_shut = is_shut;
+        assert_ends(&rt, host, status, out, err);
+    }
+}
+
+#[test]
+fn prints_records_as_asked_for(rt: HostRuntime) {
+    let (good, bad) = (ExitCode::SUCCESS, ExitCode::FAILURE);
+    let cases: [(&[&str], ExitCode, &str, &str); 5] = [
+        (&["amqp", "records", "--json", "-"], good, HELLO_OBJECT, ""),
+        (
+            &["amqp", "records", "--only", "2", "-"],
+            bad,
+            "",
+            "fault: Absent\n",
+        ),
+        (
+            &["amqp", "records", "--max-message", "11", "-"],
+            good,
+            HELLO_LINE,
+            "",
+        ),
+        (
+            &["amqp", "records", "--max-message", "10", "-"],
+            good,
+            HELLO_LINE,
+            "",
+        ),
+        (
+            &["amqp", "records", "--max-message", "9", "-"],
+            bad,
+            "",
+            "fault: 0 TooLong\n",
+        ),
+    ];
+    for (words, status, out, err) in cases {
+        assert_ends(&rt, host_fed(rt.alloc(), words, HELLO), status, out, err);
+    }
+}
+
 #[test]
 fn runs_a_script(rt: HostRuntime) {
     let words = ["amqp", "replay", "a.amqp"];
@@ -506,8 +584,11 @@ fn answers_a_command_line(rt: HostRuntime) {
     let alloc = rt.alloc();
     let host = host_of(alloc, &["amqp", "--version"], None);
     assert_ends(&rt, host, ExitCode::SUCCESS, "amqp 0.1.0\n", "");
-    let lines: [&[&str]; 9] = [
+    let lines: [&[&str]; 12] = [
         &["amqp"],
+        &["amqp", "records"],
+        &["amqp", "records", "a", "--only", "0"],
+        &["amqp", "records", "a", "--json", "--only", "1"],
         &["amqp", "dump"],
         &["amqp", "dump", "a", "b"],
         &["amqp", "replay"],

@@ -1,0 +1,4 @@
+pub mod Fronts
+pub mod Printings
+pub mod Printables
+pub mod Objects

@@ -1,0 +1,70 @@
+//! A record: a head, and a message.
+
+ghost use Rattle.std.specs.Prelude.{◌≡◌, ◌≤◌, length};
+ghost use Rattle.amqp_records.specs.Records.{front_of, channel_of, handle_of, id_of, format_of, message_of};
+
+use byteorder::{BigEndian, ByteOrder};
+
+/// How many bytes stand in front of a record's message: channel (2), handle, delivery-id, message-format and the length of the
+/// message (4 each), all big-endian.
+pub const HEAD: usize = 18;
+
+/// Where the length of the message stands in them.
+const LENGTH: usize = 14;
+
+/// What stands at the front of some bytes.
+#[derive(Clone, Copy, Debug, PartialEq, Eq)]
+pub enum Front {
+    /// A whole record, of so many bytes.
+    Whole(usize),
+    /// Less than a record.
+    Partial,
+    /// A record whose message is longer than is allowed.
+    TooLong,
+}
+
+/// What stands at the front, where messages of at most `max_message` bytes are allowed.
+pub fn front_of(bytes: &[u8], max_message: u32) -> Front
+    ensures { result ≡ front_of max_message bytes.now }
+{
+    if bytes.len() < HEAD {
+        return Front::Partial;
+    }
+    let message = BigEndian::read_u32(&bytes[LENGTH..]);
+    if message > max_message {
+        return Front::TooLong;
+    }
+    let len = HEAD + message as usize;
+    if bytes.len() < len {
+        return Front::Partial;
+    }
+    Front::Whole(len)
+}
+
+/// A record, lent from its bytes.
+#[derive(Clone, Copy, Debug)]
+pub struct Record<'a> {
+    pub channel: u16,
+    pub handle: u32,
+    pub delivery_id: u32,
+    pub message_format: u32,
+    pub message: &'a [u8],
+}
+
+/// The record that these bytes are.
+pub fn record_in(bytes: &[u8]) -> Record<'_>
+    requires { HEAD ≤ length bytes.now }
+    ensures channel { result.channel ≡ channel_of bytes.now }
+    ensures handle { result.handle ≡ handle_of bytes.now }
+    ensures id { result.delivery_id ≡ id_of bytes.now }
+    ensures format { result.message_format ≡ format_of bytes.now }
+    ensures message { result.message.now ≡ message_of bytes.now }
+{
+    Record {
+        channel: BigEndian::read_u16(bytes),
+        handle: BigEndian::read_u32(&bytes[2..]),
+        delivery_id: BigEndian::read_u32(&bytes[6..]),
+        message_format: BigEndian::read_u32(&bytes[10..]),
+        message: &bytes[HEAD..],
+    }
+}

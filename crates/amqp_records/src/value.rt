@@ -1,0 +1,206 @@
+//! Values as JSON.
+
+ghost use Rattle.std.specs.Prelude.{◌≡◌, ◌<◌, ◌≤◌, ◌^◌, IfOk};
+ghost use Rattle.serde_json.specs.View.{view};
+ghost use Rattle.amqp_records.specs.Lines.{whole_json};
+
+use amqp_dump::LIMITS;
+use amqp_types::Value;
+use base64::engine::general_purpose::STANDARD;
+use byteorder::{BigEndian, ByteOrder};
+use serde_json::{Map, Number, Value as Json, put};
+use std::alloc::{AllocError, Global};
+use uuid::Uuid;
+
+/// Whole numbers beyond this one, and below its negative, are strings: many readers keep numbers as floats.
+const LARGEST_WHOLE: u64 = 1 << 53;
+
+/// More levels than a value has that is read within [`LIMITS`].
+pub const LEVELS: usize = LIMITS.depth + 1;
+
+/// An object under way.
+pub type Members = Map<String, Json>;
+
+/// A value of fewer levels than `depth`.
+#[cycle(json)]
+pub fn json_of(alloc: Global, depth: usize, value: &Value) -> Result<Json, AllocError> {
+    if depth == 0 {
+        return Ok(Json::Null);
+    }
+    match value {
+        Value::List(items) => list_of(alloc, depth - 1, items),
+        Value::Array {
+            descriptors,
+            items,
+            ..
+        } => array_of(alloc, depth - 1, descriptors, items),
+        Value::Map(entries) => map_of(alloc, depth - 1, entries),
+        Value::Described(descriptor, described) => {
+            let mut members = Members::new(alloc);
+            put(
+                &mut members,
+                alloc,
+                "descriptor",
+                json_of(alloc, depth - 1, descriptor)?,
+            )?;
+            put(
+                &mut members,
+                alloc,
+                "value",
+                json_of(alloc, depth - 1, described)?,
+            )?;
+            Ok(Json::Object(members))
+        }
+        _ => scalar(alloc, value),
+    }
+}
+
+/// The list of these.
+#[cycle(json)]
+fn list_of(alloc: Global, depth: usize, items: &[Value]) -> Result<Json, AllocError> {
+    let mut list = Vec::new(alloc);
+    for item in items {
+        list.push(json_of(alloc, depth, item)?)?;
+    }
+    Ok(Json::Array(list))
+}
+
+/// The list of an array's items, and where these are described an object of the descriptors, outermost first, and the list.
+#[cycle(json)]
+fn array_of(
+    alloc: Global,
+    depth: usize,
+    descriptors: &[Value],
+    items: &[Value],
+) -> Result<Json, AllocError> {
+    let items = list_of(alloc, depth, items)?;
+    if descriptors.is_empty() {
+        return Ok(items);
+    }
+    let mut members = Members::new(alloc);
+    put(
+        &mut members,
+        alloc,
+        "descriptors",
+        list_of(alloc, depth, descriptors)?,
+    )?;
+    put(&mut members, alloc, "items", items)?;
+    Ok(Json::Object(members))
+}
+
+/// An object where all keys are strings or all are symbols, and else the list of the pairs.
+#[cycle(json)]
+fn map_of(alloc: Global, depth: usize, entries: &[(Value, Value)]) -> Result<Json, AllocError> {
+    if !are_texts(entries) {
+        return pairs_of(alloc, depth, entries);
+    }
+    let mut members = Members::new(alloc);
+    for (key, value) in entries {
+        let value = json_of(alloc, depth, value)?;
+        put(&mut members, alloc, text_of(key).unwrap_or(""), value)?;
+    }
+    Ok(Json::Object(members))
+}
+
+/// The list of keys and values.
+#[cycle(json)]
+fn pairs_of(alloc: Global, depth: usize, entries: &[(Value, Value)]) -> Result<Json, AllocError> {
+    let mut list = Vec::new(alloc);
+    for (key, value) in entries {
+        let mut pair = Vec::new(alloc);
+        pair.push(json_of(alloc, depth, key)?)?;
+        pair.push(json_of(alloc, depth, value)?)?;
+        list.push(Json::Array(pair))?;
+    }
+    Ok(Json::Array(list))
+}
+
+/// Whether all keys are strings, or all are symbols. Such that differ have texts that differ.
+fn are_texts(entries: &[(Value, Value)]) -> bool {
+    entries
+        .iter()
+        .all(|entry| matches!(entry.0, Value::String(_)))
+        || entries
+            .iter()
+            .all(|entry| matches!(entry.0, Value::Symbol(_)))
+}
+
+/// The text of a string or a symbol.
+fn text_of(value: &Value) -> Option<&str> {
+    match value {
+        Value::String(text) => Some(text),
+        Value::Symbol(symbol) => simdutf8::basic::from_utf8(symbol.as_bytes()).ok(),
+        _ => None,
+    }
+}
+
+/// A value that holds no others.
+fn scalar(alloc: Global, value: &Value) -> Result<Json, AllocError> {
+    match value {
+        Value::Boolean(truth) => Ok(Json::Bool(*truth)),
+        Value::Ubyte(number) => Ok(Json::from(*number)),
+        Value::Ushort(number) => Ok(Json::from(*number)),
+        Value::Uint(number) => Ok(Json::from(*number)),
+        Value::Ulong(number) => whole(alloc, *number),
+        Value::Byte(number) => Ok(Json::from(*number)),
+        Value::Short(number) => Ok(Json::from(*number)),
+        Value::Int(number) => Ok(Json::from(*number)),
+        Value::Long(number) | Value::Timestamp(number) => signed_whole(alloc, *number),
+        Value::Float(octets) => float(alloc, f64::from(BigEndian::read_f32(octets))),
+        Value::Double(octets) => float(alloc, BigEndian::read_f64(octets)),
+        Value::Decimal32(octets) => hex(alloc, octets),
+        Value::Decimal64(octets) => hex(alloc, octets),
+        Value::Decimal128(octets) => hex(alloc, octets),
+        Value::Char(c) => Json::try_from_str(alloc, c.encode_utf8(&mut [0; 4])),
+        Value::Uuid(octets) => {
+            let mut room = Uuid::encode_buffer();
+            let text = Uuid::from_bytes(*octets)
+                .hyphenated()
+                .encode_lower(&mut room);
+            Json::try_from_str(alloc, text)
+        }
+        Value::Binary(octets) => base64(alloc, octets),
+        Value::String(_) | Value::Symbol(_) => {
+            Json::try_from_str(alloc, text_of(value).unwrap_or(""))
+        }
+        _ => Ok(Json::Null),
+    }
+}
+
+/// A whole number, as a string where it is beyond 2^53.
+pub fn whole(alloc: Global, number: u64) -> Result<Json, AllocError>
+    ensures { IfOk result (λ json. view json ≡ whole_json number) }
+{
+    if number > LARGEST_WHOLE {
+        return Ok(Json::String(format!(in alloc; "{number}")?));
+    }
+    Ok(Json::from(number))
+}
+
+/// The same of one with a sign.
+fn signed_whole(alloc: Global, number: i64) -> Result<Json, AllocError> {
+    if number.unsigned_abs() > LARGEST_WHOLE {
+        return Ok(Json::String(format!(in alloc; "{number}")?));
+    }
+    Ok(Json::from(number))
+}
+
+/// A float, as a string where it is no number of JSON's.
+fn float(alloc: Global, number: f64) -> Result<Json, AllocError> {
+    match Number::from_f64(number) {
+        Some(number) => Ok(Json::Number(number)),
+        None if number.is_nan() => Json::try_from_str(alloc, "NaN"),
+        None if number > 0.0 => Json::try_from_str(alloc, "Infinity"),
+        None => Json::try_from_str(alloc, "-Infinity"),
+    }
+}
+
+/// Bytes in base64.
+pub fn base64(alloc: Global, bytes: &[u8]) -> Result<Json, AllocError> {
+    Ok(Json::String(STANDARD.encode(alloc, bytes)?))
+}
+
+/// Bytes in lower-case hex.
+fn hex(alloc: Global, bytes: &[u8]) -> Result<Json, AllocError> {
+    Ok(Json::String(hex::encode(alloc, bytes)?))
+}
