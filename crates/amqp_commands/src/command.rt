@@ -24,6 +24,7 @@ pub enum Order<'a> {
         settings: RecvSettings,
         /// The file of the limits for links, if there is one.
         limits: Option<&'a str>,
+        told: ToldTo<'a>,
     },
     /// To print the records of this file, or of standard input where it is `-`.
     Records {
@@ -36,6 +37,15 @@ pub enum Order<'a> {
         address: &'a str,
         file: &'a str,
     },
+}
+
+/// The files that are told of what is served, if there are any; `-` is standard error.
+#[derive(Clone, Copy, Debug, PartialEq, Eq)]
+pub struct ToldTo<'a> {
+    /// Of the frames, and what they came to.
+    pub trace: Option<&'a str>,
+    /// Of sessions, links and messages alone.
+    pub events: Option<&'a str>,
 }
 
 /// How many connections are served, and with which settings.
@@ -70,7 +80,20 @@ fn recv_line<'a>(alloc: Global) -> Result<Command<'a>, AllocError> {
         .about("Serves connections, and writes the records of their messages")
         .arg(address)?
         .arg(connections)?;
-    with_bounds(alloc, recv)
+    with_told(alloc, with_bounds(alloc, recv)?)
+}
+
+/// The same command, with the files that are told of what is served.
+fn with_told<'a>(alloc: Global, recv: Command<'a>) -> Result<Command<'a>, AllocError> {
+    let trace = Arg::new(alloc, "trace")
+        .long("trace")
+        .value_name("FILE")
+        .help("Tells each frame, what it came to, and how connections end; - is standard error");
+    let events = Arg::new(alloc, "events")
+        .long("events")
+        .value_name("FILE")
+        .help("Tells sessions, links and messages, without frames; - is standard error");
+    recv.arg(trace)?.arg(events)
 }
 
 /// The same command, with the limits of what its peers may send.
@@ -200,10 +223,15 @@ pub fn order_of<'a>(matches: &ArgMatches<'a>) -> Option<Order<'a>> {
         let address = recv.get_str("ADDR")?;
         let settings = recv_settings(recv)?;
         let limits = recv.get_str("limits");
+        let told = ToldTo {
+            trace: recv.get_str("trace"),
+            events: recv.get_str("events"),
+        };
         return Some(Order::Recv {
             address,
             settings,
             limits,
+            told,
         });
     }
     if let Some(records) = matches.subcommand_matches("records") {

@@ -1,5 +1,6 @@
 //! What the program `amqp` does: `command` reads the command line, `run` does what it asks for: `dump` by `amqp_dump`, `records` by
-//! `amqp_records`, `replay` by `amqp_script`, `recv` by `amqp_serve` over sockets (`recv`), `send` by `amqp_send` (`send_file`, `send`).
+//! `amqp_records`, `replay` by `amqp_script`, `recv` by `amqp_serve` over sockets (`recv`), told by `amqp_trace` (`told`), `send` by
+//! `amqp_send` (`send_file`, `send`).
 //! The tests stand in `amqp_tests`.
 #![tactic(auto)]
 
@@ -8,3 +9,4 @@ pub mod recv;
 pub mod run;
 pub mod send;
 mod send_file;
+mod told;

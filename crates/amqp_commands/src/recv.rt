@@ -1,14 +1,15 @@
 //! Receives messages over sockets.
-ghost use Rattle.std.specs.Prelude.{◌≡◌, ◌↔◌, Err, IsTrue};
+ghost use Rattle.std.specs.Prelude.{◌≡◌, ◌≢◌, ◌↔◌, Err, IsTrue};
 ghost use Rattle.amqp_frame.specs.Devices.{has_failed};
 
 use amqp_endpoint::{Config, End, Endpoint};
 use amqp_frame::Device;
-use amqp_serve::{Policy, ServeFault, serve};
+use amqp_serve::{Policy, ServeFault, serve_watched};
+use amqp_trace::{Host, Trace, TracedReader, TracedWriter};
 use std::alloc::{AllocError, Global};
 use std::fmt::{self, Display, Formatter};
 use std::io::{BufReader, BufWriter, Read, Write};
-use std::net::{OpenListener, OpenStream};
+use std::net::{OpenListener, OpenStream, SocketAddr};
 
 /// How many bytes are read from a socket at once, but for the rest of a longer frame, and how many are written to one, or of
 /// records to standard output.
@@ -68,9 +69,9 @@ fn ending_of(served: Result<End, ServeFault>) -> Ending
 
 /// Accepts so many connections, one after the other, and serves each by an endpoint of its own that is set up with
 /// `config`. The records of messages go to `sink`, and a line for each connection to `log`, whose failures are passed over:
-/// `connection K: ` and how it was served. Behind a failure of the sink no more is accepted. True where each of them was
-/// closed by its peer.
-pub fn recv_on<L: OpenListener, S: Write + Drop>(
+/// `connection K: ` and how it was served. What passes is told to a trace, if there is one. Behind a failure of the sink no
+/// more is accepted. True where each of them was closed by its peer.
+pub fn recv_on<L: OpenListener, S: Write + Drop, W: Write + Drop, H: Host + Drop>(
     alloc: Global,
     listener: &L,
     config: &Config,
@@ -78,6 +79,7 @@ pub fn recv_on<L: OpenListener, S: Write + Drop>(
     connections: u32,
     sink: &mut Device<S>,
     log: &impl Eprint,
+    trace: Option<&Trace<W, H>>,
 ) -> bool
 where
     L::Stream: Read + Write + OpenStream + Drop,
@@ -85,7 +87,14 @@ where
 {
     let mut all_closed = true;
     for number in 1..=connections {
-        let told = serve_next(alloc, listener, config, policy, sink);
+        if let Some(trace) = trace {
+            trace.begin(number);
+        }
+        let served = serve_next(alloc, listener, config, policy, sink, trace);
+        if let Some(trace) = trace {
+            trace.end(served);
+        }
+        let told = ending_of(served);
         let _ = eprintln!(log; "connection {number}: {told}");
         if told != Ending::Closed {
             all_closed = false;
@@ -97,43 +106,93 @@ where
     all_closed
 }
 
-/// Accepts a connection, and serves it. Its input and its output are buffered, so that what answers one read goes out at once.
-fn serve_next<L: OpenListener, S: Write + Drop>(
+/// A connection that was accepted. Its input and its output are buffered, so that what answers one read goes out at once.
+struct Accepted<C: Read + Write + Drop> {
+    endpoint: Endpoint,
+    input: BufReader<C>,
+    output: BufWriter<C>,
+}
+
+/// Accepts a connection.
+fn accept<L: OpenListener>(
+    alloc: Global,
+    listener: &L,
+    config: &Config,
+) -> Result<(Accepted<L::Stream>, SocketAddr), ServeFault>
+where
+    L::Stream: Read + Write + OpenStream + Drop,
+    ensures { result ≢ Err ServeFault.Sink }
+{
+    let Ok((stream, peer)) = listener.accept() else {
+        return Err(ServeFault::Read);
+    };
+    let _ = stream.set_nodelay(true);
+    let Ok(other) = stream.try_clone() else {
+        return Err(ServeFault::Read);
+    };
+    let Ok(endpoint) = new_endpoint(alloc, config) else {
+        return Err(ServeFault::NoMemory);
+    };
+    let Ok(input) = BufReader::with_capacity(alloc, BUFFER, stream) else {
+        return Err(ServeFault::NoMemory);
+    };
+    let Ok(output) = BufWriter::with_capacity(alloc, BUFFER, other) else {
+        return Err(ServeFault::NoMemory);
+    };
+    let accepted = Accepted {
+        endpoint,
+        input,
+        output,
+    };
+    Ok((accepted, peer))
+}
+
+/// Accepts a connection, and serves it. A trace hears of what passes, if there is one.
+fn serve_next<L: OpenListener, S: Write + Drop, W: Write + Drop, H: Host + Drop>(
     alloc: Global,
     listener: &L,
     config: &Config,
     policy: Policy,
     sink: &mut Device<S>,
-) -> Ending
+    trace: Option<&Trace<W, H>>,
+) -> Result<End, ServeFault>
 where
     L::Stream: Read + Write + OpenStream + Drop,
     requires { ¬ (IsTrue (has_failed sink.old)) }
-    ensures { (result ≡ Ending.Sink) ↔ IsTrue (has_failed sink.new) }
+    ensures { (result ≡ Err ServeFault.Sink) ↔ IsTrue (has_failed sink.new) }
 {
-    let Ok((stream, _)) = listener.accept() else {
-        return Ending::Read;
+    let (accepted, peer) = match accept(alloc, listener, config) {
+        Ok(accepted) => accepted,
+        Err(fault) => return Err(fault),
     };
-    let _ = stream.set_nodelay(true);
-    let Ok(other) = stream.try_clone() else {
-        return Ending::Read;
-    };
-    let Ok(mut endpoint) = new_endpoint(alloc, config) else {
-        return Ending::NoMemory;
-    };
-    let Ok(buffered_input) = BufReader::with_capacity(alloc, BUFFER, stream) else {
-        return Ending::NoMemory;
-    };
-    let Ok(buffered_output) = BufWriter::with_capacity(alloc, BUFFER, other) else {
-        return Ending::NoMemory;
-    };
-    let mut reader = Device::new(buffered_input);
-    let mut writer = Device::new(buffered_output);
-    let ending = ending_of(serve(&mut endpoint, &mut reader, &mut writer, sink, policy));
-    if ending == Ending::Sink {
-        // those of its answers that are to messages wait for records that may be lost
-        let _ = writer.into_inner().into_parts();
+    if let Some(trace) = trace {
+        trace.met(peer);
     }
-    ending
+    let Accepted {
+        mut endpoint,
+        input,
+        output,
+    } = accepted;
+    let mut watch = trace;
+    let mut reader = Device::new(TracedReader::new(input, trace));
+    let mut writer = Device::new(TracedWriter::new(output, trace));
+    let served = serve_watched(
+        &mut endpoint,
+        &mut reader,
+        &mut writer,
+        sink,
+        policy,
+        &mut watch,
+    );
+    if served == Err(ServeFault::Sink) {
+        give_up(writer.into_inner().into_inner());
+    }
+    served
+}
+
+/// Throws away what waits to be sent: those of its answers that are to messages wait for records that may be lost.
+fn give_up<C: Write + Drop>(output: BufWriter<C>) {
+    let _ = output.into_parts();
 }
 
 fn new_endpoint(alloc: Global, config: &Config) -> Result<Endpoint, AllocError> {

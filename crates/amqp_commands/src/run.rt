@@ -3,10 +3,11 @@
 ghost use Rattle.std.specs.Prelude.{◌≡◌};
 ghost use Rattle.amqp_commands.specs.declared.run.Fault.TheVariants.{NoMemory};
 
-use crate::command::{Order, RecvSettings, command_line, order_of};
+use crate::command::{Order, RecvSettings, ToldTo, command_line, order_of};
 use crate::recv::{BUFFER, recv_on};
 use crate::send::Fate;
 use crate::send_file::{FileFault, send_file};
+use crate::told::{Desk, Told};
 use amqp_dump::{DumpFault, dump};
 use amqp_endpoint::Config;
 use amqp_frame::Device;
@@ -14,12 +15,14 @@ use amqp_perform::Outcome;
 use amqp_records::{Output, RecordsFault, print_records};
 use amqp_script::{ScriptFault, read_limits, replay_script};
 use amqp_serve::Policy;
+use amqp_trace::Trace;
 use clap::error::ErrorKind;
 use std::alloc::{AllocError, Global};
 use std::io::Read;
 use std::net::{Net, TcpListener};
 use std::process::ExitCode;
 use std::rt::{Env, Files};
+use std::time::Clock;
 use std::{env, fs, io};
 use thiserror::Error;
 
@@ -56,7 +59,9 @@ impl From<AllocError> for Fault {
 
 /// Runs the program. The exit status is 0 for success, 1 for a fault and 2 for a command line that asks for
 /// no command; what went wrong stands on standard error, but for the fault in a dumped stream.
-pub fn run<R: Print + Eprint + Input + Env + Files + Net + AllocGlobal>(rt: &R) -> ExitCode {
+pub fn run<R: Print + Eprint + Input + Env + Files + Net + Clock + AllocGlobal>(
+    rt: &R,
+) -> ExitCode {
     match obey(rt) {
         Ok(status) => status,
         Err(fault) => {
@@ -67,7 +72,7 @@ pub fn run<R: Print + Eprint + Input + Env + Files + Net + AllocGlobal>(rt: &R) 
 }
 
 /// Does what the command line asks for.
-fn obey<R: Print + Eprint + Input + Env + Files + Net + AllocGlobal>(
+fn obey<R: Print + Eprint + Input + Env + Files + Net + Clock + AllocGlobal>(
     rt: &R,
 ) -> Result<ExitCode, Fault> {
     let words = match words(rt) {
@@ -85,8 +90,9 @@ fn obey<R: Print + Eprint + Input + Env + Files + Net + AllocGlobal>(
                 address,
                 settings,
                 limits,
+                told,
             },
-        ) => recv(rt, address, settings, limits),
+        ) => recv(rt, address, settings, limits, told),
         Some(
             Order::Records {
                 file,
@@ -222,11 +228,12 @@ const CHANNEL_MAX: u32 = 7;
 const HANDLE_MAX: u32 = 7;
 
 /// Serves connections, with the records on standard output and how each was served on standard error.
-fn recv<R: Print + Eprint + Files + Net + AllocGlobal>(
+fn recv<R: Print + Eprint + Files + Net + Clock + AllocGlobal>(
     rt: &R,
     address: &str,
     settings: RecvSettings,
     limits: Option<&str>,
+    told: ToldTo<'_>,
 ) -> Result<ExitCode, Fault> {
     let alloc = rt.alloc();
     let policy = Policy {
@@ -242,6 +249,7 @@ fn recv<R: Print + Eprint + Files + Net + AllocGlobal>(
         Some(path) => limited(rt, config, path)?,
         None => config,
     };
+    let trace = traced(rt, told, policy)?;
     let Ok(listener) = TcpListener::bind(rt, address) else {
         return Err(Fault::Open);
     };
@@ -257,6 +265,7 @@ fn recv<R: Print + Eprint + Files + Net + AllocGlobal>(
         connections,
         &mut sink,
         rt,
+        trace.as_ref(),
     );
     let _ = sink.into_inner().into_parts(); // what standard output refused is not tried again
     Ok(if all_closed {
@@ -264,6 +273,35 @@ fn recv<R: Print + Eprint + Files + Net + AllocGlobal>(
     } else {
         ExitCode::FAILURE
     })
+}
+
+/// The trace that is asked for, if one is.
+fn traced<'a, R: Eprint + Files + Clock + AllocGlobal>(
+    rt: &'a R,
+    told: ToldTo<'_>,
+    policy: Policy,
+) -> Result<Option<Trace<Told<'a, R>, Desk<'a, R>>>, Fault> {
+    if told.trace.is_none() && told.events.is_none() {
+        return Ok(None);
+    }
+    let frames = opened(rt, told.trace)?;
+    let events = opened(rt, told.events)?;
+    let trace = Trace::new(rt.alloc(), Desk::new(rt), frames, events, policy.outcome)?;
+    Ok(Some(trace))
+}
+
+/// The file of lines at a path, if one is named.
+fn opened<'a, R: Eprint + Files>(
+    rt: &'a R,
+    path: Option<&str>,
+) -> Result<Option<Told<'a, R>>, Fault> {
+    let Some(path) = path else {
+        return Ok(None);
+    };
+    match Told::open(rt, path) {
+        Ok(told) => Ok(Some(told)),
+        Err(_) => Err(Fault::Open),
+    }
 }
 
 /// The largest block, in bytes, by which the C library raises its threshold, less what it needs of it itself.

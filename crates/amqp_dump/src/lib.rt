@@ -16,7 +16,9 @@ mod scanned;
 mod text;
 
 pub use digits::{put_hex, put_number, put_quoted};
+pub use lines::{performative_name, put_item};
 pub use page::Page;
 pub use printer::{DumpFault, dump};
 pub use scan::{LIMITS, MAX_FRAME};
+pub use scanned::{Scanned, ScannedFrame, StreamFault};
 pub use text::put_value;

@@ -17,12 +17,19 @@ pub fn put_line(out: &mut Page, item: &Scanned<'_>) -> Result<(), AllocError>
     requires { out.old.begun ≡ [] }
     ensures { OnOk result (PutsLine (entry_of item.now) out.old out.new) }
 {
+    put_item(out, item);
+    out.end_line()
+}
+
+/// Appends what is told of a unit or a fault, without an end of the line.
+pub fn put_item(out: &mut Page, item: &Scanned<'_>)
+    ensures { out.new.whole ≡ out.old.whole }
+{
     match item {
         Scanned::Header => out.put(b"header id=0 version=1.0.0"),
         Scanned::Frame(frame) => put_frame(out, frame),
         Scanned::Fault(place, fault) => put_fault(out, *place, *fault),
     }
-    out.end_line()
 }
 
 /// Appends `PLACE size=N channel=C`, and then ` empty` or what the body says.
@@ -74,6 +81,12 @@ fn put_fault(out: &mut Page, place: usize, fault: StreamFault)
     put_number(out, place as u64);
     out.put_byte(b' ');
     out.put(name_of(fault).as_bytes());
+}
+
+/// The name of the performative that describes the list that a body begins with, as `dump` prints it. Of the list no more than its
+/// first byte is looked at. [2.7]
+pub fn performative_name(body: &[u8]) -> Option<&'static str> {
+    Some(named_list(body)?.0)
 }
 
 /// The name of the performative that describes the value at the front, and the bytes from its list on; none where

@@ -20,6 +20,8 @@ pub struct Page {
     end: usize,
     /// Memory was refused for something that was put into that line.
     lacks: bool,
+    /// It is never lengthened.
+    is_fixed: bool,
 }
 
 impl Model for Page {
@@ -46,7 +48,18 @@ impl Page {
             len: 0,
             end: 0,
             lacks: false,
+            is_fixed: false,
         })
+    }
+
+    /// An empty page that takes so many bytes and no more: what finds no room lacks, as if memory had been refused for it.
+    pub fn fixed(alloc: Global, capacity: usize) -> Result<Page, AllocError>
+        ensures whole { IfOk result (λ page. page.whole ≡ []) }
+        ensures begun { IfOk result (λ page. page.begun ≡ []) }
+    {
+        let mut page = Page::with_capacity(alloc, capacity)?;
+        page.is_fixed = true;
+        Ok(page)
     }
 
     /// Puts bytes into the line.
@@ -66,7 +79,12 @@ impl Page {
         ensures whole { self.new.whole ≡ self.old.whole }
         ensures put { self.new.lacks ≡ false → (self.old.lacks ≡ false) × (self.new.begun ≡ self.old.begun ++ take len text.now) }
     {
-        if !has_room(&mut self.bytes, self.len, text.len(), self.lacks) {
+        if !has_room(
+            &mut self.bytes,
+            self.len,
+            text.len(),
+            self.lacks | self.is_fixed,
+        ) {
             self.lacks = true;
             return;
         }
@@ -95,7 +113,7 @@ impl Page {
         ensures whole { OnOk result (self.new.whole ≡ self.old.whole ++ (self.old.begun ++ 10 ∷ [])) }
         ensures begun { OnOk result (self.new.begun ≡ []) }
     {
-        if self.lacks || !has_room(&mut self.bytes, self.len, 1, false) {
+        if self.lacks || !has_room(&mut self.bytes, self.len, 1, self.is_fixed) {
             return Err(AllocError);
         }
         put_at(self.bytes.as_mut_slice(), self.len, b"\n");
@@ -114,6 +132,13 @@ impl Page {
         ensures { result.now ≡ self.now.whole }
     {
         &self.bytes[..self.end]
+    }
+
+    /// What was put into the line that has no end yet.
+    pub fn begun(&self) -> &[u8]
+        ensures { result.now ≡ self.now.begun }
+    {
+        &self.bytes[self.end..self.len]
     }
 
     /// Drops all of it.

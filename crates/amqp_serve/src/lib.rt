@@ -14,9 +14,11 @@ mod sending;
 mod serving;
 mod steps;
 mod supplies;
+mod watch;
 
 pub use hosting::Server;
 pub use rules::Rule;
-pub use serving::{Policy, ServeFault, serve};
+pub use serving::{Policy, ServeFault, serve, serve_watched};
 pub use steps::{Course, Done, Receipt, Received, Stepped, serve_piece, serve_read};
 pub use supplies::{Supply, Topped};
+pub use watch::{Unwatched, Watch};

@@ -10,9 +10,9 @@ ghost use Rattle.amqp_serve.specs.Serving as by;
 ghost use Rattle.amqp_serve.specs.Serving.{reading, IsIdle, IsStarved, HasAllTaken};
 ghost use Rattle.amqp_serve.specs.Supplied.{IsRight};
 
-use crate::Rule;
 use crate::sending::{fill_hand, flush_both, read_in, write_out};
 use crate::steps::{Course, Done, serve_piece, serve_read};
+use crate::{Rule, Unwatched, Watch};
 use amqp_endpoint::{End, Endpoint};
 use amqp_frame::{AtHand, Device, HoldsBack};
 use amqp_perform::Outcome as Settlement;
@@ -108,8 +108,54 @@ pub fn serve<A: Allocator + Copy, R: AtHand + Drop, W: Write + HoldsBack + Drop,
         × BrokeOff policy e reading bytes endpoint.old endpoint.new (W.contents (device_inner writer.old)) (W.contents (device_inner writer.new)) (S.contents (device_inner sink.old))
         (S.contents (device_inner sink.new))) }
 {
+    serve_watched(endpoint, reader, writer, sink, policy, &mut Unwatched)
+}
+
+/// The same, where a watch is told of each step behind it, before the next one reads.
+pub fn serve_watched<
+    A: Allocator + Copy,
+    R: AtHand + Drop,
+    W: Write + HoldsBack + Drop,
+    S: Write + Drop,
+    T: Watch,
+>(
+    endpoint: &mut Endpoint<A>,
+    reader: &mut Device<R>,
+    writer: &mut Device<W>,
+    sink: &mut Device<S>,
+    policy: Policy,
+    watch: &mut T,
+) -> Result<End, ServeFault>
+    requires reader { ¬ (IsTrue (has_failed reader.old)) }
+    requires writer { ¬ (IsTrue (has_failed writer.old)) }
+    requires sink { ¬ (IsTrue (has_failed sink.old)) }
+
+    // A sink that failed is named before a writer, and that before a reader.
+    ensures sink { (result ≡ Err ServeFault.Sink) ↔ IsTrue (has_failed sink.new) }
+    ensures write { (result ≡ Err ServeFault.Write) ↔ (IsTrue (has_failed writer.new) × ¬ (IsTrue (has_failed sink.new))) }
+    ensures read { (result ≡ Err ServeFault.Read) ↔ (IsTrue (has_failed reader.new) × ¬ (IsTrue (has_failed writer.new)) × ¬ (IsTrue (has_failed sink.new))) }
+
+    // Nothing waits to be written while it reads, and it reads only until the connection is over.
+    ensures waited { result ≡ Err ServeFault.Read → (endpoint.new.unsent ≡ []) × (is_dead endpoint.new.connection.phase ≡ false) }
+
+    // Where memory was refused the unit that wants it waits in the endpoint, and no message is ready there, unless one was at entry.
+    ensures starved { result ≡ Err ServeFault.NoMemory → IsStarved endpoint.new }
+    ensures taken { HasAllTaken endpoint.old.connection → result ≡ Err ServeFault.NoMemory → HasAllTaken endpoint.new.connection }
+
+    // What was recorded is flushed, and what was written, unless these devices failed.
+    ensures recorded { ¬ (IsTrue (has_failed sink.new)) → is_flushed sink.new ≡ true }
+    ensures flushed { ¬ (IsTrue (has_failed writer.new)) → ¬ (IsTrue (has_failed sink.new)) → is_flushed writer.new ≡ true }
+
+    // What was fed is what was read, and what was written and recorded is what the run over it moved out and took.
+    ensures served { IfOk result (λ end. (bytes : List ℕ) × Consumes (R.remaining (device_inner reader.old)) (R.remaining (device_inner reader.new)) bytes
+        × IsServed policy end bytes (has_ended reader.new) endpoint.old endpoint.new (W.contents (device_inner writer.old)) (W.contents (device_inner writer.new))
+        (S.contents (device_inner sink.old)) (S.contents (device_inner sink.new))) }
+    ensures begun { IfErr result (λ e. (bytes : List ℕ) × Consumes (R.remaining (device_inner reader.old)) (R.remaining (device_inner reader.new)) bytes
+        × BrokeOff policy e reading bytes endpoint.old endpoint.new (W.contents (device_inner writer.old)) (W.contents (device_inner writer.new)) (S.contents (device_inner sink.old))
+        (S.contents (device_inner sink.new))) }
+{
     endpoint.holds_a_header(); // a law, for the proof
-    match run(endpoint, reader, writer, sink, Rule::of(policy)) {
+    match run(endpoint, reader, writer, sink, Rule::of(policy), watch) {
         Ok(end) => Ok(end),
         Err(ServeFault::Read) => {
             flush_both(writer, sink)?;
@@ -128,12 +174,19 @@ pub fn serve<A: Allocator + Copy, R: AtHand + Drop, W: Write + HoldsBack + Drop,
 }
 
 /// The same, without the flush behind a failure.
-fn run<A: Allocator + Copy, R: AtHand + Drop, W: Write + HoldsBack + Drop, S: Write + Drop>(
+fn run<
+    A: Allocator + Copy,
+    R: AtHand + Drop,
+    W: Write + HoldsBack + Drop,
+    S: Write + Drop,
+    T: Watch,
+>(
     endpoint: &mut Endpoint<A>,
     reader: &mut Device<R>,
     writer: &mut Device<W>,
     sink: &mut Device<S>,
     rule: Rule,
+    watch: &mut T,
 ) -> Result<End, ServeFault>
     requires reader { ¬ (IsTrue (has_failed reader.old)) }
     requires ends { AreOpen (ends W.contents S.contents writer.old sink.old) }
@@ -151,22 +204,31 @@ fn run<A: Allocator + Copy, R: AtHand + Drop, W: Write + HoldsBack + Drop, S: Wr
     };
     write_out(endpoint, writer, sink)?;
     if !endpoint.is_over() {
-        serve_read(endpoint, &mut course, 0, writer, sink).done?;
+        let stepped = serve_read(endpoint, &mut course, 0, writer, sink);
+        watch.did(&stepped);
+        stepped.done?;
     }
     'reads: while !endpoint.is_over() && !reader.ended() {
-        go_on(endpoint, reader, &mut course, writer, sink)?;
+        go_on(endpoint, reader, &mut course, writer, sink, watch)?;
     }
     flush_both(writer, sink)?;
     Ok(endpoint.finish())
 }
 
 /// Makes a step with what the reader has at hand, which it may be asked for, or else with what it reads.
-fn go_on<A: Allocator + Copy, R: AtHand + Drop, W: Write + HoldsBack + Drop, S: Write + Drop>(
+fn go_on<
+    A: Allocator + Copy,
+    R: AtHand + Drop,
+    W: Write + HoldsBack + Drop,
+    S: Write + Drop,
+    T: Watch,
+>(
     endpoint: &mut Endpoint<A>,
     reader: &mut Device<R>,
     course: &mut Course,
     writer: &mut Device<W>,
     sink: &mut Device<S>,
+    watch: &mut T,
 ) -> Result<Done, ServeFault>
     requires reader { ¬ (IsTrue (has_failed reader.old)) }
     requires ends { AreOpen (ends W.contents S.contents writer.old sink.old) }
@@ -183,27 +245,34 @@ fn go_on<A: Allocator + Copy, R: AtHand + Drop, W: Write + HoldsBack + Drop, S: 
         (ends W.contents S.contents writer.old sink.old) (ends W.contents S.contents writer.new sink.new) }
 {
     if !reader.at_hand().is_empty() {
-        return hand_on(endpoint, reader, course, writer, sink);
+        return hand_on(endpoint, reader, course, writer, sink, watch);
     }
     flush_both(writer, sink)?;
     if !fill_hand(endpoint, reader, writer, sink)? {
-        return read_on(endpoint, reader, course, writer, sink);
+        return read_on(endpoint, reader, course, writer, sink, watch);
     }
     if reader.ended() {
         return Ok(Done::NOTHING);
     }
-    hand_on(endpoint, reader, course, writer, sink)
+    hand_on(endpoint, reader, course, writer, sink, watch)
 }
 
 /// Makes a step with what the reader has at hand.
 // Else the answer of the step is copied: 72 instructions of a message.
 #[inline(always)]
-fn hand_on<A: Allocator + Copy, R: AtHand + Drop, W: Write + HoldsBack + Drop, S: Write + Drop>(
+fn hand_on<
+    A: Allocator + Copy,
+    R: AtHand + Drop,
+    W: Write + HoldsBack + Drop,
+    S: Write + Drop,
+    T: Watch,
+>(
     endpoint: &mut Endpoint<A>,
     reader: &mut Device<R>,
     course: &mut Course,
     writer: &mut Device<W>,
     sink: &mut Device<S>,
+    watch: &mut T,
 ) -> Result<Done, ServeFault>
     requires some { 0 < length (device_hand R.hand reader.old) }
     requires ends { AreOpen (ends W.contents S.contents writer.old sink.old) }
@@ -218,16 +287,24 @@ fn hand_on<A: Allocator + Copy, R: AtHand + Drop, W: Write + HoldsBack + Drop, S
 {
     let stepped = serve_piece(endpoint, course, reader.at_hand(), writer, sink);
     reader.took(stepped.used);
+    watch.did(&stepped);
     stepped.done
 }
 
 /// Makes a step with what it reads.
-fn read_on<A: Allocator + Copy, R: AtHand + Drop, W: Write + HoldsBack + Drop, S: Write + Drop>(
+fn read_on<
+    A: Allocator + Copy,
+    R: AtHand + Drop,
+    W: Write + HoldsBack + Drop,
+    S: Write + Drop,
+    T: Watch,
+>(
     endpoint: &mut Endpoint<A>,
     reader: &mut Device<R>,
     course: &mut Course,
     writer: &mut Device<W>,
     sink: &mut Device<S>,
+    watch: &mut T,
 ) -> Result<Done, ServeFault>
     requires reader { ¬ (IsTrue (has_failed reader.old)) }
     requires ends { AreOpen (ends W.contents S.contents writer.old sink.old) }
@@ -246,5 +323,7 @@ fn read_on<A: Allocator + Copy, R: AtHand + Drop, W: Write + HoldsBack + Drop, S
         (ends W.contents S.contents writer.old sink.old) (ends W.contents S.contents writer.new sink.new) }
 {
     let count = read_in(endpoint, reader, writer, sink)?;
-    serve_read(endpoint, course, count, writer, sink).done
+    let stepped = serve_read(endpoint, course, count, writer, sink);
+    watch.did(&stepped);
+    stepped.done
 }

@@ -5,6 +5,7 @@ use amqp_endpoint::Config;
 use amqp_frame::Device;
 use amqp_perform::Outcome;
 use amqp_serve::Policy;
+use amqp_trace::{Host, Trace, TraceFault, View};
 use std::alloc::{AllocError, Global};
 use std::cell::{Cell, RefCell};
 use std::fmt::Display;
@@ -23,6 +24,18 @@ pub const RECORDS: &[u8] =
 
 /// How many bytes answer the stream.
 const ANSWERS: usize = 221;
+
+/// Hears of no trace.
+#[derive(Drop)]
+struct Nobody;
+
+impl Host for Nobody {
+    fn millis(&self) -> u64 {
+        0
+    }
+
+    fn lost(&self, _view: View, _fault: TraceFault) {}
+}
 
 /// How many bytes the peers were sent, and by how many writes.
 #[derive(Drop)]
@@ -211,6 +224,7 @@ where
         connections,
         &mut Device::new(&mut sink),
         &log,
+        None::<&Trace<Vec<u8>, Nobody>>,
     );
     Ok((all_closed, log.text.into_inner(), sink.bytes))
 }

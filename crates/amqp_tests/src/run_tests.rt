@@ -14,6 +14,7 @@ use std::net::{Net, SocketAddr, TcpListener, TcpStream};
 use std::process::{Abort, ExitCode};
 use std::rt::{Env, Files};
 use std::test::Fail;
+use std::time::{Clock, Duration};
 
 /// A file that gives its bytes, and then ends or fails.
 #[derive(Clone, Copy)]
@@ -232,6 +233,17 @@ impl<'a> Files for Host<'a> {
     }
 
     fn remove_dir_all<B: std::alloc::Allocator>(&self, _alloc: B, _path: &str) -> io::Result<()> {
+        Err(io::Error::from(ErrorKind::Unsupported))
+    }
+}
+
+/// Its clock stands.
+impl Clock for Host<'_> {
+    fn monotonic(&self) -> io::Result<Duration> {
+        Ok(Duration::from_secs(1))
+    }
+
+    fn since_1970(&self) -> io::Result<Duration> {
         Err(io::Error::from(ErrorKind::Unsupported))
     }
 }
@@ -603,4 +615,66 @@ fn answers_a_command_line(rt: HostRuntime) {
         assert!(rt; run(&host) == ExitCode::from(2));
         assert_eq!(rt; host.out.into_inner().as_str(), "");
     }
+}
+
+/// The words of `recv` with a trace in a file.
+const TRACED: [&str; 6] = [
+    "amqp",
+    "recv",
+    "--listen",
+    "127.0.0.1:5672",
+    "--trace",
+    "a.amqp",
+];
+
+/// What stands on standard error where that file takes nothing.
+const LOST: &str = "trace: Write, nothing more is told there\nconnection 1: Closed\n";
+
+/// Where the file can't be opened no peer is accepted; where it takes nothing the peer is served all the same.
+#[test]
+fn goes_on_where_a_trace_is_lost(rt: HostRuntime) -> Result<(), Fail> {
+    for (file, status, told, records) in [
+        (None, ExitCode::FAILURE, "fault: Open\n", 0),
+        (whole(b""), ExitCode::SUCCESS, LOST, RECORDS.len()),
+    ] {
+        let (listener, address) = listening(&rt)?;
+        let peer = connected(&rt, address, STREAM)?;
+        let mut host = host_of(rt.alloc(), &TRACED, file);
+        host.listener = Some(&listener);
+        assert!(rt; run(&host) == status);
+        let (out, err) = (host.out.into_inner(), host.err.into_inner());
+        assert_eq!(rt; (out.len(), err.as_str()), (records, told));
+        drop(peer);
+    }
+    Ok(())
+}
+
+/// The lines of a trace and of events on standard error, behind the peer's address.
+const TOLD: &str = "\n1 0ms <- header id=0 version=1.0.0\n";
+
+const EVENTS: &str =
+    "\n1 0ms the peer is \"a\"\n1 0ms session 0 began\n1 0ms link \"l\" began in session 0\n1 0ms message id=0 length=1 on link \"l\": accepted\n1 0ms message id=1 length=1 on link \"l\": accepted\n1 0ms the connection was closed by the peer\nconnection 1: Closed\n";
+
+#[test]
+fn tells_on_standard_error(rt: HostRuntime) -> Result<(), Fail> {
+    for (word, first, last) in [
+        (
+            "--trace",
+            TOLD,
+            "\n1 0ms -- end Closed\nconnection 1: Closed\n",
+        ),
+        ("--events", EVENTS, EVENTS),
+    ] {
+        let (listener, address) = listening(&rt)?;
+        let peer = connected(&rt, address, STREAM)?;
+        let words = ["amqp", "recv", "--listen", "127.0.0.1:5672", word, "-"];
+        let mut host = host_of(rt.alloc(), &words, None);
+        host.listener = Some(&listener);
+        assert!(rt; run(&host) == ExitCode::SUCCESS);
+        let err = host.err.into_inner();
+        assert!(rt; err.contains(" connection from 127.0.0.1:"));
+        assert!(rt; err.contains(first) && err.ends_with(last));
+        drop(peer);
+    }
+    Ok(())
 }

@@ -28,5 +28,5 @@ returns-clause-goes g c =
     let r = g.R.Read.remaining (device_inner c.args.reader.now) in
     let r1 = g.R.Read.remaining (device_inner c.read_in.new.reader) in
     let came = c.in_ok-count.ensures.read in
-    goes_by_step c.args.course.now.rule c.serve_read.result.told c.serve_read.result.done s c.serve_read.new.endpoint (take c.in_ok-count.count c.read_in.new.endpoint.input.spare) r r1
-    (has_failed c.read_in.new.reader) _ _ (λ failed. false≢true (c.in_ok-count.ensures.failed.1 failed)) c.requires.alive came.2 (c.serve_read.ensures.stepped s came.1)
+    goes_by_step c.args.course.now.rule c.serve_read-stepped.result.told c.serve_read-stepped.result.done s c.serve_read-stepped.new.endpoint (take c.in_ok-count.count c.read_in.new.endpoint.input.spare) r r1
+    (has_failed c.read_in.new.reader) _ _ (λ failed. false≢true (c.in_ok-count.ensures.failed.1 failed)) c.requires.alive came.2 (c.serve_read-stepped.ensures.stepped s came.1)

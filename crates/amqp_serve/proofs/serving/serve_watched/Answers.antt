@@ -8,7 +8,7 @@ use Rattle.amqp_serve.specs.Serving.{HasBroken}
 use Rattle.amqp_serve.proofs.AllTaken.{broke_taken}
 use Rattle.amqp_serve.proofs.Servings.{if_err, flush_stopped}
 use Rattle.amqp_serve.proofs.ServingReads.{starved_flushed, starved_lost}
-use Rattle.amqp_serve.proofs.serving.serve.Goals as goal
+use Rattle.amqp_serve.proofs.serving.serve_watched.Goals as goal
 
 pub returns-in_err-flush_both-in-Err-NoMemory-clause-begun : goal.returns-in_err-flush_both-in-Err-NoMemory-clause-begun
 returns-in_err-flush_both-in-Err-NoMemory-clause-begun g c =
