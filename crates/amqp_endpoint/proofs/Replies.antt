@@ -3,8 +3,13 @@ use Rattle.std.proofs.Common.{arith, ◌≡◌, ℕ, ◌+◌, ◌≤◌, Bool, t
 use Rattle.std.specs.Prelude.{nat_eq, nat_lt, if◌then◌else◌, is_some, bytes_eq, sum_by}
 use Rattle.std.proofs.lemmas.List.Sums.{sum_by-cons}
 use Rattle.std.proofs.lemmas.List.{length-append}
+use Rattle.amqp_types.specs.declared.kind.Kind.{Kind}
 use Rattle.amqp_types.specs.declared.kind.Kind.TheVariants as kind
-use Rattle.amqp_types.specs.Canonical.{short_form}
+use Rattle.amqp_types.specs.declared.shell.Short.{Short}
+use Rattle.amqp_types.specs.declared.shell.Short.TheVariants as short
+use Rattle.std.specs.Int.{bytes_high_first}
+use Rattle.amqp_types.specs.Canonical.{canonical, number_text, short_form}
+use Rattle.amqp_types.specs.Trees.{Number}
 use Rattle.amqp_frame.specs.declared.units.TheConstants.{HEADER}
 use Rattle.amqp_frame.specs.Units.{StreamUnit, HeaderUnit, FrameUnit, FaultUnit, channel_of, body_of}
 use Rattle.amqp_perform.specs.declared.condition.Condition.{Condition}
@@ -14,7 +19,7 @@ use Rattle.amqp_perform.specs.declared.fault.BodyFault.{BodyFault}
 use Rattle.amqp_perform.specs.declared.fault.BodyFault.TheVariants as body
 use Rattle.amqp_perform.specs.declared.outcome.Outcome.{Outcome}
 use Rattle.amqp_perform.specs.declared.outcome.Outcome.TheVariants as outcome
-use Rattle.amqp_perform.specs.Cells.{Cell, Absent, Whole}
+use Rattle.amqp_perform.specs.Cells.{Cell, Absent, Whole, Span}
 use Rattle.amqp_perform.specs.Conditions.{condition_span}
 use Rattle.amqp_perform.specs.Outcomes.{outcome_span}
 use Rattle.amqp_perform.specs.Performatives.{is_receiver, span}
@@ -45,7 +50,7 @@ use Rattle.amqp_endpoint.proofs.Lengths.{number_long}
 use Rattle.amqp_endpoint.specs.Lines as line
 use Rattle.amqp_endpoint.specs.Lines.{Line, attach_too_high, by_fault, session_line, channel_line, opened_line, unopened_line, unread_line, body_line, frame_line, is_read_close}
 use Rattle.amqp_endpoint.specs.Lines.{closing_line, line_of, begun_terms}
-use Rattle.amqp_endpoint.specs.Replies.{joined, open_said, begin_said, end_said, close_said, close_spoken, aloud, on_channel, reply_on}
+use Rattle.amqp_endpoint.specs.Replies.{joined, time_out_said, open_said, begin_said, end_said, close_said, close_spoken, aloud, on_channel, reply_on}
 use Rattle.amqp_session.proofs.Firsts.{neither, not_so}
 use Rattle.amqp_endpoint.proofs.Accepts.{one_of}
 
@@ -78,9 +83,28 @@ outcome_long (outcome.Modified false false) = omega arith
 
 -- What is said. ---------------------------------------------------------------------------------------------------------
 
+-- an idle-time-out
+pub time_out_most : (o : Option ℕ) → cell_most (time_out_said o) ≤ 17
+time_out_most None = omega arith
+time_out_most (Some n) = number_long kind.Uint n (short_form kind.Uint n)
+
+pub uint_short : (n : ℕ) → length (canonical (Number kind.Uint n)) ≤ 5
+uint_short n = by_form (short_form kind.Uint n)
+  where
+    by_form : (o : Option Short) → length (number_text kind.Uint n o) ≤ 5
+    by_form (Some (short.Code code)) = omega arith
+    by_form (Some (short.Byte code byte)) = omega arith
+    by_form None = let e : length (bytes_high_first 4 n) ≡ 4 = refl in omega (arith, e)
+
+-- a number is spelled by some bytes
+pub span_number : (k : Kind) (n : ℕ) (o : Option Short) → span (number_text k n o) ≡ Span (number_text k n o)
+span_number k n (Some (short.Code code)) = refl
+span_number k n (Some (short.Byte code byte)) = refl
+span_number k n None = refl
+
 -- the most that an open takes
 pub open_most : (config : Configured) (channel_max : ℕ) → length config.container_id ≤ 255 → said_most (open_said config channel_max) ≤ 400
-open_most config channel_max short = omega (arith, short)
+open_most config channel_max short = omega (arith, short, time_out_most config.idle_time_out)
 
 -- a begin
 pub begin_most : (channel : ℕ) (terms : SessionTerms) → said_most (begin_said channel terms) ≤ 400

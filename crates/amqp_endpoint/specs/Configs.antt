@@ -1,5 +1,5 @@
 -- What an endpoint is set up with, and within which ranges.
-use Rattle.std.specs.Prelude.{ℕ, ◌^◌, ◌<◌, ◌≤◌, List, length}
+use Rattle.std.specs.Prelude.{ℕ, ◌^◌, ◌<◌, ◌≤◌, ◌==◌, if◌then◌else◌, List, length, Option, Some, None}
 use Rattle.amqp_link.specs.Bounds.{Bounds, IsBounded}
 use Rattle.amqp_endpoint.specs.Limits.{Limit, longest, bounds_in}
 
@@ -11,6 +11,7 @@ pub record Configured : Type 0 where
   pub bounds : Bounds  -- what each link may keep whose name begins with no prefix of the limits
   pub limits : List Limit  -- and what others may
   pub window : ℕ  -- the places of a session's incoming window at its begin [2.5.6]
+  pub idle_time_out : Option ℕ  -- the idle-time-out that the open announces, in milliseconds [2.4.5]
 
 -- the ranges that are not those of a type
 pub record IsConfigured (container_id : List ℕ) (max_frame window : ℕ) : Type 0 where
@@ -19,6 +20,10 @@ pub record IsConfigured (container_id : List ℕ) (max_frame window : ℕ) : Typ
   pub some_frame : 512 ≤ max_frame
   pub most_frame : max_frame ≤ 1048576
   pub most_window : window < 2 ^ 31
+
+-- an idle-time-out of 0 is none [2.7.1]
+abbrev pub time_out : ℕ → Option ℕ
+time_out milliseconds = if milliseconds == 0 then None else Some milliseconds
 
 -- what a link of this name may keep
 abbrev pub bounds_for : Configured → List ℕ → Bounds

@@ -2,9 +2,12 @@
 use Rattle.std.specs.Prelude.{ℕ, if◌then◌else◌, List, [], ◌∷◌, ◌++◌, map, Option, Some, None}
 use Rattle.std.specs.List.{flat_map}
 use Rattle.amqp_frame.specs.declared.units.TheConstants.{HEADER}
+use Rattle.amqp_types.specs.declared.kind.Kind.TheVariants as kind
+use Rattle.amqp_types.specs.Canonical.{canonical}
+use Rattle.amqp_types.specs.Trees.{Number}
 use Rattle.amqp_perform.specs.declared.condition.Condition.{Condition}
 use Rattle.amqp_perform.specs.declared.descriptor.Descriptor.TheVariants as of_type
-use Rattle.amqp_perform.specs.Cells.{Absent, Whole, Bytes}
+use Rattle.amqp_perform.specs.Cells.{Cell, Absent, Whole, Bytes, Span}
 use Rattle.amqp_perform.specs.Conditions.{condition_span}
 use Rattle.amqp_perform.specs.Performatives.{span}
 use Rattle.amqp_perform.specs.Said.{Said, said_frame}
@@ -17,9 +20,21 @@ use Rattle.amqp_endpoint.specs.Lines.{Line, HeaderAccepted, HeaderUnknown, PeerO
 
 -- The frames. ---------------------------------------------------------------------------------------------------------
 
+-- an idle-time-out in its shortest spelling, where one is announced [1.6.7, 2.4.5]
+abbrev pub time_out_said : Option ℕ → Cell
+time_out_said None = Absent
+time_out_said (Some milliseconds) = Span (canonical (Number kind.Uint milliseconds))
+
 -- the open of this side, with the highest channel [2.7.1]
 abbrev pub open_said : Configured → ℕ → Said
 open_said config channel_max = record {
+  type = of_type.Open;
+  cells = Bytes config.container_id ∷ Absent ∷ Whole config.max_frame ∷ Whole channel_max ∷ time_out_said config.idle_time_out ∷ Absent ∷ Absent ∷ Absent ∷ Absent ∷ Absent ∷ [];
+}
+
+-- the open of a side that announces no idle-time-out
+abbrev pub plain_open_said : Configured → ℕ → Said
+plain_open_said config channel_max = record {
   type = of_type.Open;
   cells = Bytes config.container_id ∷ Absent ∷ Whole config.max_frame ∷ Whole channel_max ∷ Absent ∷ Absent ∷ Absent ∷ Absent ∷ Absent ∷ Absent ∷ [];
 }

@@ -7,6 +7,7 @@ ghost use Rattle.amqp_endpoint.specs.Replies.{joined, close_spoken, aloud, close
 use crate::connection::Connection;
 use crate::event::{Event, Scope};
 use crate::frames;
+use crate::opening::say_open;
 use crate::output::Output;
 use crate::phase::Phase;
 use amqp_perform::Condition;
@@ -22,7 +23,7 @@ fn say_close<A: Allocator + Copy>(
     ensures { out.new ≡ out.old ++ joined (close_spoken connection.now condition) }
 {
     if matches!(connection.phase(), Phase::Unopened) {
-        out.say(0, &frames::open(connection.config(), 0));
+        say_open(connection, out, 0);
     }
     out.say(0, &frames::close(frames::error(condition)));
 }

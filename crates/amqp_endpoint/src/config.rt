@@ -1,7 +1,7 @@
 //! What an endpoint is set up with.
-ghost use Rattle.std.specs.Prelude.{◌≡◌, ◌↔◌, ◌≤◌, ◌<◌, ◌^◌, length, [], IsSome, IfSome, IfOk, IfErr, OnOk};
+ghost use Rattle.std.specs.Prelude.{◌≡◌, ◌↔◌, ◌≤◌, ◌<◌, ◌^◌, length, [], None, IsSome, IfSome, IfOk, IfErr, OnOk};
 ghost use Rattle.std.specs.String.{string_bytes};
-ghost use Rattle.amqp_endpoint.specs.Configs.{Configured, IsConfigured, IsAsked, bounds_for};
+ghost use Rattle.amqp_endpoint.specs.Configs.{Configured, IsConfigured, IsAsked, bounds_for, time_out};
 ghost use Rattle.amqp_endpoint.specs.Limits.{IsTable, IsFault};
 
 use crate::limits::{self, LimitFault, LinkLimit};
@@ -19,6 +19,7 @@ pub struct Config<A: Allocator + Copy = Global> {
     bounds: LinkBounds,
     limits: Vec<LinkLimit<A>, A>,
     window: u32,
+    idle_time_out: Option<u32>,
 }
 
 impl<A: Allocator + Copy> Model for Config<A> {
@@ -28,7 +29,7 @@ impl<A: Allocator + Copy> Model for Config<A> {
 
     ghost Value = { Configured };
 
-    ghost view = { λ a. record { container_id = string_bytes a.container_id; max_frame = a.max_frame; channel_max = a.channel_max; handle_max = a.handle_max; bounds = a.bounds; limits = a.limits.items; window = a.window } };
+    ghost view = { λ a. record { container_id = string_bytes a.container_id; max_frame = a.max_frame; channel_max = a.channel_max; handle_max = a.handle_max; bounds = a.bounds; limits = a.limits.items; window = a.window; idle_time_out = a.idle_time_out } };
 
     ghost invariant = { λ a. IsConfigured (string_bytes a.container_id) a.max_frame a.window × IsTable a.limits.items };
 }
@@ -48,7 +49,7 @@ impl<A: Allocator + Copy> Config<A> {
         window: u32,
     ) -> Option<Self>
         ensures some { IsSome result ↔ IsAsked (string_bytes container_id) max_frame channel_max handle_max allowed max_message window }
-        ensures is { IfSome result (λ c. c ≡ record { container_id = string_bytes container_id; max_frame = max_frame; channel_max = channel_max; handle_max = handle_max; bounds = record { allowed = allowed; max_message_size = max_message }; limits = []; window = window }) }
+        ensures is { IfSome result (λ c. c ≡ record { container_id = string_bytes container_id; max_frame = max_frame; channel_max = channel_max; handle_max = handle_max; bounds = record { allowed = allowed; max_message_size = max_message }; limits = []; window = window; idle_time_out = None }) }
     {
         let bounds = LinkBounds::new(allowed, max_message)?;
         let is_named = 1 <= container_id.len() && container_id.len() <= 255;
@@ -65,6 +66,7 @@ impl<A: Allocator + Copy> Config<A> {
             bounds,
             limits,
             window,
+            idle_time_out: None,
         })
     }
 
@@ -94,6 +96,7 @@ impl<A: Allocator + Copy> Config<A> {
             bounds,
             limits: _,
             window,
+            idle_time_out,
         } = self;
         Ok(Config {
             container_id,
@@ -103,7 +106,18 @@ impl<A: Allocator + Copy> Config<A> {
             bounds,
             limits,
             window,
+            idle_time_out,
         })
+    }
+
+    /// These settings with this idle-time-out, in milliseconds: what the open asks the peer to keep to, at least a frame in each
+    /// such time. 0 is none, as for the peer [2.7.1]. An endpoint has no clock: whoever calls it ends the connection of a peer that
+    /// is silent for twice as long, and beats for one that asks for it [2.4.5].
+    pub fn with_idle_time_out(mut self, milliseconds: u32) -> Self
+        ensures { result ≡ record self { idle_time_out = time_out milliseconds } }
+    {
+        self.idle_time_out = (milliseconds > 0).then_some(milliseconds);
+        self
     }
 
     /// A law: its settings are within their ranges.
@@ -171,6 +185,13 @@ impl<A: Allocator + Copy> Config<A> {
         self.window
     }
 
+    /// The idle-time-out that the open announces, in milliseconds, if one is [2.4.5].
+    pub fn idle_time_out(&self) -> Option<u32>
+        ensures { result ≡ self.now.idle_time_out }
+    {
+        self.idle_time_out
+    }
+
     /// An equal one; an error where memory for the container-id or the limits is refused.
     pub fn copy(&self, alloc: A) -> Result<Self, AllocError>
         ensures { IfOk result (λ c. c ≡ self.now) }
@@ -183,6 +204,7 @@ impl<A: Allocator + Copy> Config<A> {
             bounds: self.bounds,
             limits: limits::copies(alloc, &self.limits)?,
             window: self.window,
+            idle_time_out: self.idle_time_out,
         })
     }
 }

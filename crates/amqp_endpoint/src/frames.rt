@@ -1,18 +1,28 @@
 //! The frames of this side for the connection and its sessions.
 ghost use Rattle.std.specs.Prelude.{◌≡◌, ◌≤◌, length};
+ghost use Rattle.amqp_types.specs.declared.kind.Kind.{Kind};
+ghost use Rattle.amqp_types.specs.Canonical.{canonical};
+ghost use Rattle.amqp_types.specs.Trees.{Number};
+ghost use Rattle.amqp_perform.specs.Performatives.{span};
 ghost use Rattle.amqp_perform.specs.Conditions.{condition_span};
 ghost use Rattle.amqp_perform.specs.Said.{said};
 ghost use Rattle.amqp_endpoint.specs.Fields.{named};
 ghost use Rattle.amqp_endpoint.specs.Lengths.{said_most};
-ghost use Rattle.amqp_endpoint.specs.Replies.{open_said, begin_said, end_said, close_said};
+ghost use Rattle.amqp_endpoint.specs.Replies.{time_out_said, open_said, begin_said, end_said, close_said};
 
 use crate::config::Config;
 use amqp_perform::{Begin, Close, Condition, End, Open, Performative};
 use amqp_session::SessionTerms;
+use amqp_types::{Kind, Peek, put};
 use std::alloc::Allocator;
 
-/// The open, with the highest channel [2.7.1].
-pub fn open<A: Allocator + Copy>(config: &Config<A>, channel_max: u16) -> Performative<'_>
+/// The open, with the highest channel and the idle-time-out that was spelled for it [2.7.1].
+pub fn open<'a, A: Allocator + Copy>(
+    config: &'a Config<A>,
+    channel_max: u16,
+    time_out: &'a [u8],
+) -> Performative<'a>
+    requires { span time_out.now ≡ time_out_said config.now.idle_time_out }
     ensures said { said result ≡ open_said config.now channel_max }
     ensures short { said_most (said result) ≤ 400 }
 {
@@ -21,13 +31,33 @@ pub fn open<A: Allocator + Copy>(config: &Config<A>, channel_max: u16) -> Perfor
         hostname: &[],
         max_frame_size: config.max_frame(),
         channel_max,
-        idle_time_out: &[],
+        idle_time_out: time_out,
         outgoing_locales: &[],
         incoming_locales: &[],
         offered_capabilities: &[],
         desired_capabilities: &[],
         properties: &[],
     })
+}
+
+/// An idle-time-out in milliseconds as the open spells it, put into `scratch`; nothing where there is none [2.4.5].
+pub fn time_out(milliseconds: Option<u32>, scratch: &mut [u8; 5]) -> &[u8]
+    ensures { span result.now ≡ time_out_said milliseconds }
+{
+    match milliseconds {
+        Some(milliseconds) => uint(milliseconds, scratch),
+        None => &[],
+    }
+}
+
+/// The shortest spelling of a number as a uint, put into `scratch` [1.6.7].
+fn uint(number: u32, scratch: &mut [u8; 5]) -> &[u8]
+    ensures { result.now ≡ canonical (Number Kind.Uint number) }
+{
+    match put(&Peek::Unsigned(Kind::Uint, number as u64), scratch) {
+        Some(len) => &scratch[..len],
+        None => unreachable!(),
+    }
 }
 
 /// The begin that answers one of the peer [2.7.2].

@@ -23,7 +23,7 @@ ghost use Rattle.amqp_perform.specs.Said.{Said, said_frame};
 ghost use Rattle.amqp_endpoint.specs.Limits.{Limit, longest, IsFound};
 ghost use Rattle.amqp_endpoint.specs.Histories.{phase_of, state_of, Sound, after_all, Accepted};
 ghost use Rattle.amqp_endpoint.specs.Lines.{line_of, event_on, fault_on, told_on};
-ghost use Rattle.amqp_endpoint.specs.Replies.{joined, reply_on};
+ghost use Rattle.amqp_endpoint.specs.Replies.{open_said, plain_open_said, joined, reply_on};
 ghost use Rattle.amqp_endpoint.specs.Runs as runs;
 ghost use Rattle.amqp_endpoint.specs.Runs.{Answer, Does, Run, IsStart, handed_of};
 ghost use Rattle.amqp_endpoint.specs.declared.event.Event.TheVariants as told;
@@ -105,6 +105,11 @@ pub fn held_is_bounded()
 #[tactic(auto, using(crate::proofs::LimitTables::longest_found))]
 pub fn the_longest_prefix_is_found()
     ensures { (name : List ℕ) (rows : List Limit) → IsFound name rows (longest name rows) }
+{}
+
+/// Where no idle-time-out is announced the open says what it says of the other settings, and nothing else [2.4.5, 2.7.1].
+pub fn opens_are_plain_without_a_time_out()
+    ensures { (config : Configured) (channel_max : ℕ) → config.idle_time_out ≡ None → open_said config channel_max ≡ plain_open_said config channel_max }
 {}
 
 /// How long a frame without payload is at most, by its fields.

@@ -26,6 +26,7 @@ mod fault;
 mod frames;
 pub mod laws;
 mod limits;
+mod opening;
 mod output;
 mod phase;
 mod replays;

@@ -14,9 +14,10 @@ ghost use Rattle.amqp_endpoint.specs.Fields.{Begins, Ends, ForSession, frame_in,
 use crate::connection::Connection;
 use crate::event::Event;
 use crate::laws::{fields_say_the_performative, frames_are_as_long};
+use crate::opening::say_open;
 use crate::output::Output;
 use crate::phase::Phase;
-use crate::{closing, frames, sessions};
+use crate::{closing, sessions};
 use amqp_frame::HEADER;
 use amqp_perform::{
     Begin, BodyFault, Condition, Open, Performative, Transfer, read_body, read_transfer_into,
@@ -211,7 +212,7 @@ fn act_on_open<A: Allocator + Copy>(
     } else {
         stated.channel_max as u8
     };
-    out.say(0, &frames::open(connection.config(), channel_max as u16));
+    say_open(connection, out, channel_max as u16);
     connection.open(stated.max_frame_size, channel_max);
     Event::Opened
 }

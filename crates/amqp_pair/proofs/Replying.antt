@@ -1,9 +1,14 @@
 -- What the endpoint's frames tell.
-use Rattle.std.proofs.Common.{◌≡◌, ℕ, ◌^◌, ◌<◌, ◌≤◌, Bool, true, false, cond, List, [], Option, Some, refl, ap, ◌∙◌, arith, eq-eqb}
-use Rattle.std.specs.Prelude.{unwrap_or}
-use Rattle.std.proofs.lemmas.Bool.{le-leb}
+use Rattle.std.proofs.Common.{◌≡◌, ℕ, ◌^◌, ◌<◌, ◌≤◌, ◌%◌, ◌⊎◌, inl, inr, Bool, true, false, cond, List, [], ◌∷◌, Option, Some, None, refl, ap, ◌∙◌, arith, eq-eqb}
+use Rattle.std.specs.Prelude.{unwrap_or, nat_lt, nat_eq}
+use Rattle.std.specs.Int.{byte_at}
+use Rattle.std.proofs.lemmas.Bool.{le-leb, le-ltb, cases_lt, ne_eqb}
 use Rattle.amqp_types.specs.declared.kind.Kind.TheVariants as kind
-use Rattle.amqp_types.specs.Canonical.{canonical, Fits, IsRanged, AllRanged}
+use Rattle.byteorder.specs.Endian.{big_bytes}
+use Rattle.amqp_types.specs.declared.code.Form.TheVariants as form
+use Rattle.amqp_types.specs.declared.shell.Short.{Short}
+use Rattle.amqp_types.specs.declared.shell.Short.TheVariants as short
+use Rattle.amqp_types.specs.Canonical.{canonical, number_text, short_form, Fits, IsRanged, AllRanged}
 use Rattle.amqp_types.specs.Spelling.{Spells}
 use Rattle.amqp_types.specs.Trees.{Tree, Trees, Number, ListOf, Described, none, IsLawful, AreLawful, depth_of_all}
 use Rattle.amqp_perform.specs.declared.outcome.Outcome.{Outcome}
@@ -17,7 +22,7 @@ use Rattle.amqp_perform.specs.Tables.{Field, string, uint, uint_from, ushort, bo
 use Rattle.amqp_session.specs.declared.terms.SessionTerms.{SessionTerms}
 use Rattle.amqp_session.specs.Frames.{attach_said, flow_said, link_flow_said, disposition_said, last_stated}
 use Rattle.amqp_endpoint.specs.Configs.{Configured}
-use Rattle.amqp_endpoint.specs.Replies.{open_said, begin_said}
+use Rattle.amqp_endpoint.specs.Replies.{time_out_said, open_said, begin_said}
 use Rattle.amqp_send.specs.declared.telling.Telling.TheVariants.{Flowed}
 use Rattle.amqp_send.specs.Frames.{IsText}
 use Rattle.amqp_send.specs.Tellings.{told_by, disposed}
@@ -40,13 +45,6 @@ short_cell n lt = ((λ e. absurd (cc e), omega arith, tt), refl)
 
 size_cell : (n : ℕ) → 512 ≤ n → n < 2 ^ 32 → IsOfField (record { name = []; type = uint_from 512; absence = optional }) (Whole n)
 size_cell n least lt = ((λ e. absurd (cc e), omega arith, tt), ap (λ (b : Bool). where_so b (Whole n)) (le-leb 512 n least))
-
-open_may : (config : Configured) (channel_max : ℕ) → IsText config.container_id → 512 ≤ config.max_frame → config.max_frame < 2 ^ 32 → channel_max < 2 ^ 16 → MayBeSaid (open_said config channel_max)
-open_may config channel_max text least most few = record {
-  fields = open_fields;
-  table = refl;
-  each = (text_cell config.container_id text, (refl, (size_cell config.max_frame least most, (short_cell channel_max few, (refl, (refl, (refl, (refl, (refl, (refl, tt))))))))));
-}
 
 begin_may : (channel : ℕ) (terms : SessionTerms) → channel < 2 ^ 16 → terms.incoming_window < 2 ^ 32 → terms.handle_max < 2 ^ 32 → MayBeSaid (begin_said channel terms)
 begin_may channel terms few window handles = record {
@@ -96,6 +94,53 @@ terminus_cell spells code few = (
 
 size_span : Spelled → (n : ℕ) → n < 2 ^ 64 → IsOfField span_field (Span (canonical (Number kind.Ulong n)))
 size_span spells n few = (refl, Number kind.Ulong n, spells (Number kind.Ulong n) tt (λ e. absurd (cc e), omega (arith, few), tt) tt, omega arith, refl)
+
+-- the lowest four bytes of a number stand for what 32 bits hold of it
+low_bytes : (n : ℕ) → big_bytes 4 n ≡ big_bytes 4 (n % 2 ^ 32)
+low_bytes n =
+    let a : byte_at 3 n ≡ byte_at 3 (n % 2 ^ 32) = omega arith in
+    let b : byte_at 2 n ≡ byte_at 2 (n % 2 ^ 32) = omega arith in
+    let c : byte_at 1 n ≡ byte_at 1 (n % 2 ^ 32) = omega arith in
+    let d : byte_at 0 n ≡ byte_at 0 (n % 2 ^ 32) = omega arith in
+    ap (λ (x : ℕ). x ∷ byte_at 2 n ∷ byte_at 1 n ∷ byte_at 0 n ∷ []) a
+    ∙ ap (λ (x : ℕ). byte_at 3 (n % 2 ^ 32) ∷ x ∷ byte_at 1 n ∷ byte_at 0 n ∷ []) b
+    ∙ ap (λ (x : ℕ). byte_at 3 (n % 2 ^ 32) ∷ byte_at 2 (n % 2 ^ 32) ∷ x ∷ byte_at 0 n ∷ []) c
+    ∙ ap (λ (x : ℕ). byte_at 3 (n % 2 ^ 32) ∷ byte_at 2 (n % 2 ^ 32) ∷ byte_at 1 (n % 2 ^ 32) ∷ x ∷ []) d
+
+-- a number that needs more than a byte is spelled by four
+long_uint : (n : ℕ) → 256 ≤ n → short_form kind.Uint n ≡ None
+long_uint n long =
+    ap (λ (b : Bool). cond b (Some (short.Code 0x43)) (cond (nat_lt n 256) (Some (short.Byte 0x52 n)) None)) (ne_eqb n 0 (λ e. absurd (omega (arith, long, e))))
+    ∙ ap (λ (b : Bool). cond b (Some (short.Byte 0x52 n)) None) (le-ltb n 256 long)
+
+-- an idle-time-out; of a number too large for a uint its lowest four bytes are spelled
+time_out_span : Spelled → (n : ℕ) → IsOfField span_field (Span (canonical (Number kind.Uint n)))
+unfolding Spells
+time_out_span spells n = by (cases_lt n (2 ^ 32))
+  where
+    by : n < 2 ^ 32 ⊎ 2 ^ 32 ≤ n → IsOfField span_field (Span (canonical (Number kind.Uint n)))
+    by (inl few) = (refl, Number kind.Uint n, spells (Number kind.Uint n) tt (λ e. absurd (cc e), omega (arith, few), tt) tt, omega arith, refl)
+    by (inr many) = (
+      refl,
+      Number kind.Uint (n % 2 ^ 32),
+      (0x70, form.Full, big_bytes 4 n, refl, ap (λ (o : Option Short). number_text kind.Uint n o) (long_uint n (omega (arith, many))), (omega arith, low_bytes n), tt),
+      omega arith,
+      refl,
+    )
+
+time_out_cell : Spelled → (o : Option ℕ) → IsOfField span_field (time_out_said o)
+time_out_cell spells None = refl
+time_out_cell spells (Some n) = time_out_span spells n
+
+open_may : Spelled → (config : Configured) (channel_max : ℕ) → IsText config.container_id → 512 ≤ config.max_frame → config.max_frame < 2 ^ 32 → channel_max < 2 ^ 16 → MayBeSaid (open_said config channel_max)
+open_may spells config channel_max text least most few = record {
+  fields = open_fields;
+  table = refl;
+  each = (
+    text_cell config.container_id text,
+    (refl, (size_cell config.max_frame least most, (short_cell channel_max few, (time_out_cell spells config.idle_time_out, (refl, (refl, (refl, (refl, (refl, tt))))))))),
+  );
+}
 
 attach_may : Spelled → (config : Configured) (name : List ℕ) (longest : ℕ) → IsText name → longest < 2 ^ 64 → MayBeSaid (attach_said longest (attaching_of config name))
 attach_may spells config name longest text few = record {
@@ -175,8 +220,8 @@ module _ (law : TellsLaw) where
   tells : (x : Said) → MayBeSaid x → SaysAndTells x (told_by x.type x.cells)
   tells x may = record { may = may; tells = λ few. law 0 x [] may (omega arith) few }
 
-  pub opens : OpenTells
-  opens config channel_max text least most few = tells (open_said config channel_max) (open_may config channel_max text least most few)
+  pub opens : Spelled → OpenTells
+  opens spells config channel_max text least most few = tells (open_said config channel_max) (open_may spells config channel_max text least most few)
 
   pub begins : BeginTells
   begins channel terms few window handles = tells (begin_said channel terms) (begin_may channel terms few window handles)

@@ -1,8 +1,8 @@
 //! What `amqp_endpoint` promises of settings.
 
-ghost use Rattle.std.specs.Prelude.{◌≡◌, ◌↔◌, [], ◌+◌, ◌≤◌, ◌^◌, ◌<◌, length, IfOk, OnOk, IfErr, IsSome, IfSome};
+ghost use Rattle.std.specs.Prelude.{◌≡◌, ◌↔◌, [], None, ◌+◌, ◌≤◌, ◌^◌, ◌<◌, length, IfOk, OnOk, IfErr, IsSome, IfSome};
 ghost use Rattle.std.specs.String.{string_bytes};
-ghost use Rattle.amqp_endpoint.specs.Configs.{IsConfigured, IsAsked, bounds_for};
+ghost use Rattle.amqp_endpoint.specs.Configs.{IsConfigured, IsAsked, bounds_for, time_out};
 ghost use Rattle.amqp_endpoint.specs.Limits.{IsTable, IsFault};
 
 use amqp_endpoint::{Answer, Call, CallFault, Config, End, Endpoint, Fed, LimitFault, LinkLimit};
@@ -22,7 +22,7 @@ pub fn checked<A: Allocator + Copy>(
     window: u32,
 ) -> Option<Config<A>>
     ensures some { IsSome result ↔ IsAsked (string_bytes container_id) max_frame channel_max handle_max allowed max_message window }
-    ensures is { IfSome result (λ c. c ≡ record { container_id = string_bytes container_id; max_frame = max_frame; channel_max = channel_max; handle_max = handle_max; bounds = record { allowed = allowed; max_message_size = max_message }; limits = []; window = window }) }
+    ensures is { IfSome result (λ c. c ≡ record { container_id = string_bytes container_id; max_frame = max_frame; channel_max = channel_max; handle_max = handle_max; bounds = record { allowed = allowed; max_message_size = max_message }; limits = []; window = window; idle_time_out = None }) }
 {
     Config::checked(
         container_id,
@@ -47,6 +47,13 @@ pub fn with_limits<A: Allocator + Copy>(
     ensures table { IfErr result (λ e. e.2.items ≡ limits.items) }
 {
     config.with_limits(limits)
+}
+
+/// These settings with this idle-time-out, in milliseconds; 0 is none.
+pub fn with_idle_time_out<A: Allocator + Copy>(config: Config<A>, milliseconds: u32) -> Config<A>
+    ensures { result ≡ record config { idle_time_out = time_out milliseconds } }
+{
+    config.with_idle_time_out(milliseconds)
 }
 
 /// A law: its settings are within their ranges.
@@ -109,6 +116,13 @@ pub fn window<A: Allocator + Copy>(config: &Config<A>) -> u32
     ensures most { result < 2 ^ 31 }
 {
     config.window()
+}
+
+/// The idle-time-out that the open announces, in milliseconds, if one is.
+pub fn idle_time_out<A: Allocator + Copy>(config: &Config<A>) -> Option<u32>
+    ensures { result ≡ config.now.idle_time_out }
+{
+    config.idle_time_out()
 }
 
 /// An equal one; an error where memory for the container-id or the limits is refused.

@@ -1,11 +1,26 @@
 //! What is promised of configurations alone.
 
-ghost use Rattle.std.specs.Prelude.{◌≡◌, ℕ, ◌+◌, ◌*◌, []};
+ghost use Rattle.std.specs.Prelude.{◌≡◌, ℕ, ◌+◌, ◌*◌, [], ◌∷◌, None};
 ghost use Rattle.amqp_endpoint.specs.Configs.{Configured};
 ghost use Rattle.amqp_endpoint.specs.Held.{counted_most};
+ghost use Rattle.amqp_endpoint.specs.Replies.{open_said};
+ghost use Rattle.amqp_perform.specs.declared.descriptor.Descriptor.{Descriptor};
+ghost use Rattle.amqp_perform.specs.Cells.{Absent, Whole, Bytes};
+
+use amqp_endpoint::laws;
 
 /// Without limits for links, so many sessions and links hold at most a frame, 8,192 bytes of output, 64 for each session, and for
 /// each link 1,407 and, for each delivery that is allowed, its message and 96.
 pub fn the_bound_without_limits()
     ensures { (config : Configured) (sessions links : ℕ) → config.limits ≡ [] → counted_most config sessions links ≡ config.max_frame + 8192 + 64 * sessions + links * (1407 + config.bounds.allowed * (config.bounds.max_message_size + 96)) }
 {}
+
+/// Where no idle-time-out is announced the open says the container-id, the longest frame and the highest channel, and nothing else.
+pub fn opens_are_plain_without_a_time_out()
+    ensures { (config : Configured) (channel_max : ℕ) → config.idle_time_out ≡ None → open_said config channel_max ≡ record {
+      type = Descriptor.Open;
+      cells = Bytes config.container_id ∷ Absent ∷ Whole config.max_frame ∷ Whole channel_max ∷ Absent ∷ Absent ∷ Absent ∷ Absent ∷ Absent ∷ Absent ∷ [];
+    } }
+{
+    laws::opens_are_plain_without_a_time_out();
+}

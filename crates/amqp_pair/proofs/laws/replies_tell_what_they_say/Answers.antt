@@ -2,7 +2,7 @@ use Rattle.amqp_pair.proofs.Replying.{opens, begins, attaches, flows, link_flows
 use Rattle.amqp_pair.proofs.laws.replies_tell_what_they_say.Goals as goal
 
 pub returns-clause-open : goal.returns-clause-open
-returns-clause-open c = opens c.frames_tell_what_they_say.ensures
+returns-clause-open c = opens c.frames_tell_what_they_say.ensures c.canonical_spells.ensures
 
 pub returns-clause-begin : goal.returns-clause-begin
 returns-clause-begin c = begins c.frames_tell_what_they_say.ensures
