@@ -17,7 +17,7 @@ use Rattle.amqp_serve.specs.declared.rules.Rule.{Rule}
 use Rattle.amqp_serve.specs.Cuts.{Made, IsMade, IsFront}
 use Rattle.amqp_serve.specs.Interrupted.{Interrupted, Never, Again}
 use Rattle.amqp_serve.specs.Serving.{Stand, Starved, Over, reading, finish_of, calls_of, answers_of, IsServed, IsIdle}
-use Rattle.amqp_serve.specs.Serving.{Step, Serves, Rests, MovesOut, Feeds, Takes, Settles, TopsUp, Passes, Finishes, fed, moved, recorded}
+use Rattle.amqp_serve.specs.Serving.{Step, Serves, Rests, MovesOut, Feeds, Takes, Settles, TopsUp, Passes, Finishes, Served, fed, moved, recorded}
 use Rattle.amqp_serve.proofs.CutFronts.{begins_whole, is_over}
 use Rattle.amqp_serve.proofs.CutRuns.{IsEnded}
 use Rattle.amqp_serve.proofs.Resumed.{IsAmple, StandsStill, joined}
@@ -247,3 +247,34 @@ pub interrupted_runs : (p : Rule) (end : End) (more : List ℕ) (ended : Bool) (
 interrupted_runs p end more ended old mid new held now last kept keeps lasts steps i y =
     subst (λ (l : List Step). Run old (calls_of l) (answers_of l) new × AreInRange (calls_of l)) (sym (append_assoc steps y.steps (finish_of end ∷ [])))
     (run_goes (run_until i) (λ e. absurd (grind (arith, e))) (serves_on y.serves y.ends))
+
+-- Steps behind a want of memory. --------------------------------------------------------------------------------------
+
+module _ (p : Rule) (more : List ℕ) (old mid new : EndpointState) (held now last kept keeps lasts : Option (List ℕ)) (steps : List Step) (i : Interrupted p old held kept steps mid now keeps)
+    (y : Served p reading reading more mid new now last keeps lasts) where
+  again_by : (zs : List Step) → Serves p reading old zs reading new → fed zs ≡ fed (steps ++ y.steps) → moved zs ≡ moved (steps ++ y.steps) → recorded zs ≡ recorded (steps ++ y.steps) →
+      Served p reading reading (fed steps ++ more) old new held last kept lasts
+  again_by zs serves took wrote noted =
+      let devices = all_written i in record {
+        steps = zs;
+        serves = serves;
+        fed = took ∙ fed_on steps y.steps ∙ ap (λ (l : List ℕ). fed steps ++ l) y.fed;
+        written = subst (λ (l : List ℕ). Appends held last l) (sym (wrote ∙ moved_on steps y.steps)) (Appends-trans held now last (moved steps) (moved y.steps) devices.0 y.written);
+        recorded = subst (λ (l : List ℕ). Appends kept lasts l) (sym (noted ∙ recorded_on steps y.steps))
+            (Appends-trans kept keeps lasts (recorded steps) (recorded y.steps) devices.1 y.recorded);
+      }
+
+  -- what was taken since memory was refused is served with what comes, as if memory had been ample
+  pub served_again : 8 ≤ old.input.limit → IsIdle new → Served p reading reading (fed steps ++ more) old new held last kept lasts
+  served_again least idle =
+      elim (until least i) [
+        | inl n ↦
+            let none : steps ++ y.steps ≡ y.steps = ap (λ (l : List Step). l ++ y.steps) n.0 in
+            again_by y.steps (subst (λ (s : EndpointState). Serves p reading s y.steps reading new) n.1 y.serves) (ap (λ (l : List Step). fed l) (sym none)) (ap (λ (l : List Step). moved l) (sym none))
+            (ap (λ (l : List Step). recorded l) (sym none))
+        | inr u ↦
+            elim (until_goes least (λ h. h) u y.serves).1 [
+              | inl still ↦ absurd (idle still.unit (waits_again u.last.input mid.input new.input still.unit u.kept.input still.nothing.kept.input still.waits))
+              | inr z ↦ again_by z.steps z.serves z.fed z.moved z.recorded
+            ]
+      ]

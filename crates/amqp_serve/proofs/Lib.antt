@@ -20,3 +20,4 @@ pub mod Ready
 pub mod AllTaken
 pub mod Resumed
 pub mod Interrupted
+pub mod Rooms

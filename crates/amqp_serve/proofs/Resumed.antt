@@ -65,10 +65,10 @@ module _ (s t u : EndpointState) (told : Outcome) (k : IsKept s t) where
   }
 
 -- The unit of a piece waits for memory.
-record IsWanting (s m : EndpointState) (piece : List ℕ) (used : ℕ) : Type 0 where
-  least : 8 ≤ s.input.limit
-  silent : s.unsent ≡ []
-  fed : IsFed s m piece used outcome.NoMemory
+pub record IsWanting (s m : EndpointState) (piece : List ℕ) (used : ℕ) : Type 0 where
+  pub least : 8 ≤ s.input.limit
+  pub silent : s.unsent ≡ []
+  pub fed : IsFed s m piece used outcome.NoMemory
 
 -- a connection that is over wants none
 wanting_alive : (s m : EndpointState) (piece : List ℕ) (used : ℕ) → IsWanting s m piece used → is_dead s.connection.phase ≡ false
@@ -79,14 +79,14 @@ wanting_alive s m piece used x = by (is_dead s.connection.phase) refl
     by false is = refl
 
 -- The piece brought a unit, and nothing else has changed.
-record IsWaiting (s m : EndpointState) (piece : List ℕ) (used : ℕ) : Type 0 where
-  between : SplitterState
-  taken : IsTaken s.input between piece used
-  unit : StreamUnit
-  waits : Waits between unit
-  kept : IsKept (record s { input = between }) m
+pub record IsWaiting (s m : EndpointState) (piece : List ℕ) (used : ℕ) : Type 0 where
+  pub between : SplitterState
+  pub taken : IsTaken s.input between piece used
+  pub unit : StreamUnit
+  pub waits : Waits between unit
+  pub kept : IsKept (record s { input = between }) m
 
-wanting_waits : (s m : EndpointState) (piece : List ℕ) (used : ℕ) → IsWanting s m piece used → IsWaiting s m piece used
+pub wanting_waits : (s m : EndpointState) (piece : List ℕ) (used : ℕ) → IsWanting s m piece used → IsWaiting s m piece used
 wanting_waits s m piece used x =
     let y = alive_feeds s m piece used outcome.NoMemory (wanting_alive s m piece used x) x.fed in
     let between : EndpointState = record s { input = y.between } in

@@ -17,6 +17,7 @@ use Rattle.amqp_serve.specs.Serving.{Starved, ToppingUp, all_supplies, reading, 
 use Rattle.amqp_serve.specs.Supplied.{IsSuppliedBut, IsOnlyAt, told_look, received_look, look_behind}
 use Rattle.amqp_serve.proofs.Deeds.{deeds_on, rest_both, done_both, one_done, went_on, went_off, then_quiet, marked_neither}
 use Rattle.amqp_serve.proofs.Looks.{received_behind}
+use Rattle.amqp_serve.proofs.Resumed.{wanting_waits}
 use Rattle.amqp_serve.proofs.ServingFeeds.{fed_served, fed_idle, fed_starved, waits_before}
 use Rattle.amqp_serve.proofs.Servings.{served_on, served_then, broke_then, works_none, stopped}
 
@@ -50,7 +51,7 @@ follow_starved p told s x is fit = record {
   which = λ e. absurd (grind (arith, e));
   broke = subst (λ (o : Outcome). BrokeOff p fault.NoMemory (stand_told s.connection.config o) [] s s x.writer x.writer x.sink x.sink) (sym is)
       (stopped p Starved Starved s s x.writer x.writer x.writer x.sink x.sink x.sink (works_none p Starved s x.writer x.sink) (Keeps-refl x.writer) (Keeps-refl x.sink) fault.NoMemory (refl, refl));
-  starved = λ e. (is, refl);
+  starved = λ e. (is, refl, refl);
   marked = marked_neither fault.NoMemory x (λ e. absurd (grind (arith, e))) (λ e. absurd (grind (arith, e))) fit;
 }
 
@@ -117,6 +118,10 @@ module _ (law : (s t u : EndpointState) (piece : List ℕ) (used : ℕ) (told : 
         let left = f.starved is in
         subst (λ (z : EndpointState). IsStarved z) (sym left.1)
         (fed_starved t u piece used least (starves left.0) none (subst (λ (o : Outcome). IsFed t u piece used o) left.0 x1));
+    still = λ is.
+        let left = f.starved is in
+        let waits = wanting_waits t u piece used (record { least = least; silent = none; fed = subst (λ (o : Outcome). IsFed t u piece used o) left.0 x1 }) in
+        (ap (λ (z : EndpointState). z.connection) left.1 ∙ waits.kept.connection ∙ kept.connection, left.2);
     marked = f.marked;
   }
 

@@ -186,7 +186,7 @@ pub record HasFollowed (p : Rule) (told : Outcome) (d : Done) (old new : Endpoin
 pub record HasFailed (p : Rule) (told : Outcome) (x : ServeFault) (old new : EndpointState) (e f : Ends) : Type 0 where
   pub which : x ≢ fault.Read
   pub broke : BrokeOff p x (stand_told old.connection.config told) [] old new e.writer f.writer e.sink f.sink
-  pub starved : x ≡ fault.NoMemory → (told ≡ outcome.NoMemory) × (new ≡ old)
+  pub starved : x ≡ fault.NoMemory → (told ≡ outcome.NoMemory) × (new ≡ old) × (f ≡ e)
   pub marked : IsMarked x f
 
 abbrev pub Follows : Rule → Outcome → Result Done ServeFault → EndpointState → EndpointState → Ends → Ends → Type 0
@@ -206,11 +206,12 @@ pub record HasStepped (p : Rule) (told : Outcome) (d : Done) (bytes : List ℕ) 
   pub idle : is_dead old.connection.phase ≡ false → IsIdle new
   pub still : AreOpen f
 
--- Or it broke off. Where memory was refused the unit waits.
+-- Or it broke off. Where memory was refused the unit waits, and nothing was written or recorded, nor did the connection change.
 pub record HasStopped (p : Rule) (x : ServeFault) (bytes : List ℕ) (old new : EndpointState) (e f : Ends) : Type 0 where
   pub which : x ≢ fault.Read
   pub broke : BrokeOff p x reading bytes old new e.writer f.writer e.sink f.sink
   pub starved : x ≡ fault.NoMemory → IsStarved new
+  pub still : x ≡ fault.NoMemory → (new.connection ≡ old.connection) × (f ≡ e)
   pub marked : IsMarked x f
 
 abbrev pub IsStepped : Rule → List ℕ → Outcome → Result Done ServeFault → EndpointState → EndpointState → Ends → Ends → Type 0

@@ -5,3 +5,4 @@ pub mod Deeds
 pub mod Hosting
 pub mod Policies
 pub mod Interrupted
+pub mod Rooms

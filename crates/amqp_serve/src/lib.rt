@@ -12,6 +12,7 @@ mod records;
 mod rules;
 mod sending;
 mod serving;
+pub mod step_laws;
 mod steps;
 mod supplies;
 mod watch;
