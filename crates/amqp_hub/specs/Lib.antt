@@ -1,0 +1,4 @@
+pub mod Members
+pub mod Lives
+pub mod Turns
+pub mod Kept
