@@ -83,7 +83,8 @@ fn takes_no_call<A: Allocator + Copy>(connection: &Connection<A>) -> bool
 }
 
 /// Why the session on a channel would refuse a request; `NoSession` where none is live.
-#[inline(never)]
+// For `telemetry` (docs/PERF.md).
+#[inline(always)]
 fn fault<A: Allocator + Copy>(
     connection: &Connection<A>,
     channel: u16,
@@ -184,6 +185,8 @@ impl Request {
     }
 
     /// Why a session would refuse it.
+    // For `telemetry` (docs/PERF.md).
+    #[inline(always)]
     fn fault<A: Allocator + Copy>(self, session: &Session<A>) -> Option<SessionCallFault>
         ensures { result ≡ call_fault session.now (asked_of self) }
     {

@@ -65,6 +65,13 @@ impl<A: Allocator + Copy> Output<A> {
         pipe.len()
     }
 
+    /// Whether none wait.
+    pub fn is_empty(&self) -> bool
+        ensures { IsTrue result ↔ (self.now ≡ []) }
+    {
+        self.pipe.is_empty()
+    }
+
     /// Whether there is room for any answer.
     pub fn has_room(&self) -> bool
         ensures value { result ≡ has_room self.now }
@@ -129,7 +136,12 @@ impl<A: Allocator + Copy> Output<A> {
         ensures { self.new ≡ drop n self.old }
     {
         let left = self.pipe.len() - n;
-        self.pipe.truncate_front(left);
+        // (nearly always all were sent, and an empty ring begins at its front again)
+        if left == 0 {
+            self.pipe.clear();
+        } else {
+            self.pipe.truncate_front(left);
+        }
     }
 
     /// Moves the first bytes that wait into `out`, as many as it holds, and answers how many.

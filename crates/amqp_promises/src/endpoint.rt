@@ -77,6 +77,13 @@ pub fn spare_is_bytes<A: Allocator + Copy>(endpoint: &Endpoint<A>)
     endpoint.spare_is_bytes();
 }
 
+/// Whether no bytes wait to be sent.
+pub fn is_all_sent<A: Allocator + Copy>(endpoint: &Endpoint<A>) -> bool
+    ensures { IsTrue result ↔ (endpoint.now.unsent ≡ []) }
+{
+    endpoint.is_all_sent()
+}
+
 /// The first bytes that wait to be sent, as many as lie in one piece.
 pub fn unsent_front<A: Allocator + Copy>(endpoint: &Endpoint<A>) -> &[u8]
     ensures front { (behind : List ℕ) × (endpoint.now.unsent ≡ result.now ++ behind) }

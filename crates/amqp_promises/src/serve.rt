@@ -1,14 +1,17 @@
 //! What `amqp_serve` promises.
 
-ghost use Rattle.std.specs.Prelude.{◌≡◌, ◌↔◌, ◌<◌, ◌≤◌, [], ℕ, List, true, false, Err, None, take, length, IsTrue, IfOk, IfErr, IfSome};
+ghost use Rattle.std.specs.Prelude.{◌≡◌, ◌↔◌, ◌<◌, ◌≤◌, ◌-◌, [], ℕ, List, true, false, Err, None, min, take, length, IsTrue, IfOk, IfErr, IfSome};
 ghost use Rattle.std.specs.Io.KnownBytes.{Consumes};
+ghost use Rattle.amqp_link.specs.Links.{open_count};
+ghost use Rattle.amqp_session.specs.Sessions.{LiveLink};
+ghost use Rattle.amqp_session.specs.declared.slot.Slot.TheVariants.{Live};
 ghost use Rattle.amqp_frame.specs.Devices.{device_inner, has_failed, has_ended, is_flushed};
 ghost use Rattle.amqp_endpoint.specs.Connections.{is_dead};
 ghost use Rattle.amqp_endpoint.specs.Steps.{EndpointState, MayRead, IsKept};
 ghost use Rattle.amqp_serve.specs.Deeds.{IsStepped, ends, AreOpen};
 ghost use Rattle.amqp_serve.specs.Hosting.{lost_by};
-ghost use Rattle.amqp_serve.specs.Policies.{BrokeOff, IsServed};
-ghost use Rattle.amqp_serve.specs.Serving.{reading, IsStarved, HasAllTaken};
+ghost use Rattle.amqp_serve.specs.Policies.{rule_of, BrokeOff, IsServed};
+ghost use Rattle.amqp_serve.specs.Serving.{credit_lack, reading, IsStarved, HasAllTaken};
 ghost use Rattle.amqp_serve.specs.Supplied.{IsRight};
 
 use amqp_endpoint::{End, Endpoint, Outcome};
@@ -115,4 +118,11 @@ pub fn step<A: Allocator + Copy, W: Write + HoldsBack + Drop, S: Write + Drop>(
     ensures refused { IfSome server.old.lost (λ x. (result ≡ record { used = 0; told = Outcome.More; done = Err x }) × (server.new ≡ server.old)) }
 {
     server.step(piece, writer, sink)
+}
+
+/// A law: by a policy a link lacks all that it is short of the policy's credit, within what it is allowed.
+pub fn a_policy_keeps_each_link_at_its_credit()
+    ensures { (p : Policy) (l : LiveLink) → credit_lack (rule_of p) (Live l) ≡ min (p.credit - l.link.credit) (l.link.terms.bounds.allowed - l.link.credit - open_count l.link) }
+{
+    amqp_serve::laws::a_policy_keeps_each_link_at_its_credit();
 }

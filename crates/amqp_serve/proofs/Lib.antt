@@ -21,3 +21,4 @@ pub mod AllTaken
 pub mod Resumed
 pub mod Interrupted
 pub mod Rooms
+pub mod Policies

@@ -1,18 +1,28 @@
 //! What holds of every connection that is served. The calls do nothing: their contracts are the laws.
-ghost use Rattle.std.specs.Prelude.{◌≡◌, ℕ, ◌≤◌, ◌++◌, ◌∷◌, [], Bool, List, Option};
+ghost use Rattle.std.specs.Prelude.{◌≡◌, ℕ, ◌≤◌, ◌-◌, ◌++◌, ◌∷◌, [], Bool, List, Option, min};
 ghost use Rattle.std.specs.List.{flat_map};
+ghost use Rattle.amqp_link.specs.Links.{open_count};
+ghost use Rattle.amqp_session.specs.Sessions.{LiveLink};
+ghost use Rattle.amqp_session.specs.declared.slot.Slot.TheVariants.{Live};
 ghost use Rattle.amqp_endpoint.specs.Configs.{Configured, IsConfigured};
 ghost use Rattle.amqp_endpoint.specs.Runs.{Run, IsStart};
 ghost use Rattle.amqp_endpoint.specs.Steps.{EndpointState};
 ghost use Rattle.amqp_endpoint.specs.Traces.{AreInRange, IsWholeRun, heard, message_in};
 ghost use Rattle.amqp_endpoint.specs.declared.event.End.{End};
-ghost use Rattle.amqp_serve.specs.Policies.{Serves, IsServed, IsMade, Interrupted};
-ghost use Rattle.amqp_serve.specs.Serving.{Stand, Receiving, Over, reading, Step, Served, IsIdle, HasAllTaken, finish_of, fed, moved, recorded, record_of, calls_of, answers_of};
+ghost use Rattle.amqp_serve.specs.Policies.{rule_of, Serves, IsServed, IsMade, Interrupted};
+ghost use Rattle.amqp_serve.specs.Serving.{credit_lack, Stand, Receiving, Over, reading, Step, Served, IsIdle, HasAllTaken, finish_of, fed, moved, recorded, record_of, calls_of, answers_of};
 ghost use Rattle.amqp_serve.specs.Cuts.{Made, AreAlike, IsFront};
 ghost use Rattle.amqp_serve.specs.declared.rules.Rule.{Rule};
 ghost use Rattle.amqp_serve.specs.declared.serving.Policy.{Policy};
 
 use amqp_endpoint::laws::runs_have_a_history;
+
+/// By a policy a link lacks all that it is short of the policy's credit, within what it is allowed beside its credit and its
+/// open deliveries [2.6.7].
+#[tactic(auto, using(crate::proofs::Policies::policy_lacks))]
+pub fn a_policy_keeps_each_link_at_its_credit()
+    ensures { (p : Policy) (l : LiveLink) → credit_lack (rule_of p) (Live l) ≡ min (p.credit - l.link.credit) (l.link.terms.bounds.allowed - l.link.credit - open_count l.link) }
+{}
 
 /// What is served is a run: each call stands in it with its answer.
 #[tactic(auto, using(crate::proofs::Servings::run_of, crate::proofs::Servings::ranges_of))]

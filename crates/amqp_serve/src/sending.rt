@@ -126,15 +126,13 @@ pub fn write_out<A: Allocator + Copy, W: Write + HoldsBack + Drop, S: Write + Dr
     ensures went { (p : Rule) (a : Stand) → Went p (λ _. no_deeds) a a result endpoint.old endpoint.new (ends W.contents S.contents writer.old sink.old)
         (ends W.contents S.contents writer.new sink.new) }
 {
-    'pieces: loop {
+    'pieces: while !endpoint.is_all_sent() {
         let piece = endpoint.unsent_front();
-        if piece.is_empty() {
-            return Ok(());
-        }
         record_first(piece.len(), writer, sink)?;
         let count = hand_over(piece, writer, sink)?;
         endpoint.sent(count);
     }
+    Ok(())
 }
 
 /// Flushes the records, unless the writer keeps so many more bytes to itself.
