@@ -1,0 +1,270 @@
+/* Each call on a handle that holds no endpoint, settings and limits that are refused, NULL for no bytes, and a whole session, by calls
+ * and by steps, in which each request for memory is refused in turn.   misuse FILE
+ * It is linked with --wrap=malloc,--wrap=realloc,--wrap=free, and run under valgrind and AddressSanitizer too. */
+#include "wuleshomia.h"
+#include <stdio.h>
+#include <stdlib.h>
+#include <string.h>
+
+static int failures;
+
+#define IS(got, wanted)                                                                                      \
+    do {                                                                                                     \
+        unsigned long long got_ = (unsigned long long)(got), wanted_ = (unsigned long long)(wanted);         \
+        if (got_ != wanted_) printf("line %d: %s is %llu, not %llu\n", __LINE__, #got, got_, wanted_), failures++; \
+    } while (0)
+
+/* ---- memory, of which one request is refused */
+
+static long until_refusal = -1; /* so many requests are granted before one is refused; below 0: all are */
+static long blocks;
+
+void *__real_malloc(size_t size);
+void *__real_realloc(void *at, size_t size);
+void __real_free(void *at);
+void *__wrap_malloc(size_t size);
+void *__wrap_realloc(void *at, size_t size);
+void __wrap_free(void *at);
+
+static int is_refused(void) { return until_refusal >= 0 && until_refusal-- == 0; }
+
+void *__wrap_malloc(size_t size) {
+    void *at = is_refused() ? NULL : __real_malloc(size);
+    if (at) blocks++;
+    return at;
+}
+
+void *__wrap_realloc(void *at, size_t size) {
+    void *new_at = is_refused() ? NULL : __real_realloc(at, size);
+    if (new_at && !at) blocks++;
+    return new_at;
+}
+
+void __wrap_free(void *at) {
+    if (at) blocks--;
+    __real_free(at);
+}
+
+/* ---- no endpoint */
+
+static void ask_none(void) {
+    wule_endpoint e = WULE_ENDPOINT_INIT;
+    wule_rule rule = {1, 0, WULE_ACCEPTED};
+    wule_fed fed;
+    wule_taken taken;
+    wule_link_state link;
+    wule_step step;
+    uint8_t room[8] = {1, 1, 1, 1, 1, 1, 1, 1};
+    uint64_t inside = 7;
+    uint32_t n = 7;
+    IS(wule_version(), WULE_VERSION);
+    IS(wule_feed(&e, room, 8, &fed), WULE_NO_ENDPOINT);
+    IS(wule_feed(&e, NULL, 0, &fed), WULE_NO_ENDPOINT);
+    IS(wule_output(&e, room, 8), 0);
+    IS(wule_has_output(&e), 0);
+    IS(wule_close(&e, &n), WULE_NO_ENDPOINT);
+    IS(wule_heartbeat(&e), WULE_NO_ENDPOINT);
+    IS(wule_finish(&e, &inside), 0);
+    IS(wule_is_over(&e), 1);
+    IS(wule_grant(&e, 0, 0, 1), WULE_NO_ENDPOINT);
+    IS(wule_widen(&e, 0, 1), WULE_NO_ENDPOINT);
+    IS(wule_drain(&e, 0, 0), WULE_NO_ENDPOINT);
+    IS(wule_settle(&e, 0, 0, WULE_ACCEPTED), WULE_NO_ENDPOINT);
+    IS(wule_settle(&e, 0, 0, 7), WULE_BAD_OUTCOME);
+    IS(wule_settle_range(&e, 0, 0, 0, WULE_ACCEPTED, &n), WULE_NO_ENDPOINT);
+    IS(wule_settle_range(&e, 0, 0, 0, 0xffffffff, &n), WULE_BAD_OUTCOME);
+    IS(wule_detach(&e, 0, 0, &n), WULE_NO_ENDPOINT);
+    IS(wule_take(&e, 0, 0, &taken, room, 8), WULE_NO_ENDPOINT);
+    IS(wule_message_read(&e, 0, room, 8), 0);
+    wule_message_drop(&e);
+    IS(wule_held(&e), 0);
+    IS(wule_window(&e, 0, &n), WULE_NO_ENDPOINT);
+    IS(wule_link(&e, 0, 0, &link, room, 8), WULE_NO_ENDPOINT);
+    IS(wule_link_source(&e, 0, 0, room, 8), WULE_NO_ENDPOINT);
+    IS(wule_link_target(&e, 0, 0, room, 8), WULE_NO_ENDPOINT);
+    IS(wule_first_lacking(&e, 0, 0, 1, &n), WULE_NO_ENDPOINT);
+    IS(wule_serve_step(&e, &rule, room, 8, &step), WULE_NO_ENDPOINT);
+    IS(wule_records(&e, room, 8), 0);
+    IS(wule_top_up(&e, 0, 1, 1), WULE_NO_ENDPOINT);
+    wule_free(&e);
+    IS(n, 7);
+    IS(inside, 7);
+    IS(room[0] + room[7], 2);
+}
+
+static void open_badly(void) {
+    wule_endpoint e = WULE_ENDPOINT_INIT;
+    wule_settings fine = WULE_SETTINGS_INIT, wrong = WULE_SETTINGS_INIT;
+    wule_limit rows[17];
+    size_t row = 99, i;
+    memset(rows, 0, sizeof rows);
+    for (i = 0; i < 17; i++) rows[i].allowed = rows[i].max_message = rows[i].prefix_len = 1, rows[i].prefix[0] = (uint8_t)i;
+    wrong.max_frame = 511;
+    IS(wule_open(&e, &wrong, "x", 1, NULL, 0, NULL), WULE_BAD_SETTINGS);
+    IS(wule_open(&e, &fine, NULL, 0, NULL, 0, NULL), WULE_BAD_SETTINGS);
+    IS(wule_open(&e, &fine, "\xff", 1, NULL, 0, NULL), WULE_BAD_SETTINGS);
+    IS(wule_open(&e, &fine, "x", 1, rows, 17, NULL), WULE_TOO_MANY_LIMITS);
+    rows[3].prefix_len = 0xffffffff;
+    IS(wule_open(&e, &fine, "x", 1, rows, 16, &row), WULE_BAD_LIMIT);
+    IS(row, 3);
+    rows[3].prefix_len = 1, rows[3].prefix[0] = 2;
+    IS(wule_open(&e, &fine, "x", 1, rows, 16, &row), WULE_SAME_PREFIX);
+    IS(row, 3);
+    rows[3].prefix[0] = 3;
+    IS(wule_open(&e, &fine, "x", 1, rows, 16, &row), WULE_OK);
+    IS(wule_open(&e, &fine, "x", 1, NULL, 0, NULL), WULE_IN_USE);
+    wule_free(&e);
+    wule_free(&e);
+}
+
+static void ask_wildly(void) {
+    static const uint32_t wild[] = {0, 1, 255, 256, 65535, 65536, 0x7fffffff, 0x80000000, 0xffffffff};
+    wule_endpoint e = WULE_ENDPOINT_INIT, moved;
+    wule_settings settings = WULE_SETTINGS_INIT;
+    wule_fed fed;
+    wule_taken taken;
+    uint8_t room[8];
+    uint32_t n;
+    size_t i, j;
+    if (wule_open(&e, &settings, "x", 1, NULL, 0, NULL) != WULE_OK) failures++;
+    for (i = 0; i < sizeof wild / sizeof *wild; i++)
+        for (j = 0; j < sizeof wild / sizeof *wild; j++) {
+            uint32_t a = wild[i], b = wild[j];
+            IS(wule_grant(&e, a, b, b), WULE_NO_SESSION);
+            IS(wule_widen(&e, a, b), WULE_NO_SESSION);
+            IS(wule_drain(&e, a, b), WULE_NO_SESSION);
+            IS(wule_settle(&e, a, b, WULE_MODIFIED_FAILED_UNDELIVERABLE), WULE_NO_SESSION);
+            IS(wule_settle_range(&e, a, b, a, WULE_RELEASED, &n), WULE_NO_SESSION);
+            IS(wule_detach(&e, a, b, &n), WULE_NO_SESSION);
+            IS(wule_take(&e, a, b, &taken, NULL, 0), WULE_NO_SESSION);
+            IS(wule_window(&e, a, &n), WULE_NO_SESSION);
+            IS(wule_link_source(&e, a, b, NULL, 0), WULE_NO_LINK);
+            IS(wule_first_lacking(&e, a, b, a, &n), WULE_NO_LINK);
+            IS(wule_message_read(&e, (size_t)-1, room, sizeof room), 0);
+        }
+    IS(wule_heartbeat(&e), WULE_NOT_OPEN);
+    IS(wule_feed(&e, (const uint8_t *)"AMQP\0\1\0\0", 8, &fed), WULE_OK);
+    IS(fed.outcome, WULE_MORE);
+    IS(wule_held(&e), 8);
+    IS(wule_output(&e, NULL, 0), 0);
+    IS(wule_output(&e, room, 8), 8);
+    moved = e; /* the old place is not used again */
+    IS(wule_feed(&moved, (const uint8_t *)"GET / HTTP", 10, &fed), WULE_OK);
+    IS(fed.event, WULE_FAILED);
+    IS(fed.scope, WULE_CONNECTION);
+    IS(wule_feed(&moved, room, 8, &fed), WULE_OK);
+    IS(fed.outcome, WULE_DEAD);
+    IS(fed.used, 0);
+    IS(wule_finish(&moved, NULL), WULE_END_FAILED);
+    wule_free(&moved);
+}
+
+/* ---- a session in which one request for memory is refused */
+
+static uint8_t file[1 << 20];
+static size_t size;
+
+/* The FNV-1a hash of what was written and read, and of its number of bytes. */
+struct seen {
+    uint64_t hash;
+    uint32_t lost;
+};
+
+static void see(struct seen *seen, const uint8_t *bytes, size_t n) {
+    while (n-- > 0) seen->hash = (seen->hash ^ *bytes++) * 1099511628211u;
+}
+
+static int opened(wule_endpoint *e) {
+    static const wule_settings settings = WULE_SETTINGS_INIT;
+    static const wule_limit row = {16, 1024, 1, {'x'}};
+    uint32_t code = wule_open(e, &settings, "receive", 7, &row, 1, NULL);
+    if (code == WULE_NO_MEMORY) {
+        IS(blocks, 0);
+        code = wule_open(e, &settings, "receive", 7, &row, 1, NULL);
+    }
+    IS(code, WULE_OK);
+    return code == WULE_OK;
+}
+
+static struct seen by_calls(void) {
+    static uint8_t room[4096];
+    struct seen seen = {14695981039346656037u, 0};
+    wule_endpoint e = WULE_ENDPOINT_INIT;
+    wule_fed fed = {0, 0, 0, 0, 0, 0, 0, 0, 0};
+    wule_taken taken;
+    size_t at = 0, n;
+    if (!opened(&e)) return seen;
+    while (at < size && fed.outcome != WULE_DEAD) {
+        wule_feed(&e, file + at, size - at, &fed);
+        at += (size_t)fed.used;
+        if (fed.outcome == WULE_STARVED) wule_feed(&e, NULL, 0, &fed); /* again, and now it is had */
+        if (fed.outcome == WULE_STARVED) failures++;
+        if (fed.event == WULE_READY && wule_take(&e, fed.channel, fed.handle, &taken, room, sizeof room) == WULE_OK) {
+            see(&seen, room, (size_t)taken.len);
+            if (!taken.settled) IS(wule_settle(&e, fed.channel, taken.id, WULE_ACCEPTED), WULE_OK);
+        }
+        if (fed.event == WULE_ATTACHED || fed.event == WULE_READY) wule_top_up(&e, fed.channel, 16, 2048);
+        while ((n = wule_output(&e, room, sizeof room)) > 0) see(&seen, room, n);
+    }
+    seen.hash += wule_finish(&e, NULL);
+    wule_free(&e);
+    return seen;
+}
+
+static struct seen by_steps(void) {
+    static const wule_rule rule = {16, 8, WULE_ACCEPTED};
+    uint8_t room[100];
+    struct seen seen = {14695981039346656037u, 0};
+    wule_endpoint e = WULE_ENDPOINT_INIT;
+    wule_step step = {{0, 0, 0, 0, 0, 0, 0, 0, 0}, 0, 0, 0, 0, 0, 0, 0, 0};
+    size_t at = 0, n;
+    uint32_t code;
+    if (!opened(&e)) return seen;
+    while (at < size && step.fed.outcome != WULE_DEAD) {
+        code = wule_serve_step(&e, &rule, file + at, size - at, &step);
+        at += (size_t)step.fed.used;
+        if (code == WULE_NO_MEMORY) code = wule_serve_step(&e, &rule, NULL, 0, &step);
+        while ((n = wule_records(&e, room, sizeof room)) > 0) see(&seen, room, n);
+        while ((n = wule_output(&e, room, sizeof room)) > 0) see(&seen, room, n);
+        if (code != WULE_OK) {
+            seen.lost = code;
+            IS(wule_serve_step(&e, &rule, file + at, size - at, &step), code);
+            break;
+        }
+    }
+    seen.hash += wule_finish(&e, NULL);
+    wule_free(&e);
+    return seen;
+}
+
+static long refuse_each(struct seen (*session)(void), struct seen ample) {
+    long refused = 0;
+    for (;; refused++) {
+        struct seen seen;
+        until_refusal = refused;
+        seen = session();
+        IS(blocks, 0);
+        if (until_refusal >= 0) break; /* it asked for fewer */
+        if (seen.lost == 0) IS(seen.hash == ample.hash, 1);
+        else IS(seen.lost == WULE_ANSWER_LOST || seen.lost == WULE_RECORD_LOST, 1);
+    }
+    until_refusal = -1;
+    return refused;
+}
+
+int main(int argc, char **argv) {
+    long calls, steps;
+    FILE *in = argc > 1 ? fopen(argv[1], "rb") : NULL;
+    if (!in) return 2;
+    size = fread(file, 1, sizeof file, in);
+    fclose(in);
+    blocks = 0;
+    ask_none();
+    open_badly();
+    ask_wildly();
+    IS(blocks, 0);
+    calls = refuse_each(by_calls, by_calls());
+    steps = refuse_each(by_steps, by_steps());
+    printf("misuse: %s; %ld and %ld requests were refused\n", failures ? "failed" : "ok", calls, steps);
+    return failures != 0;
+}

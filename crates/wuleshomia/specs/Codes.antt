@@ -1,0 +1,171 @@
+-- What the numbers that cross stand for.
+use Rattle.std.specs.Prelude.{◌≡◌, ℕ, true, false, nat_eq, if◌then◌else◌, Option, None, Some, Result, Ok, Err}
+use Rattle.amqp_perform.specs.declared.condition.Condition.{Condition}
+use Rattle.amqp_perform.specs.declared.condition.Condition.TheVariants as condition
+use Rattle.amqp_perform.specs.declared.outcome.Outcome.{Outcome as Settlement}
+use Rattle.amqp_perform.specs.declared.outcome.Outcome.TheVariants as settlement
+use Rattle.amqp_endpoint.specs.declared.event.End.{End}
+use Rattle.amqp_endpoint.specs.declared.event.End.TheVariants as end
+use Rattle.amqp_endpoint.specs.declared.event.Event.{Event}
+use Rattle.amqp_endpoint.specs.declared.event.Event.TheVariants as event
+use Rattle.amqp_endpoint.specs.declared.event.Outcome.{Outcome}
+use Rattle.amqp_endpoint.specs.declared.event.Outcome.TheVariants as outcome
+use Rattle.amqp_endpoint.specs.declared.event.Scope.{Scope}
+use Rattle.amqp_endpoint.specs.declared.event.Scope.TheVariants as scope
+use Rattle.amqp_endpoint.specs.declared.fault.CallFault.{CallFault}
+use Rattle.amqp_endpoint.specs.declared.fault.CallFault.TheVariants as fault
+use Rattle.amqp_endpoint.specs.declared.limits.LimitFault.TheVariants as limit
+use Rattle.amqp_endpoint.specs.Runs.{Answer, Accepted, Dropped, Named, Refused}
+use Rattle.amqp_serve.specs.declared.serving.ServeFault.{ServeFault}
+use Rattle.amqp_serve.specs.declared.serving.ServeFault.TheVariants as lost
+use Rattle.amqp_serve.specs.declared.steps.Received.{Received}
+use Rattle.amqp_serve.specs.declared.steps.Receipt.{Receipt}
+use Rattle.amqp_serve.specs.declared.steps.Receipt.TheVariants as receipt
+use Rattle.amqp_serve.specs.declared.steps.Done.{Done}
+use Rattle.wuleshomia.specs.declared.codes.OpenFault.{OpenFault}
+use Rattle.wuleshomia.specs.declared.codes.OpenFault.TheVariants as refused
+use Rattle.wuleshomia.specs.declared.data.FedReport.{FedReport}
+use Rattle.wuleshomia.specs.declared.data.StepReport.{StepReport}
+
+-- Calls. --------------------------------------------------------------------------------------------------------------
+
+-- the fault that a code stands for
+abbrev pub fault_at : ℕ → CallFault
+fault_at n =
+    if nat_eq n 1 then fault.Dead
+    else if nat_eq n 2 then fault.NotOpen
+    else if nat_eq n 3 then fault.NoSession
+    else if nat_eq n 4 then fault.NoLink
+    else if nat_eq n 5 then fault.NoDelivery
+    else if nat_eq n 6 then fault.NotTaken
+    else if nat_eq n 7 then fault.AlreadyTold
+    else if nat_eq n 8 then fault.MixedModes
+    else if nat_eq n 9 then fault.NothingReady
+    else if nat_eq n 10 then fault.TooMuchCredit
+    else if nat_eq n 11 then fault.WindowTooWide
+    else fault.Full
+
+-- the answer that the code of a call that gives nothing stands for
+abbrev pub accepted_at : ℕ → Answer
+accepted_at code = if nat_eq code 0 then Accepted else Refused (fault_at code)
+
+-- of one that gives a count
+abbrev pub dropped_at : ℕ → ℕ → Answer
+dropped_at code count = if nat_eq code 0 then Dropped count else Refused (fault_at code)
+
+abbrev pub named_at : ℕ → ℕ → Answer
+named_at code count = if nat_eq code 0 then Named count else Refused (fault_at code)
+
+-- a look-up: what was found is told; where nothing was, this code, and the place for it is left as it was
+abbrev pub Found : Option ℕ → ℕ → ℕ → ℕ → ℕ → Type 0
+Found (Some n) none code old new = (code ≡ 0) × (new ≡ n)
+Found None none code old new = (code ≡ none) × (new ≡ old)
+
+-- the same as one value
+abbrev pub found_at : ℕ → ℕ → Option ℕ
+found_at code number = if nat_eq code 0 then Some number else None
+
+-- why no endpoint was set up, and which row of the limits is at fault
+abbrev pub open_fault_at : ℕ → ℕ → OpenFault
+open_fault_at code row =
+    if nat_eq code 21 then refused.NoMemory
+    else if nat_eq code 22 then refused.InUse
+    else if nat_eq code 23 then refused.Settings
+    else if nat_eq code 24 then refused.Limits limit.TooMany
+    else if nat_eq code 25 then refused.Limits (limit.BadRow row)
+    else refused.Limits (limit.SamePrefix row)
+
+-- what a number says became of a message
+abbrev pub settlement_at : ℕ → Option Settlement
+settlement_at n =
+    if nat_eq n 0 then Some settlement.Accepted
+    else if nat_eq n 1 then Some settlement.Rejected
+    else if nat_eq n 2 then Some settlement.Released
+    else if nat_eq n 3 then Some (settlement.Modified false false)
+    else if nat_eq n 4 then Some (settlement.Modified true false)
+    else if nat_eq n 5 then Some (settlement.Modified false true)
+    else if nat_eq n 6 then Some (settlement.Modified true true)
+    else None
+
+-- how a connection ended
+abbrev pub end_at : ℕ → ℕ → End
+end_at code inside =
+    if nat_eq code 1 then end.Failed
+    else if nat_eq code 2 then end.Closed
+    else if nat_eq code 3 then end.Inside inside
+    else end.Between
+
+-- What bytes came to. -------------------------------------------------------------------------------------------------
+
+abbrev pub condition_at : ℕ → Condition
+condition_at n =
+    if nat_eq n 1 then condition.FramingError
+    else if nat_eq n 2 then condition.DecodeError
+    else if nat_eq n 3 then condition.InvalidField
+    else if nat_eq n 4 then condition.IllegalState
+    else if nat_eq n 5 then condition.NotImplemented
+    else if nat_eq n 6 then condition.ResourceLimitExceeded
+    else if nat_eq n 7 then condition.FrameSizeTooSmall
+    else if nat_eq n 8 then condition.WindowViolation
+    else if nat_eq n 9 then condition.HandleInUse
+    else if nat_eq n 10 then condition.UnattachedHandle
+    else if nat_eq n 11 then condition.TransferLimitExceeded
+    else if nat_eq n 12 then condition.MessageSizeExceeded
+    else condition.Other
+
+abbrev pub scope_at : FedReport → Scope
+scope_at f =
+    if nat_eq f.scope 1 then scope.Connection
+    else if nat_eq f.scope 2 then scope.Session f.channel
+    else scope.Link f.channel f.handle
+
+abbrev pub event_at : FedReport → Event
+event_at f =
+    if nat_eq f.event 1 then event.Opened
+    else if nat_eq f.event 2 then event.Begun f.channel
+    else if nat_eq f.event 3 then event.Attached f.channel f.handle
+    else if nat_eq f.event 4 then event.Unfinished f.channel f.handle
+    else if nat_eq f.event 5 then event.Ready f.channel f.handle
+    else if nat_eq f.event 6 then event.Aborted f.channel f.handle
+    else if nat_eq f.event 7 then event.Drained f.channel f.handle
+    else if nat_eq f.event 8 then event.Settled f.channel f.count
+    else if nat_eq f.event 9 then event.Detached f.channel f.handle f.count
+    else if nat_eq f.event 10 then event.Ended f.channel f.count
+    else if nat_eq f.event 11 then event.Closed f.count
+    else event.Failed (scope_at f) (condition_at f.condition) f.count
+
+abbrev pub outcome_at : FedReport → Outcome
+outcome_at f =
+    if nat_eq f.outcome 1 then outcome.More
+    else if nat_eq f.outcome 2 then outcome.Event (event_at f)
+    else if nat_eq f.outcome 3 then outcome.Blocked
+    else if nat_eq f.outcome 4 then outcome.NoMemory
+    else outcome.Dead
+
+-- What a step came to. ------------------------------------------------------------------------------------------------
+
+abbrev pub received_at : StepReport → Received
+received_at r = record { delivery_id = r.id; len = r.len }
+
+abbrev pub receipt_at : StepReport → Receipt
+receipt_at r =
+    if nat_eq r.receipt 0 then receipt.Nothing
+    else if nat_eq r.receipt 1 then receipt.Refused (fault_at r.refusal)
+    else if nat_eq r.receipt 2 then receipt.Settled (received_at r)
+    else if nat_eq r.receipt 3 then receipt.Told (received_at r)
+    else receipt.Untold (received_at r) (fault_at r.refusal)
+
+abbrev pub done_at : StepReport → Done
+done_at r = record { receipt = receipt_at r; topped = record { widened = r.widened; granted = r.granted; refused = r.refused } }
+
+-- the code where a step broke off
+abbrev pub lost_code : ServeFault → ℕ
+lost_code lost.Read = 30
+lost_code lost.Write = 29
+lost_code lost.Sink = 30
+lost_code lost.NoMemory = 21
+
+-- a step that came out so has this code and this report
+abbrev pub IsDoneAs : Result Done ServeFault → ℕ → StepReport → Type 0
+IsDoneAs (Ok d) code r = (code ≡ 0) × (done_at r ≡ d)
+IsDoneAs (Err x) code r = code ≡ lost_code x

@@ -1,0 +1,172 @@
+-- What the exports do to the endpoint that C holds, and what they answer.
+use Rattle.std.specs.Prelude.{◌≡◌, ℕ, Bool, true, false, nat_eq, nat_le, if◌then◌else◌, List, [], ◌∷◌, ◌++◌, length, take, drop, min, Option, None, Some}
+use Rattle.std.specs.Str.{IsUtf8}
+use Rattle.amqp_link.specs.Links.{open_count}
+use Rattle.amqp_session.specs.declared.slot.Slot.{Slot}
+use Rattle.amqp_session.specs.declared.slot.Slot.TheVariants.{Free, Live, Waits}
+use Rattle.amqp_session.specs.declared.view.LinkView.{LinkView}
+use Rattle.amqp_session.specs.Calls.{Take}
+use Rattle.amqp_session.specs.Sessions.{LiveLink}
+use Rattle.amqp_endpoint.specs.Configs.{Configured, IsAsked, time_out}
+use Rattle.amqp_endpoint.specs.Limits.{Limit, IsTable, IsFault}
+use Rattle.amqp_endpoint.specs.Runs.{Call, InSession, Output, Answer, HandedUp, Refused, MovedOut, IsStart, Does}
+use Rattle.wuleshomia.specs.declared.codes.OpenFault.{OpenFault}
+use Rattle.wuleshomia.specs.declared.codes.OpenFault.TheVariants as refused
+use Rattle.wuleshomia.specs.declared.data.Settings.{Settings}
+use Rattle.wuleshomia.specs.declared.data.LimitRow.{LimitRow}
+use Rattle.wuleshomia.specs.declared.data.LinkReport.{LinkReport}
+use Rattle.wuleshomia.specs.declared.data.TakenReport.{TakenReport}
+use Rattle.wuleshomia.specs.declared.held.Held.{Held}
+use Rattle.wuleshomia.specs.Codes.{fault_at}
+
+-- What happens. -------------------------------------------------------------------------------------------------------
+
+-- What C holds before and after an export. Where that is an endpoint, this is what happens to it; where it is none, none is held then, and this is what is answered.
+abbrev pub Did : Option Held → Option Held → (Held → Held → Type 0) → Type 0 → Type 0
+Did None None Happens NoEndpoint = NoEndpoint
+Did None (Some after) Happens NoEndpoint = ⊥
+Did (Some before) None Happens NoEndpoint = ⊥
+Did (Some before) (Some after) Happens NoEndpoint = Happens before after
+
+-- its endpoint makes this call with this answer, and nothing else has changed
+pub record Makes (call : Call) (answer : Answer) (before after : Held) : Type 0 where
+  pub rest : after ≡ record before { endpoint = after.endpoint }
+  pub does : Does before.endpoint after.endpoint call answer
+
+-- Bytes for the peer. -------------------------------------------------------------------------------------------------
+
+-- what is moved out next: the answers of the last step, and where none wait what the endpoint wrote behind it
+abbrev pub next_of : List ℕ → List ℕ → List ℕ
+next_of [] unsent = unsent
+next_of (b ∷ answers) unsent = b ∷ answers
+
+abbrev pub waiting_in : Option Held → List ℕ
+waiting_in None = []
+waiting_in (Some held) = next_of held.answers held.endpoint.unsent
+
+-- the first of them are moved out, as many as there is room for
+abbrev pub MovesNext : List ℕ → ℕ → Held → Held → Type 0
+MovesNext [] room before after = Makes (Output room) (MovedOut (take room before.endpoint.unsent)) before after
+MovesNext (b ∷ answers) room before after = after ≡ record before { answers = drop room before.answers }
+
+abbrev pub Moves : ℕ → Held → Held → Type 0
+Moves room before after = MovesNext before.answers room before after
+
+-- An endpoint is set up. ----------------------------------------------------------------------------------------------
+
+-- the row of a table
+abbrev pub limit_of : LimitRow → Limit
+limit_of r = record { prefix = if nat_le r.prefix_len 256 then take r.prefix_len r.prefix else []; bounds = record { allowed = r.allowed; max_message_size = r.max_message } }
+
+-- what is asked for
+abbrev pub configured : Settings → List ℕ → List Limit → Configured
+configured s name rows = record {
+  container_id = name;
+  max_frame = s.max_frame;
+  channel_max = s.channel_max;
+  handle_max = s.handle_max;
+  bounds = record { allowed = s.allowed; max_message_size = s.max_message };
+  limits = rows;
+  window = s.window;
+  idle_time_out = time_out s.idle_time_out;
+}
+
+-- the container-id is text, and each setting is within its range
+pub record AreSettings (s : Settings) (name : List ℕ) : Type 0 where
+  pub text : IsUtf8 name
+  pub ranges : IsAsked name s.max_frame s.channel_max s.handle_max s.allowed s.max_message s.window
+
+-- a new endpoint with these settings, and nothing else
+pub record IsNew (s : Settings) (name : List ℕ) (rows : List Limit) (held : Held) : Type 0 where
+  pub settings : AreSettings s name
+  pub table : IsTable rows
+  pub start : IsStart (configured s name rows) held.endpoint
+  pub message : held.message ≡ None
+  pub answers : held.answers ≡ []
+  pub records : held.records ≡ []
+  pub lost : held.lost ≡ None
+
+-- Why none is set up, each where the others above it are not so, but that memory may be refused at any time.
+abbrev pub WhyNot : Settings → List ℕ → List Limit → OpenFault → Type 0
+WhyNot s name rows refused.InUse = ⊥
+WhyNot s name rows refused.NoMemory = Unit {0}
+WhyNot s name rows refused.Settings = AreSettings s name → ⊥
+WhyNot s name rows (refused.Limits f) = AreSettings s name × IsFault rows f
+
+-- one is set up where none was
+abbrev pub IsOpened : Settings → List ℕ → List Limit → Option Held → Option Held → Type 0
+IsOpened s name rows None (Some held) = IsNew s name rows held
+IsOpened s name rows None None = ⊥
+IsOpened s name rows (Some before) new = ⊥
+
+-- or not
+abbrev pub OpenRefused : Settings → List ℕ → List Limit → Option Held → OpenFault → Type 0
+OpenRefused s name rows None f = WhyNot s name rows f
+OpenRefused s name rows (Some before) f = f ≡ refused.InUse
+
+-- Messages. -----------------------------------------------------------------------------------------------------------
+
+-- the bytes of the message that was taken last
+abbrev pub bytes_in : Option (List ℕ) → List ℕ
+bytes_in None = []
+bytes_in (Some message) = message
+
+abbrev pub message_in : Option Held → List ℕ
+message_in None = []
+message_in (Some held) = bytes_in held.message
+
+abbrev pub without_message : Held → Held
+without_message held = record held { message = None }
+
+-- what a take handed up
+abbrev pub handed_at : TakenReport → List ℕ → Answer
+handed_at t message = HandedUp (record { delivery_id = t.id; delivery_tag = take t.tag_len t.tag; message_format = t.format; settled = nat_eq t.settled 1; message = message })
+
+-- A message is taken, and kept in the place of the one before it; or the take is refused, and nothing has changed but for bytes of the endpoint's buffer that say nothing.
+pub record IsTaken (channel handle : ℕ) (t : TakenReport) (before after : Held) : Type 0 where
+  pub some : after.message ≡ Some (bytes_in after.message)
+  pub rest : after ≡ record before { endpoint = after.endpoint; message = after.message }
+  pub does : Does before.endpoint after.endpoint (InSession channel (Take handle)) (handed_at t (bytes_in after.message))
+  pub len : t.len ≡ length (bytes_in after.message)
+
+abbrev pub TakesIf : Bool → ℕ → ℕ → ℕ → TakenReport → Held → Held → Type 0
+TakesIf true code channel handle t before after = IsTaken channel handle t before after
+TakesIf false code channel handle t before after = Makes (InSession channel (Take handle)) (Refused (fault_at code)) before after
+
+abbrev pub Takes : ℕ → ℕ → ℕ → TakenReport → Held → Held → Type 0
+Takes code channel handle t before after = TakesIf (nat_eq code 0) code channel handle t before after
+
+-- Links. --------------------------------------------------------------------------------------------------------------
+
+-- the first bytes are put into some room, as many as it holds
+abbrev pub IsCopied : List ℕ → List ℕ → List ℕ → Type 0
+IsCopied bytes old new = new ≡ take (length old) bytes ++ drop (min (length old) (length bytes)) old
+
+-- what is told of a link
+abbrev pub report_of : LinkView → LinkReport
+report_of v = record {
+  credit = v.credit;
+  opened = v.opened;
+  ready = v.ready;
+  allowed = v.bounds.allowed;
+  max_message = v.bounds.max_message_size;
+  name_len = min (length v.name.now) 4294967295;
+  source_len = min (length v.source.now) 4294967295;
+  target_len = min (length v.target.now) 4294967295;
+}
+
+-- how the link is told that stands at a handle
+abbrev pub Shows : Slot LiveLink → ℕ → LinkReport → LinkReport → List ℕ → List ℕ → Type 0
+Shows Free code before link old new = (code ≡ 4) × (link ≡ before) × (new ≡ old)
+Shows (Live l) code before link old new =
+    (code ≡ 0) × (link.credit ≡ l.link.credit) × (link.opened ≡ open_count l.link) × (link.ready ≡ length l.link.ready)
+    × (link.allowed ≡ l.link.terms.bounds.allowed) × (link.max_message ≡ l.link.terms.bounds.max_message_size)
+    × (link.name_len ≡ min (length l.name) 4294967295) × (link.source_len ≡ min (length l.source) 4294967295) × (link.target_len ≡ min (length l.target) 4294967295)
+    × IsCopied l.name old new
+Shows Waits code before link old new = (code ≡ 4) × (link ≡ before) × (new ≡ old)
+
+-- how a part of it is
+abbrev pub ShowsPart : Slot LiveLink → (LiveLink → List ℕ) → ℕ → List ℕ → List ℕ → Type 0
+ShowsPart Free part code old new = (code ≡ 4) × (new ≡ old)
+ShowsPart (Live l) part code old new = (code ≡ 0) × IsCopied (part l) old new
+ShowsPart Waits part code old new = (code ≡ 4) × (new ≡ old)

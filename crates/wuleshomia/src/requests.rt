@@ -1,0 +1,147 @@
+//! What an application asks of a session and its links.
+ghost use Rattle.std.specs.Prelude.{◌≡◌, ◌<◌, min, MatchOption};
+ghost use Rattle.amqp_session.specs.Calls.{Widen, Grant, Drain, Settle, SettleRange, Detach};
+ghost use Rattle.amqp_endpoint.specs.Runs.{InSession};
+ghost use Rattle.wuleshomia.specs.Codes.{accepted_at, dropped_at, named_at, settlement_at};
+ghost use Rattle.wuleshomia.specs.Exports.{Did, Makes};
+
+use crate::codes::{BAD_OUTCOME, NO_ENDPOINT, of_count, of_done, settlement};
+use crate::handle::EndpointHandle;
+use std::alloc::Global;
+
+/// A channel. What is no channel stands for the highest, which no endpoint offers.
+pub(crate) fn number(channel: u32) -> u16
+    ensures { result ≡ min channel 65535 }
+{
+    channel.min(0xffff) as u16
+}
+
+/// Gives a link more credit.
+#[unsafe(no_mangle)]
+pub extern "C" fn wule_grant(
+    alloc: Global,
+    endpoint: &mut EndpointHandle,
+    channel: u32,
+    handle: u32,
+    n: u32,
+) -> u32
+    ensures { Did endpoint.old.held endpoint.new.held (Makes (InSession (min channel 65535) (Grant handle n)) (accepted_at result)) (result ≡ 20) }
+{
+    let Some(mut held) = endpoint.take(alloc) else {
+        return NO_ENDPOINT;
+    };
+    let code = of_done(held.as_mut().endpoint.grant(number(channel), handle, n));
+    endpoint.put(alloc, held);
+    code
+}
+
+/// Widens the window of a session.
+#[unsafe(no_mangle)]
+pub extern "C" fn wule_widen(
+    alloc: Global,
+    endpoint: &mut EndpointHandle,
+    channel: u32,
+    n: u32,
+) -> u32
+    ensures { Did endpoint.old.held endpoint.new.held (Makes (InSession (min channel 65535) (Widen n)) (accepted_at result)) (result ≡ 20) }
+{
+    let Some(mut held) = endpoint.take(alloc) else {
+        return NO_ENDPOINT;
+    };
+    let code = of_done(held.as_mut().endpoint.widen(number(channel), n));
+    endpoint.put(alloc, held);
+    code
+}
+
+/// Asks a link's sender to use its credit up.
+#[unsafe(no_mangle)]
+pub extern "C" fn wule_drain(
+    alloc: Global,
+    endpoint: &mut EndpointHandle,
+    channel: u32,
+    handle: u32,
+) -> u32
+    ensures { Did endpoint.old.held endpoint.new.held (Makes (InSession (min channel 65535) (Drain handle)) (accepted_at result)) (result ≡ 20) }
+{
+    let Some(mut held) = endpoint.take(alloc) else {
+        return NO_ENDPOINT;
+    };
+    let code = of_done(held.as_mut().endpoint.drain(number(channel), handle));
+    endpoint.put(alloc, held);
+    code
+}
+
+/// Tells the sender what became of a delivery.
+#[unsafe(no_mangle)]
+pub extern "C" fn wule_settle(
+    alloc: Global,
+    endpoint: &mut EndpointHandle,
+    channel: u32,
+    id: u32,
+    outcome: u32,
+) -> u32
+    ensures { MatchOption (settlement_at outcome) ((result ≡ 27) × (endpoint.new.held ≡ endpoint.old.held)) (λ o. Did endpoint.old.held endpoint.new.held (Makes (InSession (min channel 65535) (Settle id o)) (accepted_at result)) (result ≡ 20)) }
+{
+    let Some(outcome) = settlement(outcome) else {
+        return BAD_OUTCOME;
+    };
+    let Some(mut held) = endpoint.take(alloc) else {
+        return NO_ENDPOINT;
+    };
+    let code = of_done(held.as_mut().endpoint.settle(number(channel), id, outcome));
+    endpoint.put(alloc, held);
+    code
+}
+
+/// Tells the sender what became of a range of deliveries, and tells how many it named.
+#[unsafe(no_mangle)]
+pub extern "C" fn wule_settle_range(
+    alloc: Global,
+    endpoint: &mut EndpointHandle,
+    channel: u32,
+    first: u32,
+    last: u32,
+    outcome: u32,
+    named: &mut u32,
+) -> u32
+    ensures done { MatchOption (settlement_at outcome) ((result ≡ 27) × (endpoint.new.held ≡ endpoint.old.held)) (λ o. Did endpoint.old.held endpoint.new.held (Makes (InSession (min channel 65535) (SettleRange first last o)) (named_at result named.new)) (result ≡ 20)) }
+    ensures kept { 0 < result → named.new ≡ named.old }
+{
+    let Some(outcome) = settlement(outcome) else {
+        return BAD_OUTCOME;
+    };
+    let Some(mut held) = endpoint.take(alloc) else {
+        return NO_ENDPOINT;
+    };
+    let code = of_count(
+        held.as_mut()
+            .endpoint
+            .settle_range(number(channel), first, last, outcome),
+        named,
+    );
+    endpoint.put(alloc, held);
+    code
+}
+
+/// Ends a link, and tells how many ready deliveries are dropped.
+#[unsafe(no_mangle)]
+pub extern "C" fn wule_detach(
+    alloc: Global,
+    endpoint: &mut EndpointHandle,
+    channel: u32,
+    handle: u32,
+    dropped: &mut u32,
+) -> u32
+    ensures done { Did endpoint.old.held endpoint.new.held (Makes (InSession (min channel 65535) (Detach handle)) (dropped_at result dropped.new)) (result ≡ 20) }
+    ensures kept { 0 < result → dropped.new ≡ dropped.old }
+{
+    let Some(mut held) = endpoint.take(alloc) else {
+        return NO_ENDPOINT;
+    };
+    let code = of_count(
+        held.as_mut().endpoint.detach(number(channel), handle),
+        dropped,
+    );
+    endpoint.put(alloc, held);
+    code
+}

@@ -1,0 +1,37 @@
+//! A `Box` taken apart.
+ghost use Rattle.std.specs.Prelude.{◌≡◌};
+ghost use Rattle.std_alloc.specs.Box.Ownership.{box_owns};
+
+use std::alloc::Allocator;
+use std::marker::Model;
+
+/// The pointer of a box and its allocator, which own what the box did.
+pub struct Unboxed<T, A: Allocator> {
+    pub(crate) ptr: *mut T,
+    pub(crate) alloc: A,
+    pub ghost value: { T },
+}
+
+impl<T, A: Allocator> Model for Unboxed<T, A> {
+    ghost also_owns = { λ p. box_owns (A.dealloc_token p.alloc) T.row p.ptr p.value };
+}
+
+impl<T, A: Allocator> Unboxed<T, A> {
+    /// That of a box.
+    pub fn of(b: Box<T, A>) -> Unboxed<T, A>
+    where
+        T: Drop,
+        ensures { result.value ≡ b.value }
+    {
+        let (ptr, alloc) = Box::into_raw_with_allocator(b);
+        Unboxed { ptr, alloc }
+    }
+
+    /// The box again.
+    pub fn boxed(self) -> Box<T, A>
+        ensures { result.value ≡ self.value }
+    {
+        let Unboxed { ptr, alloc } = self;
+        unsafe { Box::from_raw(alloc, ptr) }
+    }
+}

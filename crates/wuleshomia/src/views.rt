@@ -1,0 +1,172 @@
+//! How an endpoint stands. Nothing changes by these.
+ghost use Rattle.std.specs.Prelude.{◌≡◌, ◌<◌, ◌⊎◌, length, min};
+ghost use Rattle.std.specs.Option.{option_map};
+ghost use Rattle.amqp_session.specs.Lacking.{IsFirstLacking};
+ghost use Rattle.amqp_session.specs.Places.{live_in};
+ghost use Rattle.amqp_endpoint.specs.Connections.{slot_at};
+ghost use Rattle.amqp_endpoint.specs.Held.{held};
+ghost use Rattle.amqp_endpoint.specs.Takings.{link_at};
+ghost use Rattle.wuleshomia.specs.Codes.{Found, found_at};
+ghost use Rattle.wuleshomia.specs.Exports.{Did, report_of, Shows, ShowsPart};
+
+use crate::codes::{NO_ENDPOINT, NO_LINK, NO_SESSION, OK, of_found};
+use crate::data::LinkReport;
+use crate::handle::EndpointHandle;
+use crate::messages::put;
+use crate::requests::number;
+use amqp_session::LinkView;
+use std::alloc::Global;
+
+/// The bytes that count as held.
+#[unsafe(no_mangle)]
+pub extern "C" fn wule_held(alloc: Global, endpoint: &mut EndpointHandle) -> u64
+    ensures { Did endpoint.old.held endpoint.new.held (λ before after. (after ≡ before) × (result ≡ held before.endpoint)) (result ≡ 0) }
+{
+    let Some(held) = endpoint.take(alloc) else {
+        return 0;
+    };
+    let count = held.as_ref().endpoint.held();
+    endpoint.put(alloc, held);
+    count
+}
+
+/// The places that are left of a session's window.
+#[unsafe(no_mangle)]
+pub extern "C" fn wule_window(
+    alloc: Global,
+    endpoint: &mut EndpointHandle,
+    channel: u32,
+    places: &mut u32,
+) -> u32
+    ensures { Did endpoint.old.held endpoint.new.held (λ before after. (after ≡ before) × Found (option_map (λ s. s.window) (live_in (slot_at before.endpoint.connection (min channel 65535)))) 3 result places.old places.new) ((result ≡ 20) × (places.new ≡ places.old)) }
+{
+    let Some(held) = endpoint.take(alloc) else {
+        return NO_ENDPOINT;
+    };
+    let window = held.as_ref().endpoint.window(number(channel));
+    endpoint.put(alloc, held);
+    of_found(window, NO_SESSION, places)
+}
+
+/// How a link stands, and the first bytes of its name, as many as there is room for.
+#[unsafe(no_mangle)]
+pub extern "C" fn wule_link(
+    alloc: Global,
+    endpoint: &mut EndpointHandle,
+    channel: u32,
+    handle: u32,
+    link: &mut LinkReport,
+    name: &mut [u8],
+) -> u32
+    ensures { Did endpoint.old.held endpoint.new.held (λ before after. (after ≡ before) × Shows (link_at before.endpoint.connection (min channel 65535) handle) result link.old link.new name.old name.new) ((result ≡ 20) × (link.new ≡ link.old) × (name.new ≡ name.old)) }
+{
+    let Some(held) = endpoint.take(alloc) else {
+        return NO_ENDPOINT;
+    };
+    let code = match held.as_ref().endpoint.link(number(channel), handle) {
+        Some(view) => {
+            *link = of_view(&view);
+            let _ = put(view.name, name, 0);
+            OK
+        }
+        None => NO_LINK,
+    };
+    endpoint.put(alloc, held);
+    code
+}
+
+fn of_view(view: &LinkView<'_>) -> LinkReport
+    ensures { result ≡ report_of view.now }
+{
+    LinkReport {
+        credit: view.credit,
+        opened: view.opened,
+        ready: view.ready,
+        allowed: view.bounds.allowed(),
+        max_message: view.bounds.max_message_size(),
+        name_len: count_of(view.name),
+        source_len: count_of(view.source),
+        target_len: count_of(view.target),
+    }
+}
+
+fn count_of(bytes: &[u8]) -> u32
+    ensures { result ≡ min (length bytes.now) 4294967295 }
+{
+    bytes.len().min(u32::MAX as usize) as u32
+}
+
+/// The first bytes of a link's source, as its attach spells it.
+#[unsafe(no_mangle)]
+pub extern "C" fn wule_link_source(
+    alloc: Global,
+    endpoint: &mut EndpointHandle,
+    channel: u32,
+    handle: u32,
+    room: &mut [u8],
+) -> u32
+    ensures { Did endpoint.old.held endpoint.new.held (λ before after. (after ≡ before) × ShowsPart (link_at before.endpoint.connection (min channel 65535) handle) (λ l. l.source) result room.old room.new) ((result ≡ 20) × (room.new ≡ room.old)) }
+{
+    let Some(held) = endpoint.take(alloc) else {
+        return NO_ENDPOINT;
+    };
+    let code = match held.as_ref().endpoint.link(number(channel), handle) {
+        Some(view) => {
+            let _ = put(view.source, room, 0);
+            OK
+        }
+        None => NO_LINK,
+    };
+    endpoint.put(alloc, held);
+    code
+}
+
+/// The first bytes of its target.
+#[unsafe(no_mangle)]
+pub extern "C" fn wule_link_target(
+    alloc: Global,
+    endpoint: &mut EndpointHandle,
+    channel: u32,
+    handle: u32,
+    room: &mut [u8],
+) -> u32
+    ensures { Did endpoint.old.held endpoint.new.held (λ before after. (after ≡ before) × ShowsPart (link_at before.endpoint.connection (min channel 65535) handle) (λ l. l.target) result room.old room.new) ((result ≡ 20) × (room.new ≡ room.old)) }
+{
+    let Some(held) = endpoint.take(alloc) else {
+        return NO_ENDPOINT;
+    };
+    let code = match held.as_ref().endpoint.link(number(channel), handle) {
+        Some(view) => {
+            let _ = put(view.target, room, 0);
+            OK
+        }
+        None => NO_LINK,
+    };
+    endpoint.put(alloc, held);
+    code
+}
+
+/// The first handle from one on whose link has less credit than that, and is allowed more.
+#[unsafe(no_mangle)]
+pub extern "C" fn wule_first_lacking(
+    alloc: Global,
+    endpoint: &mut EndpointHandle,
+    channel: u32,
+    from: u32,
+    credit: u32,
+    found: &mut u32,
+) -> u32
+    ensures first { Did endpoint.old.held endpoint.new.held (λ before after. (after ≡ before) × IsFirstLacking credit from (link_at before.endpoint.connection (min channel 65535)) (found_at result found.new)) (result ≡ 20) }
+    ensures code { (result ≡ 0) ⊎ (result ≡ 4) ⊎ (result ≡ 20) }
+    ensures kept { 0 < result → found.new ≡ found.old }
+{
+    let Some(held) = endpoint.take(alloc) else {
+        return NO_ENDPOINT;
+    };
+    let lacking = held
+        .as_ref()
+        .endpoint
+        .first_lacking(number(channel), from, credit);
+    endpoint.put(alloc, held);
+    of_found(lacking, NO_LINK, found)
+}

@@ -1,0 +1,117 @@
+//! Bytes that wait in memory until their host moves them out.
+ghost use Rattle.std.specs.Prelude.{◌≡◌, ◌==◌, ◌++◌, ◌^◌, ◌-◌, [], min, length, take, drop, Some};
+ghost use Rattle.wuleshomia.specs.Waiting.{gathered};
+
+use amqp_frame::HoldsBack;
+use std::alloc::Global;
+use std::io::{self, Write};
+use std::marker::Model;
+use std::mem;
+
+/// Memory for so many bytes is kept once they were moved out; more is given back.
+const KEPT: usize = 8192;
+
+/// Bytes that wait.
+#[derive(Drop)]
+pub struct Waiting {
+    bytes: Vec<u8>,
+    /// So many of them were moved out.
+    at: usize,
+}
+
+impl Model for Waiting {
+    ghost use Rattle.std.specs.Prelude.{ℕ, List, ◌≤◌, length, drop};
+
+    ghost Value = { List ℕ };
+
+    ghost view = { λ w. drop w.at w.bytes.items };
+
+    ghost invariant = { λ w. w.at ≤ length w.bytes.items };
+}
+
+impl Waiting {
+    /// These.
+    pub fn of(bytes: Vec<u8>) -> Self
+        ensures { result ≡ bytes.items }
+    {
+        Waiting { bytes, at: 0 }
+    }
+
+    /// How many they are.
+    pub fn len(&self) -> usize
+        ensures { result ≡ length self.now }
+    {
+        self.bytes.len() - self.at
+    }
+
+    /// Moves the first of them out, as many as there is room for, and answers how many.
+    pub fn move_into(&mut self, alloc: Global, room: &mut [u8]) -> usize
+        ensures count { result ≡ min (length room.old) (length self.old) }
+        ensures room { room.new ≡ take result self.old ++ drop result room.old }
+        ensures left { self.new ≡ drop result self.old }
+    {
+        let count = room.len().min(self.len());
+        room[..count].copy_from_slice(&self.bytes[self.at..self.at + count]);
+        self.at += count;
+        if self.at == self.bytes.len() {
+            *self = Waiting::of(self.emptied(alloc));
+        }
+        count
+    }
+
+    /// A vector of no bytes for others, with the memory of these if that is little. None wait then.
+    pub fn emptied(&mut self, alloc: Global) -> Vec<u8>
+        ensures room { result.items ≡ [] }
+        ensures left { self.new ≡ [] }
+    {
+        let mut bytes = mem::replace(&mut self.bytes, Vec::new(alloc));
+        self.at = 0;
+        if bytes.capacity() > KEPT {
+            return Vec::new(alloc);
+        }
+        bytes.clear();
+        bytes
+    }
+}
+
+/// A writer to memory. It passes nothing on, so that no record need be flushed before it is written to.
+#[derive(Drop)]
+pub struct Gathered {
+    bytes: Vec<u8>,
+}
+
+impl Gathered {
+    /// One that holds these.
+    pub fn new(bytes: Vec<u8>) -> Self
+        ensures { gathered result ≡ bytes.items }
+    {
+        Gathered { bytes }
+    }
+
+    /// All that it holds.
+    pub fn into_bytes(self) -> Vec<u8>
+        ensures { result.items ≡ gathered self }
+    {
+        self.bytes
+    }
+}
+
+impl Write for Gathered {
+    ghost contents = { λ w. Some (gathered w) };
+
+    fn write(&mut self, buf: &[u8]) -> io::Result<usize> {
+        self.bytes.write(buf)
+    }
+
+    fn flush(&mut self) -> io::Result<()> {
+        Ok(())
+    }
+}
+
+impl HoldsBack for Gathered {
+    ghost room = { λ _. 2 ^ 64 - 1 };
+
+    fn holds_back(&self) -> usize {
+        usize::MAX
+    }
+}

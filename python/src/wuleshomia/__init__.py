@@ -1,0 +1,87 @@
+"""The receiving side of AMQP 1.0, proved, without I/O.
+
+An :class:`Endpoint` is one connection. Bytes of the peer go in by :meth:`Endpoint.feed`, which yields events; messages come
+out by :meth:`Endpoint.take`; :meth:`Endpoint.output` has the bytes for the peer. Sockets, TLS, time and the event loop are
+yours::
+
+    endpoint = Endpoint("gateway")
+    for event in endpoint.feed(data):
+        match event:
+            case Attached(channel, handle):
+                endpoint.grant(channel, handle, 16)
+            case Ready(channel, handle):
+                message = endpoint.take(channel, handle)
+                endpoint.settle(channel, message.id)
+    transport.write(endpoint.output())
+
+:class:`ReceiverProtocol` does this for asyncio, with three functions of yours.
+
+What a peer can make an endpoint hold is bounded, and that is proved; ``wuleshomia.h`` says how far. This package itself is
+tested, and not proved.
+"""
+
+from __future__ import annotations
+
+from ._endpoint import (
+    Aborted,
+    AmqpError,
+    Attached,
+    Begun,
+    Closed,
+    Code,
+    Condition,
+    Detached,
+    Drained,
+    End,
+    Ended,
+    Endpoint,
+    Event,
+    Failed,
+    Limit,
+    Link,
+    Message,
+    Opened,
+    Outcome,
+    Ready,
+    Receipt,
+    Record,
+    Scope,
+    Settled,
+    StarvedError,
+    Step,
+    Unfinished,
+)
+from ._asyncio import ReceiverProtocol
+
+__all__ = [
+    "Aborted",
+    "AmqpError",
+    "Attached",
+    "Begun",
+    "Closed",
+    "Code",
+    "Condition",
+    "Detached",
+    "Drained",
+    "End",
+    "Ended",
+    "Endpoint",
+    "Event",
+    "Failed",
+    "Limit",
+    "Link",
+    "Message",
+    "Opened",
+    "Outcome",
+    "Ready",
+    "Receipt",
+    "ReceiverProtocol",
+    "Record",
+    "Scope",
+    "Settled",
+    "StarvedError",
+    "Step",
+    "Unfinished",
+]
+
+__version__ = "0.1.0"

@@ -1,0 +1,152 @@
+"""What the package refuses, and how: wrong types and ranges, an endpoint that was freed, a second thread.   misuse.py FILE"""
+
+from __future__ import annotations
+
+import copy
+import pickle
+import sys
+import threading
+import unittest
+
+from wuleshomia import AmqpError, Attached, Code, End, Endpoint, Failed, Limit, Outcome, Ready, Receipt
+
+DATA = b""
+
+
+class Refusals(unittest.TestCase):
+    def test_settings(self) -> None:
+        for words in ({"max_frame": 511}, {"channel_max": 256}, {"allowed": 0}, {"window": 1 << 31}, {"max_message": -1}, {"window": 1 << 32}):
+            with self.assertRaises(ValueError):
+                Endpoint("x", **words)
+        for words in ({"max_frame": 512.0}, {"window": "1"}, {"allowed": True}, {"handle_max": None}):
+            with self.assertRaises(TypeError):
+                Endpoint("x", **words)
+        for name in ("", "x" * 256, "\ud800"):
+            with self.assertRaises(ValueError):
+                Endpoint(name)
+        with self.assertRaises(TypeError):
+            Endpoint(b"x")
+
+    def test_limits(self) -> None:
+        with self.assertRaisesRegex(ValueError, "more than 16 rows"):
+            Endpoint("x", limits=[Limit(str(n), 1, 1) for n in range(17)])
+        with self.assertRaisesRegex(ValueError, "row 1 .*earlier"):
+            Endpoint("x", limits=[Limit("a", 1, 1), Limit("a", 2, 2)])
+        for limit in (Limit("", 1, 1), Limit("a" * 256, 1, 1), Limit("a" * 70000, 1, 1), Limit("a", 1025, 1)):
+            with self.assertRaisesRegex(ValueError, "row 0"):
+                Endpoint("x", limits=[limit])
+        Endpoint("x", limits=[Limit("a" * 255, 1024, 1 << 30)]).free()
+
+    def test_numbers(self) -> None:
+        endpoint = Endpoint("x")
+        for call in (
+            lambda n: endpoint.grant(n, 0, 1),
+            lambda n: endpoint.grant(0, n, 1),
+            lambda n: endpoint.grant(0, 0, n),
+            lambda n: endpoint.widen(0, n),
+            lambda n: endpoint.drain(0, n),
+            lambda n: endpoint.settle(0, n),
+            lambda n: endpoint.settle_range(0, 0, n),
+            lambda n: endpoint.detach(0, n),
+            lambda n: endpoint.take(0, n),
+            lambda n: endpoint.window(n),
+            lambda n: endpoint.link(0, n),
+            lambda n: endpoint.top_up(0, n, 1),
+            lambda n: list(endpoint.serve(b"", credit=n)),
+        ):
+            for n in (-1, 1 << 32, 1 << 70):
+                with self.assertRaises(ValueError):
+                    call(n)
+            for word in ("1", 1.0, None, b"1", True):
+                with self.assertRaises(TypeError):
+                    call(word)
+        with self.assertRaises(ValueError):
+            endpoint.settle(0, 0, 7)
+        for data in ("text", 7, None, [1]):
+            with self.assertRaises(TypeError):
+                endpoint.feed(data)
+            with self.assertRaises(TypeError):
+                endpoint.serve(data)
+        with self.assertRaises(AmqpError) as refused:
+            endpoint.grant(0xFFFFFFFF, 0xFFFFFFFF, 0xFFFFFFFF)
+        self.assertIs(refused.exception.code, Code.NO_SESSION)
+
+    def test_freed(self) -> None:
+        endpoint = Endpoint("x")
+        events = endpoint.feed(b"AMQP\0\1\0\0")
+        endpoint.free()
+        endpoint.free()
+        for call in (
+            lambda: list(events),
+            lambda: list(endpoint.feed(b"")),
+            lambda: list(endpoint.serve(b"")),
+            lambda: endpoint.grant(0, 0, 1),
+            lambda: endpoint.take(0, 0),
+            lambda: endpoint.link(0, 0),
+            endpoint.finish,
+            endpoint.close,
+            endpoint.heartbeat,
+        ):
+            with self.assertRaises(AmqpError) as refused:
+                call()
+            self.assertIs(refused.exception.code, Code.NO_ENDPOINT)
+        self.assertEqual((endpoint.output(), endpoint.held, endpoint.is_over), (b"", 0, True))
+
+    def test_never_copied(self) -> None:
+        endpoint = Endpoint("x")
+        for double in (copy.copy, copy.deepcopy, pickle.dumps):
+            with self.assertRaises(TypeError):
+                double(endpoint)
+
+    def test_threads(self) -> None:
+        endpoint = Endpoint("x")
+        seen: set[str] = set()
+
+        def hammer() -> None:
+            for _ in range(20000):
+                try:
+                    endpoint.window(0)
+                    list(endpoint.feed(b""))
+                except (AmqpError, RuntimeError) as refused:
+                    seen.add(type(refused).__name__)
+
+        threads = [threading.Thread(target=hammer) for _ in range(4)]
+        for thread in threads:
+            thread.start()
+        for thread in threads:
+            thread.join()
+        self.assertIn("AmqpError", seen)
+        with endpoint._lock:
+            with self.assertRaises(RuntimeError):
+                endpoint.window(0)
+            with self.assertRaises(RuntimeError):
+                endpoint.free()
+            with self.assertRaises(RuntimeError):
+                list(endpoint.feed(b""))
+
+    def test_steps_are_calls(self) -> None:
+        """Serving gives the messages that taking them gives."""
+        taken, ids = [], 0
+        endpoint = Endpoint("recv")
+        for event in endpoint.feed(DATA):
+            if isinstance(event, Ready):
+                message = endpoint.take(event.channel, event.handle)
+                taken.append((event.channel, event.handle, message.id, message.format, message.body))
+                if not message.settled:
+                    endpoint.settle(event.channel, message.id, Outcome.ACCEPTED)
+            if isinstance(event, (Attached, Ready)):
+                endpoint.top_up(event.channel, 16, 2048)
+            ids += isinstance(event, Failed)
+        served = Endpoint("recv")
+        steps = list(served.serve(DATA, credit=16))
+        records = [(r.channel, r.handle, r.id, r.format, r.body) for step in steps for r in step.records]
+        self.assertEqual(records, taken)
+        self.assertEqual(sum(step.receipt in (Receipt.TOLD, Receipt.SETTLED) for step in steps), len(taken))
+        self.assertEqual(sum(isinstance(step.event, Failed) for step in steps), ids)
+        self.assertEqual((endpoint.finish(), served.finish()), (End.CLOSED, End.CLOSED))
+
+
+if __name__ == "__main__":
+    with open(sys.argv.pop(1), "rb") as file:
+        DATA = file.read()
+    unittest.main()
