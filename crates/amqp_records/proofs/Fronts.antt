@@ -7,7 +7,7 @@ use Rattle.byteorder.specs.Endian.{big_number}
 use Rattle.byteorder.specs.Numbers.{big_from-append}
 use Rattle.amqp_records.specs.declared.record.Front.{Front}
 use Rattle.amqp_records.specs.declared.record.Front.TheVariants.{Whole, Partial, TooLong}
-use Rattle.amqp_records.specs.Records.{front_of, said, IsRecord, AreRecords, joined, Holds, BeginsNoRecord}
+use Rattle.amqp_records.specs.Records.{front_of, said, IsRecord, joined, Holds, BeginsNoRecord}
 
 -- how a front comes of three tests
 abbrev chosen : (short long cut : Bool) → ℕ → Front
@@ -21,7 +21,7 @@ none_holds false false true k n e = absurd cc
 none_holds false false false k n e = (refl, refl, refl, cc)
 
 -- the length that a head says stands in its first 18 bytes
-said_front : (n : ℕ) (bytes : List ℕ) → 18 ≤ n → n ≤ length bytes → said (take n bytes) ≡ said bytes
+pub said_front : (n : ℕ) (bytes : List ℕ) → 18 ≤ n → n ≤ length bytes → said (take n bytes) ≡ said bytes
 said_front n bytes least within =
     let m = n - 14 in
     let sum : 14 + m ≡ n = omega arith in
@@ -49,6 +49,12 @@ whole_front limit bytes n e =
           (ap Whole (omega (arith, len, says, tests.3))))),
     )
 
+-- of a whole one the head says the length, which is allowed
+pub whole_says : (limit : ℕ) (bytes : List ℕ) (n : ℕ) → front_of limit bytes ≡ Whole n → (n ≡ 18 + said bytes) × (said bytes ≤ limit)
+whole_says limit bytes n e =
+    let tests = none_holds (ltb (length bytes) 18) (ltb limit (said bytes)) (ltb (length bytes) (18 + said bytes)) (18 + said bytes) n e in
+    (sym tests.3, ltb-false _ _ tests.1)
+
 -- what is neither whole nor too long is less than a record
 pub is_partial : (f : Front) → ((n : ℕ) → f ≡ Whole n → ⊥) → (f ≡ TooLong → ⊥) → f ≡ Partial
 is_partial (Whole n) never long = absurd (never n refl)
@@ -67,7 +73,7 @@ pub short_rest : (limit : ℕ) (rest : List ℕ) → BeginsNoRecord limit rest �
 short_rest limit rest none too = short_at _ _ _ (length rest) limit (said rest) refl refl refl (none (18 + said rest)) too
 
 -- a record stays one whatever follows it
-front_more : (limit : ℕ) (r more : List ℕ) → IsRecord limit r → front_of limit (r ++ more) ≡ Whole (length r)
+pub front_more : (limit : ℕ) (r more : List ℕ) → IsRecord limit r → front_of limit (r ++ more) ≡ Whole (length r)
 front_more limit r more e =
     let tests = none_holds (ltb (length r) 18) (ltb limit (said r)) (ltb (length r) (18 + said r)) (18 + said r) (length r) e in
     let least : 18 ≤ length r = ltb-false _ _ tests.0 in

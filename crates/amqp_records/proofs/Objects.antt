@@ -1,8 +1,8 @@
 -- An object keeps the numbers that were put into it.
-use Rattle.std.proofs.Common.{◌≡◌, ℕ, List, length, codes, Some, Bool, true, false, bytes_eq, true≢false, refl, ◌∙◌, ap, sym, subst}
+use Rattle.std.proofs.Common.{◌≡◌, ℕ, List, length, codes, Some, false, bytes_eq, true≢false, refl, ◌∙◌, ap, sym, subst}
 use Rattle.std.proofs.lemmas.Slice.Eq.{bytes_eq-Decides}
 use Rattle.serde_json.specs.Data.{Data, number, unsigned, object, Members, put}
-use Rattle.serde_json.specs.Find.{get, get_member}
+use Rattle.serde_json.specs.Find.{get_member}
 use Rattle.serde_json.proofs.Views.{get_member-put, get_member-put_other}
 use Rattle.amqp_records.specs.Lines.{whole_json, HasNumbers}
 

@@ -1,11 +1,11 @@
 -- All that stands in a line is printable.
-use Rattle.std.proofs.Common.{◌≡◌, ℕ, ◌+◌, ◌*◌, ◌/◌, ◌%◌, ◌^◌, ◌<◌, ◌≤◌, ◌&&◌, Bool, true, false, nat_le, cond, All, map, List, [], ◌∷◌, ◌++◌, length, codes, decimal, slice_index, refl, sym, ap, ◌∙◌, subst, arith, lit≤, lit<, zero, suc, Result, Ok, Err, IfOk}
+use Rattle.std.proofs.Common.{◌≡◌, ℕ, ◌+◌, ◌/◌, ◌%◌, ◌^◌, ◌<◌, ◌≤◌, ◌&&◌, Bool, true, nat_le, All, map, List, [], ◌∷◌, ◌++◌, length, codes, decimal, slice_index, refl, ap, ◌∙◌, arith, lit≤, lit<, zero, suc, Result, Ok, Err, IfOk}
 use Rattle.std.proofs.lemmas.Bool.{and_parts, leb-true, cond_both}
 use Rattle.std.proofs.lemmas.Fmt.{decimal_by_steps}
 use Rattle.std.proofs.lemmas.List.Elements.{All-nil, All-cons, All-push, All-append, All-get_or}
 use Rattle.std.specs.List.{flat_map}
 use Rattle.std.specs.Char.Escape.{encode_utf16}
-use Rattle.std.specs.Int.{w16, to_be_bytes, bytes_high_first, byte_at}
+use Rattle.std.specs.Int.{w16, to_be_bytes}
 use Rattle.hex.specs.Hex.{encode_with, lower_digits}
 use Rattle.amqp_records.specs.Lines.{is_printable, IsPrintable, printable_of, head_text, unit_escape, escapes_of, ascii_of}
 

@@ -1,5 +1,5 @@
 -- What was written so far of a file of records.
-use Rattle.std.proofs.Common.{◌≡◌, ◌≢◌, ℕ, ◌+◌, ◌-◌, ◌≤◌, List, [], ◌∷◌, ◌++◌, length, take, drop, Option, refl, sym, ap, ◌∙◌, subst, arith, append_assoc, append-nil, length-append, Result, Ok, Err, OnOk, OnErr, inr}
+use Rattle.std.proofs.Common.{◌≡◌, ◌≢◌, ℕ, ◌+◌, ◌-◌, List, [], ◌∷◌, ◌++◌, length, take, drop, Option, refl, sym, ap, ◌∙◌, subst, arith, append_assoc, append-nil, length-append, Result, Ok, Err, OnOk, OnErr, inr}
 use Rattle.std.proofs.KnownBytes.{Appends-nil, Appends-trans, Appends-kept}
 use Rattle.std.proofs.lemmas.List.{take-append-drop, length-take-le}
 use Rattle.std.proofs.lemmas.Bool.{eq-eqb, ne_eqb}
@@ -13,11 +13,11 @@ use Rattle.amqp_records.specs.Printing.{IsLineOf, IsWritten, AreWritten, BeginsW
 use Rattle.amqp_records.proofs.Fronts.{whole_front}
 
 -- one record more
-records_more : (limit : ℕ) (records : List (List ℕ)) (r : List ℕ) → AreRecords limit records → IsRecord limit r → AreRecords limit (records ++ r ∷ [])
+pub records_more : (limit : ℕ) (records : List (List ℕ)) (r : List ℕ) → AreRecords limit records → IsRecord limit r → AreRecords limit (records ++ r ∷ [])
 records_more limit [] r each is = (is, tt)
 records_more limit (x ∷ xs) r each is = (each.0, records_more limit xs r each.1 is)
 
-joined_more : (records : List (List ℕ)) (r : List ℕ) → joined (records ++ r ∷ []) ≡ joined records ++ r
+pub joined_more : (records : List (List ℕ)) (r : List ℕ) → joined (records ++ r ∷ []) ≡ joined records ++ r
 joined_more [] r = append-nil r
 joined_more (x ∷ xs) r = ap (λ (y : List ℕ). x ++ y) (joined_more xs r) ∙ sym (append_assoc x (joined xs) r)
 

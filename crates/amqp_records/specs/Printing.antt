@@ -5,10 +5,9 @@ use Rattle.amqp_records.specs.declared.faults.RecordsFault.{RecordsFault}
 use Rattle.amqp_records.specs.declared.faults.RecordsFault.TheVariants as fault
 use Rattle.amqp_records.specs.declared.printer.Output.{Output}
 use Rattle.amqp_records.specs.declared.printer.Output.TheVariants.{Text, Json, Only}
-use Rattle.amqp_records.specs.declared.record.Front.{Front}
 use Rattle.amqp_records.specs.declared.record.Front.TheVariants as front
 use Rattle.amqp_records.specs.Lines.{IsTextLine, IsJsonLine}
-use Rattle.amqp_records.specs.Records.{message_of, front_of, joined, Holds, BeginsNoRecord}
+use Rattle.amqp_records.specs.Records.{message_of, front_of, joined, Holds}
 
 -- the line of a record of a number
 abbrev pub IsLineOf : Output → ℕ → List ℕ → List ℕ → Type 0

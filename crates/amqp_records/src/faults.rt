@@ -37,3 +37,36 @@ impl From<AllocError> for RecordsFault {
         RecordsFault::NoMemory
     }
 }
+
+/// Why a file of blocks was not gone through to its end. A place is in bytes from the first one of the file.
+#[derive(Debug, Drop, Error)]
+pub enum BlocksFault {
+    /// The input could not be read.
+    #[error("Read")]
+    Read,
+    /// What was printed could not be written.
+    #[error("Write")]
+    Write,
+    /// What stands at this place is no block, nor the beginning of one.
+    #[error("{0} Block")]
+    Block(u64),
+    /// The input ends inside the block at this place.
+    #[error("{0} Cut")]
+    Cut(u64),
+    /// The input has 2^64 bytes or more.
+    #[error("Endless")]
+    Endless,
+    /// Memory was refused.
+    #[error("NoMemory")]
+    NoMemory,
+}
+
+impl From<AllocError> for BlocksFault {
+    ghost use Rattle.amqp_records.specs.declared.faults.BlocksFault.TheVariants as blocks;
+
+    ghost from_gives = { λ _ e. e ≡ blocks.NoMemory };
+
+    fn from(_e: AllocError) -> BlocksFault {
+        BlocksFault::NoMemory
+    }
+}

@@ -39,9 +39,26 @@ struct Due {
 
 /// Where a line is put together.
 #[derive(Drop)]
-struct Scratch {
+pub struct Scratch {
     page: Page,
     line: Vec<u8>,
+}
+
+impl Scratch {
+    /// Room for a line, and for so many bytes of a message that is shown in it.
+    pub fn new(alloc: Global, capacity: usize) -> Result<Scratch, AllocError> {
+        Ok(Scratch {
+            page: Page::with_capacity(alloc, capacity)?,
+            line: Vec::new(alloc),
+        })
+    }
+
+    /// The line that was put together.
+    pub fn line(&self) -> &[u8]
+        ensures { result.now ≡ self.now.line.items }
+    {
+        &self.line
+    }
 }
 
 /// Reads a file of records to its end, and writes what is wanted of each that is whole, in order, flushing the writer before
@@ -195,7 +212,7 @@ fn print_piece<W: Write + Drop>(
 }
 
 /// Drops so many bytes in front; where they are none, nothing is moved. Takes no memory.
-fn drop_front(bytes: &mut Vec<u8>, count: usize)
+pub fn drop_front(bytes: &mut Vec<u8>, count: usize)
     requires { count ≤ length bytes.old.items }
     ensures { bytes.new.items ≡ drop count bytes.old.items }
 {
@@ -282,7 +299,7 @@ fn print_record<W: Write + Drop>(
 }
 
 /// Puts the line of a record in the place of the last one.
-fn put_line_of(
+pub fn put_line_of(
     alloc: Global,
     output: Output,
     number: u64,

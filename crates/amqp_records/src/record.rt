@@ -1,7 +1,7 @@
 //! A record: a head, and a message.
 
 ghost use Rattle.std.specs.Prelude.{◌≡◌, ◌≤◌, length};
-ghost use Rattle.amqp_records.specs.Records.{front_of, channel_of, handle_of, id_of, format_of, message_of};
+ghost use Rattle.amqp_records.specs.Records.{said, front_of, channel_of, handle_of, id_of, format_of, message_of};
 
 use byteorder::{BigEndian, ByteOrder};
 
@@ -30,7 +30,7 @@ pub fn front_of(bytes: &[u8], max_message: u32) -> Front
     if bytes.len() < HEAD {
         return Front::Partial;
     }
-    let message = BigEndian::read_u32(&bytes[LENGTH..]);
+    let message = message_len(bytes);
     if message > max_message {
         return Front::TooLong;
     }
@@ -39,6 +39,14 @@ pub fn front_of(bytes: &[u8], max_message: u32) -> Front
         return Front::Partial;
     }
     Front::Whole(len)
+}
+
+/// How long a message a record's head says.
+pub fn message_len(bytes: &[u8]) -> u32
+    requires { HEAD ≤ length bytes.now }
+    ensures { result ≡ said bytes.now }
+{
+    BigEndian::read_u32(&bytes[LENGTH..])
 }
 
 /// A record, lent from its bytes.

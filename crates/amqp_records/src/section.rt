@@ -29,6 +29,28 @@ pub enum SectionKind {
     Footer,
 }
 
+/// The symbols by which descriptors may name them.
+const SYMBOLS: [(&str, SectionKind); 9] = [
+    ("amqp:header:list", SectionKind::Header),
+    (
+        "amqp:delivery-annotations:map",
+        SectionKind::DeliveryAnnotations,
+    ),
+    (
+        "amqp:message-annotations:map",
+        SectionKind::MessageAnnotations,
+    ),
+    ("amqp:properties:list", SectionKind::Properties),
+    (
+        "amqp:application-properties:map",
+        SectionKind::ApplicationProperties,
+    ),
+    ("amqp:data:binary", SectionKind::Data),
+    ("amqp:amqp-sequence:list", SectionKind::AmqpSequence),
+    ("amqp:amqp-value:*", SectionKind::AmqpValue),
+    ("amqp:footer:map", SectionKind::Footer),
+];
+
 /// A section, lent from the message.
 #[derive(Clone, Copy, Debug)]
 pub struct Section<'a> {
@@ -70,19 +92,14 @@ impl SectionKind {
     }
 
     /// The kind that a descriptor of this symbol says.
+    // By a table: a match over texts is proved byte by byte, which took a quarter of the crate's proof.
     fn of_symbol(symbol: &[u8]) -> Option<SectionKind> {
-        match symbol {
-            b"amqp:header:list" => Some(SectionKind::Header),
-            b"amqp:delivery-annotations:map" => Some(SectionKind::DeliveryAnnotations),
-            b"amqp:message-annotations:map" => Some(SectionKind::MessageAnnotations),
-            b"amqp:properties:list" => Some(SectionKind::Properties),
-            b"amqp:application-properties:map" => Some(SectionKind::ApplicationProperties),
-            b"amqp:data:binary" => Some(SectionKind::Data),
-            b"amqp:amqp-sequence:list" => Some(SectionKind::AmqpSequence),
-            b"amqp:amqp-value:*" => Some(SectionKind::AmqpValue),
-            b"amqp:footer:map" => Some(SectionKind::Footer),
-            _ => None,
+        for (name, kind) in &SYMBOLS {
+            if name.as_bytes() == symbol {
+                return Some(*kind);
+            }
         }
+        None
     }
 
     /// The names of the fields of a section that has such.

@@ -3,10 +3,13 @@
 //! Bytes are hex. `file TEXT|JSON|N MAX BYTES` answers the lines of a file of records, parted by ` / `, or the bytes of the Nth message, and
 //! behind them how many records there are, or the fault. `message BYTES` answers the sections of a message in the text for people, and `json
 //! BYTES` the JSON object of a record of that message; `value BYTES` the text of a value that is the body of a message.
+//! `blocks TEXT|JSON|N MAX BYTES` is `file` for a file of blocks, `whole MAX BYTES` answers how far one is whole, and `put 7:BYTES 8*3:BYTES` the
+//! blocks of the records that were put, the last ones three times; of more than 200 bytes their heads alone, the sizes as decimals.
 //! `made N` answers the SHA-256 of the JSON lines of the hundred records behind the first N of the file that is the first argument,
 //! `as-dumped N` how many of their lines show each section as a dump does ([`made`]).
 #![tactic(auto)]
 
+mod blocks;
 mod made;
 
 use amqp_frame::Device;
@@ -37,6 +40,9 @@ impl Subject for Records {
         let (name, words) = name_of(words);
         match name {
             "file" => file(alloc, words),
+            "blocks" => blocks::printed(alloc, words),
+            "whole" => blocks::whole(alloc, words),
+            "put" => blocks::put(alloc, words),
             "message" => message(alloc, words),
             "json" => object(alloc, words),
             "value" => value(alloc, words),
@@ -145,7 +151,7 @@ fn printed(
 }
 
 /// Bytes in hex.
-fn bytes_of(alloc: Global, words: &str) -> Result<Vec<u8>, Miss> {
+pub fn bytes_of(alloc: Global, words: &str) -> Result<Vec<u8>, Miss> {
     hex::decode(alloc, words).ok().ok_or(Miss::Unread("no hex"))
 }
 

@@ -1,4 +1,4 @@
-use Rattle.std.proofs.Common.{length, rules}
+use Rattle.std.proofs.Common.{length}
 use Rattle.serde_json.specs.View.{view, members_view}
 use Rattle.amqp_records.proofs.Objects.{numbers_put}
 use Rattle.amqp_records.proofs.Printings.{ok_map}

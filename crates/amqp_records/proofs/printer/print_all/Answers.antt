@@ -1,15 +1,14 @@
-use Rattle.std.proofs.Common.{◌≡◌, ◌≢◌, ℕ, ◌+◌, ◌-◌, ◌≤◌, List, [], ◌++◌, length, take, drop, sym, ap, ◌∙◌, subst, arith, rules}
+use Rattle.std.proofs.Common.{◌≡◌, ℕ, ◌-◌, List, [], ◌++◌, length, take, sym, ap, ◌∙◌, subst, arith, rules}
 use Rattle.std.proofs.KnownBytes.{Consumes-nil, Consumes-trans, Consumes-kept}
 use Rattle.std.proofs.lemmas.Bool.{eqb-true}
 use Rattle.std.proofs.lemmas.Grind.{common_steps}
 use Rattle.std.proofs.lemmas.List.{nil_from_length}
 use Rattle.std.specs.Vec.{vec_len}
-use Rattle.amqp_frame.specs.Devices.{device_inner, has_ended}
+use Rattle.amqp_frame.specs.Devices.{device_inner}
 use Rattle.amqp_frame.proofs.Results.{on_err}
-use Rattle.amqp_records.specs.declared.record.Front.TheVariants.{Whole, Partial, TooLong}
+use Rattle.amqp_records.specs.declared.record.Front.TheVariants.{Whole, TooLong}
 use Rattle.amqp_records.specs.Records.{front_of, BeginsNoRecord}
-use Rattle.amqp_records.specs.Printing.{HasPrinted, Prints, BreaksOff, IsNothing, IsCut, IsTooLong}
-use Rattle.amqp_records.proofs.Fronts.{is_partial}
+use Rattle.amqp_records.specs.Printing.{HasPrinted, Prints, BreaksOff, IsNothing, IsTooLong}
 use Rattle.amqp_records.proofs.Printings.{none_printed, begun_here, prints}
 use Rattle.amqp_records.proofs.printer.print_all.Goals as goal
 

@@ -1,4 +1,4 @@
-use Rattle.std.proofs.Common.{◌≡◌, ◌≢◌, ℕ, ◌<◌, List, length, IsTrue}
+use Rattle.std.proofs.Common.{◌≢◌, ℕ, ◌<◌, List, length, IsTrue}
 use Rattle.std.specs.Io.KnownBytes.{Consumes}
 use Rattle.amqp_frame.specs.Devices.{device_inner, has_failed, reads_ahead}
 use Rattle.amqp_records.specs.declared.record.Front.TheVariants.{TooLong}

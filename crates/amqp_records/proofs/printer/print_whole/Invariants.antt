@@ -1,4 +1,4 @@
-use Rattle.std.proofs.Common.{◌≡◌, ℕ, ◌-◌, ◌≤◌, List, length, drop, Option, IsTrue}
+use Rattle.std.proofs.Common.{ℕ, ◌-◌, ◌≤◌, List, length, drop, Option, IsTrue}
 use Rattle.amqp_frame.specs.Devices.{device_inner, has_failed}
 use Rattle.amqp_records.specs.Printing.{HasPrinted}
 use Rattle.amqp_records.proofs.printer.print_whole.Given as goal

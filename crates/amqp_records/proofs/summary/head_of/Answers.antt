@@ -1,4 +1,4 @@
-use Rattle.std.proofs.Common.{All, length, string_bytes, sym, subst, arith, rules}
+use Rattle.std.proofs.Common.{All, length, string_bytes, sym, subst, rules}
 use Rattle.amqp_records.specs.Lines.{IsPrintable}
 use Rattle.amqp_records.proofs.Printables.{head_printable, if_ok}
 use Rattle.amqp_records.proofs.summary.head_of.Goals as goal

@@ -1,5 +1,5 @@
 -- Each function goes down a level of depth, or stays on its level and goes down a rank.
-use Rattle.std.proofs.Common.{◌≡◌, ◌+◌, ◌*◌}
+use Rattle.std.proofs.Common.{◌+◌, ◌*◌}
 use Rattle.amqp_records.proofs.value.+json.Given as goal
 
 abbrev pub decreases-json_of : goal.decreases-json_of
