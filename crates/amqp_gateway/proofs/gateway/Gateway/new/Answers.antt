@@ -1,0 +1,5 @@
+use Rattle.std.proofs.Common.{ap, refl, count_by, is_some}
+use Rattle.amqp_gateway.proofs.gateway.Gateway.new.Goals as goal
+
+pub returns : goal.returns
+returns g c = record { settings = refl; none = ap (λ l. count_by is_some l) c.new-2.ensures.empty; stopped = refl; accepted = refl; settled = c.new-4.ensures }

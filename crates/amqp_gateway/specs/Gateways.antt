@@ -1,0 +1,83 @@
+-- What a gateway is between two turns, and what a turn leaves.
+use Rattle.std.specs.Prelude.{◌≡◌, ℕ, ◌+◌, ◌≤◌, ◌<◌, ◌==◌, ◌&&◌, ◌||◌, nat_lt, nat_le, Bool, true, false, Option, Some, None, IsSome, Result, Ok, Err}
+use Rattle.amqp_serve.specs.declared.serving.ServeFault.{ServeFault}
+use Rattle.amqp_serve.specs.declared.serving.ServeFault.TheVariants as lost
+use Rattle.amqp_serve.specs.declared.steps.Done.{Done}
+use Rattle.amqp_hub.specs.Members.{MemberState}
+use Rattle.slab.specs.Slab.{Slab}
+use Rattle.amqp_gateway.specs.declared.counts.Counts.{Counts}
+use Rattle.amqp_gateway.specs.Outlets.{OutletState, IsSettled}
+use Rattle.amqp_gateway.specs.declared.settings.Settings.{Settings}
+
+-- A step that came to this broke off.
+abbrev pub is_broken : Result Done ServeFault → Bool
+is_broken (Ok d) = false
+is_broken (Err lost.NoMemory) = false
+is_broken (Err lost.Read) = true
+is_broken (Err lost.Write) = true
+is_broken (Err lost.Sink) = true
+
+-- what it was set up with, what it counted, the connections of its hub, the records that wait, how many peers there are, and since when it is to end, if it is
+pub record GatewayState : Type 0 where
+  pub settings : Settings
+  pub counts : Counts
+  pub members : Slab MemberState
+  pub outlet : OutletState
+  pub peers : ℕ
+  pub stopped : Option ℕ
+
+abbrev pub is_some : Option ℕ → Bool
+is_some None = false
+is_some (Some n) = true
+
+-- no more peers are accepted: it is to end, or has accepted as many as it was to
+abbrev pub is_last : GatewayState → Bool
+is_last s = is_some s.stopped || (nat_lt 0 s.settings.connections && nat_le s.settings.connections s.counts.accepted)
+
+-- none is left then
+abbrev pub is_done : GatewayState → Bool
+is_done s = is_last s && (s.peers == 0)
+
+-- one peer more may be accepted
+pub record MayOpen (s : GatewayState) : Type 0 where
+  pub goes_on : is_last s ≡ false
+  pub room : s.peers < s.settings.peers
+
+-- one that has begun: of these settings, without peers, and nothing waits
+pub record IsBegun (asked : Settings) (s : GatewayState) : Type 0 where
+  pub settings : s.settings ≡ asked
+  pub none : s.peers ≡ 0
+  pub stopped : s.stopped ≡ None
+  pub accepted : s.counts.accepted ≡ 0
+  pub settled : IsSettled true s.outlet
+
+-- it is to end, from now on where it was not before, and nothing else changed
+pub record IsStopping (old new : GatewayState) : Type 0 where
+  pub settings : new.settings ≡ old.settings
+  pub counts : new.counts ≡ old.counts
+  pub members : new.members ≡ old.members
+  pub outlet : new.outlet ≡ old.outlet
+  pub peers : new.peers ≡ old.peers
+  pub stopped : IsSome new.stopped
+  pub once : IsSome old.stopped → new.stopped ≡ old.stopped
+
+-- No peer was accepted.
+pub record IsGoneOn (old new : GatewayState) : Type 0 where
+  pub settings : new.settings ≡ old.settings
+  pub stopped : new.stopped ≡ old.stopped
+  pub accepted : new.counts.accepted ≡ old.counts.accepted
+  pub fewer : new.peers ≤ old.peers
+
+-- Where it is to end, or has accepted as many as it was to, no peer was accepted; and never are there more than there may be.
+pub record IsTurned (old new : GatewayState) : Type 0 where
+  pub settings : new.settings ≡ old.settings
+  pub stopped : new.stopped ≡ old.stopped
+  pub last : is_last old ≡ true → IsGoneOn old new
+  pub bound : old.peers ≤ old.settings.peers → new.peers ≤ old.settings.peers
+
+-- At most one peer more is there.
+pub record IsPlaced (old new : GatewayState) : Type 0 where
+  pub settings : new.settings ≡ old.settings
+  pub stopped : new.stopped ≡ old.stopped
+  pub counts : new.counts ≡ old.counts
+  pub bound : new.peers ≤ old.peers + 1

@@ -1,0 +1,4 @@
+pub mod Bounds
+pub mod Counts
+pub mod Gateways
+pub mod Outlets

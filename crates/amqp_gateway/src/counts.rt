@@ -1,0 +1,56 @@
+//! What a gateway counts.
+
+ghost use Rattle.std.specs.Prelude.{◌≡◌};
+ghost use Rattle.amqp_gateway.specs.Counts.{counted, recorded_by};
+
+use crate::ending::Ending;
+use amqp_serve::{Receipt, Stepped};
+
+/// What a gateway has counted since it began.
+#[derive(Clone, Copy, Debug, PartialEq, Eq)]
+pub struct Counts {
+    /// Connections that were accepted.
+    pub accepted: u64,
+    /// Connections that ended, by how they did: in the order of [`Ending::ALL`].
+    pub ended: [u64; 11],
+    /// Messages that were recorded, and their bytes.
+    pub messages: u64,
+    pub bytes: u64,
+}
+
+impl Counts {
+    pub const NONE: Counts = Counts {
+        accepted: 0,
+        ended: [0; 11],
+        messages: 0,
+        bytes: 0,
+    };
+
+    /// A connection ended.
+    pub fn end(&mut self, ending: Ending)
+        ensures accepted { self.new.accepted ≡ self.old.accepted }
+        ensures messages { self.new.messages ≡ self.old.messages }
+        ensures bytes { self.new.bytes ≡ self.old.bytes }
+    {
+        if let Some(count) = self.ended.get_mut(ending.place()) {
+            *count = count.saturating_add(1);
+        }
+    }
+
+    /// What a step recorded.
+    pub fn step(&mut self, stepped: &Stepped)
+        ensures counted { self.new ≡ counted self.old (recorded_by stepped.now.done) }
+        ensures accepted { self.new.accepted ≡ self.old.accepted }
+    {
+        let Ok(done) = stepped.done else {
+            return;
+        };
+        if let Receipt::Settled(message)
+        | Receipt::Told(message)
+        | Receipt::Untold(message, _) = done.receipt
+        {
+            self.messages = self.messages.saturating_add(1);
+            self.bytes = self.bytes.saturating_add(message.len as u64);
+        }
+    }
+}

@@ -1,0 +1,97 @@
+//! How a connection ended.
+
+ghost use Rattle.std.specs.Prelude.{◌<◌};
+
+use amqp_endpoint::End;
+use std::fmt::{self, Display, Formatter};
+
+/// How a connection ended.
+#[derive(Clone, Copy, Debug, PartialEq, Eq)]
+pub enum Ending {
+    /// The peer closed it.
+    Closed,
+    /// This side ended it with an error, or refused its header.
+    Failed,
+    /// The input ended between two frames.
+    Between,
+    /// It ended within one.
+    Inside,
+    /// It could not be read.
+    Read,
+    /// It could not be written to.
+    Write,
+    /// A record could not be written.
+    Sink,
+    /// Memory was refused.
+    NoMemory,
+    /// The peer said nothing for too long.
+    Idle,
+    /// The peer took none of its answers for too long.
+    Slow,
+    /// The gateway ended.
+    Stopped,
+}
+
+impl Ending {
+    /// All of them, in the order of [`Ending::place`].
+    pub const ALL: [Ending; 11] = [
+        Ending::Closed,
+        Ending::Failed,
+        Ending::Between,
+        Ending::Inside,
+        Ending::Read,
+        Ending::Write,
+        Ending::Sink,
+        Ending::NoMemory,
+        Ending::Idle,
+        Ending::Slow,
+        Ending::Stopped,
+    ];
+
+    /// How the endpoint stood at the end of its input.
+    pub fn of(end: End) -> Ending {
+        match end {
+            End::Closed => Ending::Closed,
+            End::Failed => Ending::Failed,
+            End::Between => Ending::Between,
+            End::Inside(_) => Ending::Inside,
+        }
+    }
+
+    /// Its place among all.
+    pub fn place(self) -> usize
+        ensures { result < 11 }
+    {
+        match self {
+            Ending::Closed => 0,
+            Ending::Failed => 1,
+            Ending::Between => 2,
+            Ending::Inside => 3,
+            Ending::Read => 4,
+            Ending::Write => 5,
+            Ending::Sink => 6,
+            Ending::NoMemory => 7,
+            Ending::Idle => 8,
+            Ending::Slow => 9,
+            Ending::Stopped => 10,
+        }
+    }
+}
+
+impl Display for Ending {
+    fn fmt<W: fmt::Write>(&self, f: &mut Formatter<W>) -> fmt::Result {
+        f.write_str(match self {
+            Ending::Closed => "Closed",
+            Ending::Failed => "Failed",
+            Ending::Between => "Between",
+            Ending::Inside => "Inside",
+            Ending::Read => "Read",
+            Ending::Write => "Write",
+            Ending::Sink => "Sink",
+            Ending::NoMemory => "NoMemory",
+            Ending::Idle => "Idle",
+            Ending::Slow => "Slow",
+            Ending::Stopped => "Stopped",
+        })
+    }
+}

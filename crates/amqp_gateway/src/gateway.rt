@@ -1,0 +1,670 @@
+//! All peers, turn by turn.
+
+ghost use Rattle.slab.specs.Slab.{slab_len};
+ghost use Rattle.std.specs.Prelude.{◌≡◌, ◌≤◌, ◌^◌, ◌-◌, false, min, IsTrue, IfOk};
+ghost use Rattle.amqp_hub.specs.Turns.{all_held};
+ghost use Rattle.amqp_gateway.specs.Gateways.{IsBegun, IsStopping, IsGoneOn, IsTurned, IsPlaced, MayOpen, is_done, is_last};
+ghost use Rattle.amqp_gateway.specs.Outlets.{IsSettled};
+
+use crate::counts::Counts;
+use crate::ending::Ending;
+use crate::outlet::{Outlet, Progress, Sink};
+use crate::passed::Passed;
+use crate::peer::{Came, Desk, Next, PIECE, Peer};
+use crate::settings::Settings;
+use crate::watcher::Watcher;
+use amqp_endpoint::Config;
+use amqp_hub::Hub;
+use amqp_serve::Rule;
+use mio::event::Event;
+use mio::net::{TcpListener, TcpStream};
+use mio::unix::SourceFd;
+use mio::{Events, Interest, Poll, Token};
+use slab::Slab;
+use std::alloc::{AllocError, Global};
+use std::io::ErrorKind;
+use std::marker::Model;
+use std::mem;
+use std::net::{Net, SocketAddr};
+use std::time::Duration;
+use thiserror::Error;
+
+const LISTENER: usize = usize::MAX;
+
+const INPUT: usize = usize::MAX - 1;
+
+/// So many connections are accepted in a turn, at most.
+const ACCEPTS: usize = 64;
+
+/// How often it is looked whose time is up, in milliseconds.
+const SWEEP: u64 = 250;
+
+/// How often it is tried whether a sink takes records again, in milliseconds.
+const RETRY: u64 = 20;
+
+/// So many events are told at a time.
+const EVENTS: usize = 1024;
+
+/// Why a gateway goes on no more.
+#[derive(Clone, Copy, Debug, PartialEq, Eq, Drop, Error)]
+pub enum GatewayFault {
+    /// The system does not tell which sockets are ready.
+    #[error("Poll")]
+    Poll,
+    /// A record could not be written, or not be brought to the disk.
+    #[error("Sink")]
+    Sink,
+    /// Memory was refused that the gateway itself wants.
+    #[error("NoMemory")]
+    NoMemory,
+}
+
+impl From<AllocError> for GatewayFault {
+    ghost use Rattle.std.specs.Prelude.{◌≡◌};
+    ghost use Rattle.amqp_gateway.specs.declared.gateway.GatewayFault.TheVariants.{NoMemory};
+
+    ghost from_gives = { λ _ e. e ≡ NoMemory };
+
+    fn from(_e: AllocError) -> GatewayFault {
+        GatewayFault::NoMemory
+    }
+}
+
+/// Many peers, served in turn.
+#[derive(Drop)]
+pub struct Gateway<S: Sink + Drop, W: Watcher + Drop> {
+    alloc: Global,
+    settings: Settings,
+    config: Config,
+    rule: Rule,
+    poll: Poll,
+    events: Events,
+    listener: TcpListener,
+    may_accept: bool,
+    peers: Slab<Peer>,
+    desk: Desk<S, W>,
+    /// Whether its records wait for the sink, so that no peer is read.
+    is_stuck: bool,
+    piece: Vec<u8>,
+    now: Vec<usize>,
+    next: Vec<usize>,
+    passed: Passed,
+    swept: u64,
+    has_input: bool,
+    /// Since when it is to end, if it is.
+    stopped: Option<u64>,
+}
+
+impl<S: Sink + Drop, W: Watcher + Drop> Model for Gateway<S, W> {
+    ghost use Rattle.std.specs.Prelude.{◌≡◌, false};
+    ghost use Rattle.slab.specs.Slab.{slab_len};
+    ghost use Rattle.amqp_gateway.specs.Gateways.{GatewayState};
+
+    ghost Value = { GatewayState };
+
+    ghost view = { λ a. record { settings = a.settings; counts = a.desk.counts; members = a.desk.hub.members; outlet = a.desk.outlet; peers = slab_len a.peers; stopped = a.stopped } };
+
+    ghost invariant = { λ a. a.is_stuck ≡ false → a.desk.outlet.written ≡ 0 };
+}
+
+impl<S: Sink + Drop, W: Watcher + Drop> Gateway<S, W> {
+    /// One that accepts peers at a listener, which does not block. Each is served by an endpoint of these settings and this rule.
+    /// Records go to the sink, and the watcher is told of what passes. It is this moment, in milliseconds, from whichever moment they
+    /// are counted.
+    pub fn new<R: Net + AllocGlobal>(
+        rt: &R,
+        listener: TcpListener,
+        config: Config,
+        rule: Rule,
+        settings: Settings,
+        sink: S,
+        watcher: W,
+        now: u64,
+    ) -> Result<Gateway<S, W>, GatewayFault>
+        ensures { IfOk result (λ gateway. IsBegun settings gateway) }
+    {
+        let alloc = rt.alloc();
+        let Ok(poll) = Poll::new(rt) else {
+            return Err(GatewayFault::Poll);
+        };
+        let mut listener = listener;
+        if poll
+            .registry()
+            .register(&mut listener, Token(LISTENER), Interest::READABLE)
+            .is_err()
+        {
+            return Err(GatewayFault::Poll);
+        }
+        Ok(Gateway {
+            alloc,
+            settings,
+            config,
+            rule,
+            poll,
+            events: Events::with_capacity(alloc, EVENTS)?,
+            listener,
+            may_accept: true,
+            peers: Slab::new(alloc),
+            desk: Desk {
+                hub: Hub::new(alloc, settings.peers),
+                watcher,
+                outlet: Outlet::new(alloc, sink),
+                counts: Counts::NONE,
+                record: Vec::new(alloc),
+            },
+            is_stuck: false,
+            piece: Vec::from_elem(alloc, 0, PIECE)?,
+            now: Vec::with_capacity(alloc, settings.peers)?,
+            next: Vec::with_capacity(alloc, settings.peers)?,
+            passed: Passed::new(now),
+            swept: 0,
+            has_input: false,
+            stopped: None,
+        })
+    }
+
+    /// From here on [`Gateway::input_came`] tells when standard input can be read. Called again, it tells again of what is there
+    /// already.
+    ///
+    /// # Errors
+    ///
+    /// `Poll` where the system can't wait for it, as for a file.
+    pub fn watch_input(&mut self) -> Result<(), GatewayFault>
+        ensures { self.new ≡ self.old }
+    {
+        let registry = self.poll.registry();
+        let mut input = SourceFd(&0);
+        if registry
+            .register(&mut input, Token(INPUT), Interest::READABLE)
+            .is_ok()
+        {
+            return Ok(());
+        }
+        match registry.reregister(&mut input, Token(INPUT), Interest::READABLE) {
+            Ok(()) => Ok(()),
+            Err(_) => Err(GatewayFault::Poll),
+        }
+    }
+
+    /// Whether standard input is to be read since this was asked last.
+    pub fn input_came(&mut self) -> bool
+        ensures { self.new ≡ self.old }
+    {
+        mem::replace(&mut self.has_input, false)
+    }
+
+    /// It is to end: no more peers are accepted, and each is closed in the next turn. What waits may go out for the time of grace,
+    /// from the last turn on. Nothing changes where it is to end already.
+    pub fn stop(&mut self)
+        ensures { IsStopping self.old self.new }
+    {
+        if self.stopped.is_none() {
+            self.stopped = Some(self.passed.seen());
+            self.swept = 0;
+        }
+    }
+
+    /// Whether it has ended: all peers are gone, and no more come.
+    pub fn is_done(&self) -> bool
+        ensures { result ≡ is_done self.entry.now }
+    {
+        self.is_last() && self.peers.is_empty()
+    }
+
+    /// Whether no more peers are accepted.
+    fn is_last(&self) -> bool
+        ensures { result ≡ is_last self.entry.now }
+    {
+        let most = self.settings.connections;
+        self.stopped.is_some() || most > 0 && self.desk.counts.accepted >= most
+    }
+
+    /// How many peers there are.
+    pub fn open(&self) -> usize
+        ensures { result ≡ self.entry.now.peers }
+    {
+        self.peers.len()
+    }
+
+    /// What it counted.
+    pub fn counts(&self) -> Counts
+        ensures { result ≡ self.entry.now.counts }
+    {
+        self.desk.counts
+    }
+
+    /// The bytes that the endpoints of all peers hold, and what waits for them and of them. It goes over all of them.
+    pub fn held(&self) -> u64
+        ensures { min (all_held self.entry.now.members) (2 ^ 64 - 1) ≤ result }
+    {
+        let mut sum = self.desk.hub.held();
+        for (_, peer) in self.peers.iter() {
+            sum = sum.saturating_add(peer.held());
+        }
+        sum
+    }
+
+    /// One turn at this moment: takes what ready peers sent, writes their records, and then sends the answers. It waits for nothing,
+    /// but where the sink does. No answer is sent before the record that it answers is written, and on the disk where that is asked.
+    ///
+    /// Once it is to end no peer is accepted, and behind the time of grace all that are left are closed.
+    ///
+    /// # Errors
+    ///
+    /// `Sink` where the sink has failed, or has not taken all within the time of grace: each peer is gone then, and none
+    /// was sent an answer to a record that waits. `NoMemory` where that is refused for the gateway itself.
+    pub fn turn<R: Eprint>(&mut self, rt: &R, now: u64) -> Result<(), GatewayFault>
+        ensures { IsTurned self.old self.new }
+    {
+        if self.is_stuck {
+            self.passed.stand_still(now);
+        } else {
+            self.passed.go_on(now);
+        }
+        self.note_events()?;
+        self.take_all(rt)?;
+        self.answer_all(rt)?;
+        self.look_at_times(rt)
+    }
+
+    /// Accepts peers, and takes what ready ones sent, unless records wait for the sink.
+    fn take_all<R: Eprint>(&mut self, rt: &R) -> Result<(), GatewayFault>
+        ensures { IsTurned self.old self.new }
+    {
+        if !self.is_stuck {
+            self.accept_some(rt)?;
+            mem::swap(&mut self.now, &mut self.next);
+            self.hear_all(rt);
+        }
+        Ok(())
+    }
+
+    /// Ends all that are left behind the time of grace, and looks whose time is up.
+    fn look_at_times<R: Eprint>(&mut self, rt: &R) -> Result<(), GatewayFault>
+        ensures { IsGoneOn self.old self.new }
+    {
+        if self.has_no_grace() {
+            return self.end_stopped(rt);
+        }
+        self.sweep()
+    }
+
+    /// Waits for what comes next, but no longer than so many milliseconds, and not at all where a turn is due.
+    ///
+    /// # Errors
+    ///
+    /// `Poll` where the system does not tell which sockets are ready.
+    pub fn wait(&mut self, most: u64) -> Result<(), GatewayFault>
+        ensures { self.new ≡ self.old }
+    {
+        let millis = self.pause(most);
+        self.passed.wait(millis);
+        match self
+            .poll
+            .poll(&mut self.events, Some(Duration::from_millis(millis)))
+        {
+            Ok(()) => Ok(()),
+            Err(error) if error.kind() == ErrorKind::Interrupted => Ok(()),
+            Err(_) => Err(GatewayFault::Poll),
+        }
+    }
+
+    /// For how many milliseconds it may wait, at most so many.
+    fn pause(&self, most: u64) -> u64
+        ensures { result ≤ most }
+    {
+        if self.is_stuck {
+            most.min(RETRY)
+        } else if !self.next.is_empty() || self.may_open() || self.is_done() {
+            0
+        } else {
+            most.min(SWEEP)
+        }
+    }
+
+    /// Takes note of which sockets are ready.
+    fn note_events(&mut self) -> Result<(), GatewayFault>
+        ensures { self.new ≡ self.old }
+    {
+        let came = note_all(&self.events, &mut self.peers, &mut self.next)?;
+        self.may_accept = self.may_accept || came.listener;
+        self.has_input = self.has_input || came.input;
+        Ok(())
+    }
+
+    /// Whether another peer may be accepted.
+    fn may_open(&self) -> bool
+        ensures { IsTrue result → MayOpen self.entry.now }
+    {
+        self.may_accept && !self.is_last() && self.peers.len() < self.settings.peers
+    }
+
+    fn accept_some<R: Eprint>(&mut self, rt: &R) -> Result<(), GatewayFault>
+        ensures turned { IsTurned self.old self.new }
+        ensures outlet { self.new.outlet ≡ self.old.outlet }
+    {
+        for _ in 0..ACCEPTS {
+            if !self.may_open() {
+                break;
+            }
+            match self.listener.accept() {
+                Ok((stream, address)) => self.open_one(rt, stream, address)?,
+                Err(error) if error.kind() == ErrorKind::Interrupted => {}
+                Err(error) if error.kind() == ErrorKind::ConnectionAborted => {}
+                // None waits; or there are too few descriptors, and it is tried again when a peer ends, and from time to time.
+                Err(_) => self.may_accept = false,
+            }
+        }
+        Ok(())
+    }
+
+    fn open_one<R: Eprint>(
+        &mut self,
+        rt: &R,
+        stream: TcpStream,
+        address: SocketAddr,
+    ) -> Result<(), GatewayFault>
+        requires { MayOpen self.old }
+        ensures turned { IsTurned self.old self.new }
+        ensures outlet { self.new.outlet ≡ self.old.outlet }
+    {
+        self.desk.counts.accepted = self.desk.counts.accepted.saturating_add(1);
+        let number = self.desk.counts.accepted;
+        let _ = eprintln!(rt; "connection {number}: from {address}");
+        let Ok(at) = self.place(number, stream) else {
+            self.note_end(rt, number, Ending::NoMemory);
+            return Ok(());
+        };
+        self.desk.watcher.met(at, number, address);
+        put(&mut self.next, at)?;
+        Ok(())
+    }
+
+    /// Makes a peer of a stream, and answers where it stands.
+    fn place(&mut self, number: u64, stream: TcpStream) -> Result<usize, AllocError>
+        ensures opened { IsPlaced self.old self.new }
+        ensures outlet { self.new.outlet ≡ self.old.outlet }
+    {
+        let config = self.config.copy(self.alloc)?;
+        let Ok(key) = self.desk.hub.open(config, self.rule) else {
+            return Err(AllocError);
+        };
+        let peer = Peer::new(self.alloc, number, key, stream, self.passed.millis());
+        let Ok(at) = self.peers.insert(peer) else {
+            let _ = self.desk.hub.remove(key);
+            return Err(AllocError);
+        };
+        if let Some(peer) = self.peers.get_mut(at) {
+            let _ = peer.queue();
+            if peer.register(self.poll.registry(), at).is_err() {
+                let _ = self.desk.hub.remove(key);
+                let _ = self.peers.try_remove(at);
+                return Err(AllocError);
+            }
+        }
+        Ok(at)
+    }
+
+    /// Takes what each ready peer sent, as long as the records are taken.
+    fn hear_all<R: Eprint>(&mut self, rt: &R)
+        requires { self.old.outlet.written ≡ 0 }
+        ensures { IsGoneOn self.old self.new }
+    {
+        for place in 0..self.now.len() {
+            if let Some(at) = self.now.get(place).copied() {
+                self.hear(rt, at);
+            }
+            if self.desk.outlet.is_full() && self.desk.outlet.write_out() != Progress::Out {
+                self.is_stuck = true;
+                break;
+            }
+        }
+    }
+
+    /// Takes a piece of what a peer sent.
+    fn hear<R: Eprint>(&mut self, rt: &R, at: usize)
+        requires { self.old.outlet.written ≡ 0 }
+        ensures gone_on { IsGoneOn self.old self.new }
+        ensures written { self.new.outlet.written ≡ 0 }
+    {
+        let Some(peer) = self.peers.get_mut(at) else {
+            return;
+        };
+        if peer.may_be_heard() {
+            peer.hear_again(self.alloc, self.passed.millis(), &mut self.desk, rt);
+        }
+        if !peer.may_be_read() {
+            return;
+        }
+        match peer.read(&mut self.piece, self.passed.millis()) {
+            Came::Bytes(count) => {
+                let bytes = self.piece.get(..count).unwrap_or(&[]);
+                peer.keep_first(bytes);
+                peer.hear(self.alloc, bytes, &mut self.desk, rt);
+            }
+            Came::Nothing => {}
+            Came::End => peer.finish(&mut self.desk.hub),
+        }
+    }
+
+    /// Writes the records of the turn, and then the answers to them.
+    fn answer_all<R: Eprint>(&mut self, rt: &R) -> Result<(), GatewayFault>
+        ensures { IsGoneOn self.old self.new }
+    {
+        let progress = self.desk.outlet.settle(self.settings.sync);
+        self.is_stuck = progress != Progress::Out;
+        match progress {
+            Progress::Out => self.send_all(rt),
+            Progress::Stuck => Ok(()),
+            Progress::Failed => {
+                self.end_all(rt, Ending::Sink);
+                Err(GatewayFault::Sink)
+            }
+        }
+    }
+
+    /// Sends the answers of the turn.
+    fn send_all<R: Eprint>(&mut self, rt: &R) -> Result<(), GatewayFault>
+        requires { IsSettled self.old.settings.sync self.old.outlet }
+        ensures { IsGoneOn self.old self.new }
+    {
+        for place in 0..self.now.len() {
+            if let Some(at) = self.now.get(place).copied() {
+                self.send(rt, at)?;
+            }
+        }
+        self.now.clear();
+        Ok(())
+    }
+
+    /// Sends what waits for a peer: no record waits that it may speak of.
+    fn send<R: Eprint>(&mut self, rt: &R, at: usize) -> Result<(), GatewayFault>
+        requires { IsSettled self.old.settings.sync self.old.outlet }
+        ensures gone_on { IsGoneOn self.old self.new }
+        ensures outlet { self.new.outlet ≡ self.old.outlet }
+    {
+        let now = self.passed.millis();
+        let Some(peer) = self.peers.get_mut(at) else {
+            return Ok(());
+        };
+        match peer.send(self.alloc, &self.desk.outlet, self.settings.sync, now) {
+            Next::Turn => put(&mut self.next, at)?,
+            Next::Wait => peer.leave_queue(),
+            Next::Over(ending) => self.remove(rt, at, ending),
+        }
+        Ok(())
+    }
+
+    fn remove<R: Eprint>(&mut self, rt: &R, at: usize, ending: Ending)
+        ensures gone_on { IsGoneOn self.old self.new }
+        ensures outlet { self.new.outlet ≡ self.old.outlet }
+    {
+        let Some(mut peer) = self.peers.try_remove(at) else {
+            return;
+        };
+        peer.leave(&mut self.desk.hub);
+        self.desk.watcher.ended(at, ending, peer.end());
+        self.may_accept = true; // an accept that failed for want of a descriptor is tried again
+        self.note_end(rt, peer.number(), ending);
+    }
+
+    fn note_end<R: Eprint>(&mut self, rt: &R, number: u64, ending: Ending)
+        ensures gone_on { IsGoneOn self.old self.new }
+        ensures peers { self.new.peers ≡ self.old.peers }
+        ensures outlet { self.new.outlet ≡ self.old.outlet }
+    {
+        self.desk.counts.end(ending);
+        let _ = eprintln!(rt; "connection {number}: {ending}");
+    }
+
+    /// Whether it is to end, and the time of grace is over.
+    fn has_no_grace(&self) -> bool {
+        match self.stopped {
+            Some(since) => self.passed.seen().saturating_sub(since) >= self.settings.grace,
+            None => false,
+        }
+    }
+
+    /// Ends all that are left behind the time of grace.
+    fn end_stopped<R: Eprint>(&mut self, rt: &R) -> Result<(), GatewayFault>
+        ensures { IsGoneOn self.old self.new }
+    {
+        let is_settled = self.desk.outlet.is_settled(self.settings.sync);
+        self.end_all(rt, Ending::Stopped);
+        if is_settled {
+            Ok(())
+        } else {
+            Err(GatewayFault::Sink)
+        }
+    }
+
+    /// Looks whose time is up.
+    fn sweep(&mut self) -> Result<(), GatewayFault>
+        ensures { IsGoneOn self.old self.new }
+    {
+        let now = self.passed.millis();
+        if self.is_stuck || now < self.swept {
+            return Ok(());
+        }
+        self.swept = now.saturating_add(SWEEP);
+        self.may_accept = true;
+        for at in 0..self.peers.capacity() {
+            self.judge(at, now)?;
+        }
+        Ok(())
+    }
+
+    fn judge(&mut self, at: usize, now: u64) -> Result<(), GatewayFault>
+        ensures { IsGoneOn self.old self.new }
+    {
+        let Some(peer) = self.peers.get_mut(at) else {
+            return Ok(());
+        };
+        let Desk { hub, watcher, .. } = &mut self.desk;
+        let mut speaks = false;
+        if self.stopped.is_some() {
+            peer.close(hub, watcher, Ending::Stopped);
+            speaks = true;
+        }
+        let Settings { idle, slow, .. } = self.settings;
+        speaks = peer.judge(hub, watcher, now, idle, slow) || speaks;
+        if speaks && peer.queue() {
+            put(&mut self.next, at)?;
+        }
+        Ok(())
+    }
+
+    /// Ends all peers, as a gateway does that goes on no more, and waits for none. Where no records wait each is told by a close.
+    pub fn end_all<R: Eprint>(&mut self, rt: &R, ending: Ending)
+        ensures { IsGoneOn self.old self.new }
+    {
+        for at in 0..self.peers.capacity() {
+            self.end_one(rt, at, ending);
+        }
+        self.now.clear();
+        self.next.clear();
+    }
+
+    /// Closes one, and waits for nothing. Where records wait it is left without a word, since its answers may speak of them.
+    fn end_one<R: Eprint>(&mut self, rt: &R, at: usize, ending: Ending)
+        ensures gone_on { IsGoneOn self.old self.new }
+        ensures outlet { self.new.outlet ≡ self.old.outlet }
+    {
+        let Some(peer) = self.peers.get_mut(at) else {
+            return;
+        };
+        let Desk {
+            hub,
+            watcher,
+            outlet,
+            ..
+        } = &mut self.desk;
+        let sync = self.settings.sync;
+        if !outlet.is_settled(sync) {
+            let how = peer.ending().unwrap_or(ending);
+            return self.remove(rt, at, how);
+        }
+        peer.close(hub, watcher, ending);
+        let how = match peer.send(self.alloc, outlet, sync, self.passed.millis()) {
+            Next::Over(how) => how,
+            _ => ending,
+        };
+        self.remove(rt, at, how);
+    }
+}
+
+/// What became ready besides peers.
+#[derive(Clone, Copy)]
+struct Besides {
+    listener: bool,
+    input: bool,
+}
+
+/// Puts the peers that are ready into a queue. Answers what else is.
+fn note_all(
+    events: &Events,
+    peers: &mut Slab<Peer>,
+    next: &mut Vec<usize>,
+) -> Result<Besides, GatewayFault>
+    ensures { slab_len peers.new ≡ slab_len peers.old }
+{
+    let mut besides = Besides {
+        listener: false,
+        input: false,
+    };
+    for event in events {
+        match event.token().0 {
+            LISTENER => besides.listener = true,
+            INPUT => besides.input = true,
+            at => note_peer(event, at, peers, next)?,
+        }
+    }
+    Ok(besides)
+}
+
+/// Puts a peer that is ready into a queue, unless it stands there.
+fn note_peer(
+    event: &Event,
+    at: usize,
+    peers: &mut Slab<Peer>,
+    next: &mut Vec<usize>,
+) -> Result<(), GatewayFault>
+    ensures { slab_len peers.new ≡ slab_len peers.old }
+{
+    let Some(peer) = peers.get_mut(at) else {
+        return Ok(());
+    };
+    peer.note(event);
+    if peer.queue() {
+        put(next, at)?;
+    }
+    Ok(())
+}
+
+/// Puts a peer behind the others of a queue.
+fn put(queue: &mut Vec<usize>, at: usize) -> Result<(), GatewayFault> {
+    match queue.push(at) {
+        Ok(()) => Ok(()),
+        Err(_) => Err(GatewayFault::NoMemory),
+    }
+}

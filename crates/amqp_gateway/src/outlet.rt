@@ -1,0 +1,241 @@
+//! Where the records of all peers go.
+
+ghost use Rattle.std.specs.Prelude.{◌≡◌, ◌≢◌, ◌<◌, ◌^◌, ◌↔◌, [], List, true, false, length, drop, None, IsTrue, IfSome, OnOk, OnErr};
+ghost use Rattle.std.specs.Io.KnownBytes.{Keeps};
+ghost use Rattle.amqp_records.specs.Blocks.{Block, AreBlocks, with_records};
+ghost use Rattle.amqp_gateway.specs.Outlets.{IsSettled, WritesOn, waiting, WhereOut, has_failed_by};
+
+use amqp_records::Blocks;
+use std::alloc::{AllocError, Global};
+use std::io::{self, ErrorKind, Write};
+use std::marker::Model;
+
+/// Where records go.
+pub trait Sink: Write {
+    /// Brings what was written to the disk.
+    fn sync(&mut self) -> io::Result<()>
+        ensures { Keeps (Self.contents self.old) (Self.contents self.new) };
+}
+
+/// A writer that has no disk.
+#[derive(Drop)]
+pub struct Unsynced<W>(pub W);
+
+impl<W: Write> Write for Unsynced<W> {
+    fn write(&mut self, buf: &[u8]) -> io::Result<usize> {
+        self.0.write(buf)
+    }
+
+    fn flush(&mut self) -> io::Result<()> {
+        self.0.flush()
+    }
+}
+
+impl<W: Write> Sink for Unsynced<W> {
+    fn sync(&mut self) -> io::Result<()> {
+        Ok(())
+    }
+}
+
+/// Once so many bytes of records wait they are written, also in the middle of a turn.
+const MOST: usize = 262_144;
+
+/// How far writing has come.
+#[derive(Clone, Copy, Debug, PartialEq, Eq)]
+pub enum Progress {
+    /// All that waited was written.
+    Out,
+    /// The sink takes nothing now.
+    Stuck,
+    /// It has failed, and takes nothing any more.
+    Failed,
+}
+
+/// The records that wait, and the sink.
+#[derive(Drop)]
+pub struct Outlet<S: Sink + Drop> {
+    sink: S,
+    alloc: Global,
+    blocks: Blocks,
+    /// So many bytes of the blocks were written.
+    written: usize,
+    /// Whether something was written that was not synced.
+    is_fresh: bool,
+    has_failed: bool,
+}
+
+impl<S: Sink + Drop> Model for Outlet<S> {
+    ghost use Rattle.amqp_gateway.specs.Outlets.{OutletState};
+
+    ghost Value = { OutletState };
+
+    ghost view = { λ a. record { sink = S.contents a.sink; blocks = a.blocks; written = a.written; is_fresh = a.is_fresh; has_failed = a.has_failed } };
+}
+
+impl<S: Sink + Drop> Outlet<S> {
+    pub fn new(alloc: Global, sink: S) -> Outlet<S>
+        ensures { IsSettled true result }
+    {
+        Outlet {
+            sink,
+            alloc,
+            blocks: Blocks::new(alloc),
+            written: 0,
+            is_fresh: false,
+            has_failed: false,
+        }
+    }
+
+    /// Puts records of a peer behind those that wait, of which none has begun to be written: the size of a block that has can't
+    /// change any more.
+    pub fn put(&mut self, number: u64, records: &[u8]) -> Result<(), AllocError>
+        requires { self.old.written ≡ 0 }
+        ensures written { self.new.written ≡ 0 }
+        ensures put { (blocks : List Block) → AreBlocks self.old.blocks blocks → records.now ≢ [] → OnOk result (AreBlocks self.new.blocks (with_records (record { number = number; records = records.now }) blocks)) }
+        ensures none { records.now ≡ [] → self.new.blocks ≡ self.old.blocks }
+        ensures err { OnErr result (self.new.blocks ≡ self.old.blocks) }
+        ensures fresh { self.new.is_fresh ≡ self.old.is_fresh }
+        ensures failed { self.new.has_failed ≡ self.old.has_failed }
+    {
+        if records.is_empty() {
+            return Ok(());
+        }
+        if records.len() > u32::MAX as usize {
+            return Err(AllocError);
+        }
+        self.blocks.put(number, records)
+    }
+
+    /// Whether so much waits that it is to be written.
+    pub fn is_full(&self) -> bool {
+        self.blocks.as_bytes().len().saturating_sub(self.written) >= MOST
+    }
+
+    /// Whether nothing waits, and, where that is asked, all is on the disk.
+    pub fn is_settled(&self, sync: bool) -> bool
+        ensures { IsTrue result ↔ IsSettled sync self.now }
+    {
+        self.blocks.as_bytes().is_empty()
+            && self.written == 0
+            && !(sync && self.is_fresh)
+            && !self.has_failed
+    }
+
+    /// Writes what waits, and brings it to the disk where that is asked. `Out` is that nothing waits any more.
+    pub fn settle(&mut self, sync: bool) -> Progress
+        ensures stays { self.old.has_failed ≡ true → (result ≡ Progress.Failed) × (self.new ≡ self.old) }
+        ensures went { WritesOn self.old self.new }
+        ensures out { WhereOut result (IsSettled sync self.new) }
+        ensures failed { self.new.has_failed ≡ has_failed_by result }
+    {
+        match self.write_out() {
+            Progress::Out if sync => self.sync(),
+            progress => progress,
+        }
+    }
+
+    /// Writes what waits, without bringing it to the disk.
+    #[tactic(auto, using(crate::proofs::Outs::on_here))]
+    pub fn write_out(&mut self) -> Progress
+        ensures stays { self.old.has_failed ≡ true → (result ≡ Progress.Failed) × (self.new ≡ self.old) }
+        ensures went { WritesOn self.old self.new }
+        ensures out { WhereOut result ((self.new.blocks.bytes ≡ []) × (self.new.written ≡ 0)) }
+        ensures failed { self.new.has_failed ≡ has_failed_by result }
+    {
+        if self.has_failed {
+            return Progress::Failed;
+        }
+        for _ in 0..u64::MAX {
+            match self.write_once() {
+                Some(progress) => return progress,
+                None => {}
+            }
+        }
+        Progress::Stuck
+    }
+
+    /// Writes once of what waits, or says that it can't go on.
+    #[tactic(auto, using(crate::proofs::Outs::on_here, crate::proofs::Outs::on_still, crate::proofs::Outs::on_flushed, crate::proofs::Outs::on_more))]
+    fn write_once(&mut self) -> Option<Progress>
+        requires { self.old.has_failed ≡ false }
+        ensures went { WritesOn self.old self.new }
+        ensures goes_on { result ≡ None → self.new.has_failed ≡ false }
+        ensures out { IfSome result (λ progress. WhereOut progress ((self.new.blocks.bytes ≡ []) × (self.new.written ≡ 0))) }
+        ensures failed { IfSome result (λ progress. self.new.has_failed ≡ has_failed_by progress) }
+    {
+        let rest = rest_of(&self.blocks, self.written);
+        if rest.is_empty() {
+            return Some(self.flush());
+        }
+        match self.sink.write(rest) {
+            Ok(0) => Some(self.fail()),
+            Ok(count) => {
+                self.written = self.written.saturating_add(count);
+                self.is_fresh = true;
+                None
+            }
+            Err(error) if error.kind() == ErrorKind::WouldBlock => Some(Progress::Stuck),
+            Err(error) if error.kind() == ErrorKind::Interrupted => None,
+            Err(_) => Some(self.fail()),
+        }
+    }
+
+    /// Brings what was written to the disk, where something was since the last time.
+    fn sync(&mut self) -> Progress
+        requires { self.old.has_failed ≡ false }
+        ensures bytes { self.new.blocks ≡ self.old.blocks }
+        ensures written { self.new.written ≡ self.old.written }
+        ensures kept { Keeps self.old.sink self.new.sink }
+        ensures out { WhereOut result (self.new.is_fresh ≡ false) }
+        ensures failed { self.new.has_failed ≡ has_failed_by result }
+    {
+        if !self.is_fresh {
+            return Progress::Out;
+        }
+        match self.sink.sync() {
+            Ok(()) => {
+                self.is_fresh = false;
+                Progress::Out
+            }
+            Err(_) => self.fail(),
+        }
+    }
+
+    /// All that waited was written. Where it was much its memory is given back.
+    fn flush(&mut self) -> Progress
+        requires { self.old.has_failed ≡ false }
+        ensures bytes { self.new.blocks.bytes ≡ [] }
+        ensures written { self.new.written ≡ 0 }
+        ensures kept { Keeps self.old.sink self.new.sink }
+        ensures failed { self.new.has_failed ≡ has_failed_by result }
+    {
+        if self.written > MOST {
+            self.blocks = Blocks::new(self.alloc);
+        } else {
+            self.blocks.clear();
+        }
+        self.written = 0;
+        match self.sink.flush() {
+            Ok(()) => Progress::Out,
+            Err(error) if error.kind() == ErrorKind::WouldBlock => Progress::Stuck,
+            Err(error) if error.kind() == ErrorKind::Interrupted => Progress::Stuck,
+            Err(_) => self.fail(),
+        }
+    }
+
+    fn fail(&mut self) -> Progress
+        ensures result { result ≡ Progress.Failed }
+        ensures failed { self.new ≡ record self.old { has_failed = true } }
+    {
+        self.has_failed = true;
+        Progress::Failed
+    }
+}
+
+/// What of blocks is still to be written, where so many bytes of them were.
+fn rest_of(blocks: &Blocks, written: usize) -> &[u8]
+    ensures rest { result.now ≡ drop written blocks.now.bytes }
+    ensures fits { length blocks.now.bytes < 2 ^ 64 }
+{
+    blocks.as_bytes().get(written..).unwrap_or(&[])
+}

@@ -1,0 +1,8 @@
+//! Tests of `amqp_gateway` that play peers and gateway by turns, over sockets of this machine. They stand apart, since a crate is
+//! proved again with its tests. The library itself is empty.
+#![tactic(auto)]
+
+#[cfg(test)]
+mod scene;
+#[cfg(test)]
+mod turns;

@@ -1,0 +1,281 @@
+//! A gateway with its log and its sink, whose time passes as a test wants.
+
+use amqp_endpoint::Config;
+use amqp_gateway::{Gateway, GatewayFault, Settings, Sink, Unwatched, link_most, peer_most};
+use amqp_perform::Outcome;
+use amqp_serve::Rule;
+use mio::net::TcpListener;
+use std::alloc::Global;
+use std::cell::RefCell;
+use std::fmt::Display;
+use std::io::{self, ErrorKind, Read, Write};
+use std::net::{self, Ipv4Addr, SocketAddr, TcpStream};
+use std::test::Fail;
+
+/// The peer's header, open, begin and attach, two deliveries in one transfer each, and a close.
+pub const STREAM: &[u8] =
+    b"\x41\x4d\x51\x50\x00\x01\x00\x00\x00\x00\x00\x11\x02\x00\x00\x00\x00\x53\x10\xc0\x04\x01\xa1\x01\x61\x00\x00\x00\x14\x02\x00\x00\x00\x00\x53\x11\xc0\x07\x04\x40\x43\x52\x64\x52\x64\x00\x00\x00\x20\x02\x00\x00\x00\x00\x53\x12\xc0\x13\x0a\xa1\x01\x6c\x43\x42\x40\x40\x00\x53\x28\x45\x00\x53\x29\x45\x40\x40\x43\x00\x00\x00\x14\x02\x00\x00\x00\x00\x53\x14\xc0\x06\x03\x43\x43\xa0\x01\x74\x78\x00\x00\x00\x15\x02\x00\x00\x00\x00\x53\x14\xc0\x07\x03\x43\x52\x01\xa0\x01\x74\x78\x00\x00\x00\x0c\x02\x00\x00\x00\x00\x53\x18\x45";
+
+/// How many of its bytes stand in front of the deliveries, and in front of the close.
+pub const ATTACHED: usize = 77;
+
+pub const DELIVERED: usize = 118;
+
+/// And behind the first delivery.
+pub const FIRST: usize = 97;
+
+/// The records of both deliveries, as `recv` writes them.
+pub const RECORDS: &[u8] =
+    b"\x00\x00\x00\x00\x00\x00\x00\x00\x00\x00\x00\x00\x00\x00\x00\x00\x00\x01\x78\x00\x00\x00\x00\x00\x00\x00\x00\x00\x01\x00\x00\x00\x00\x00\x00\x00\x01\x78";
+
+/// A close without an error.
+pub const CLOSE: &[u8] = b"\x00\x00\x00\x0c\x02\x00\x00\x00\x00\x53\x18\x45";
+
+/// With which a disposition begins, and the end of each record.
+pub const DISPOSITION: &[u8] = b"\x00\x53\x15";
+
+pub const RECORD: &[u8] = b"\x00\x00\x00\x01x";
+
+/// An empty frame.
+pub const EMPTY: &[u8] = b"\x00\x00\x00\x08\x02\x00\x00\x00";
+
+/// What was said on standard error.
+#[derive(Drop)]
+pub struct Log {
+    text: RefCell<String>,
+    alloc: Global,
+}
+
+impl Log {
+    pub fn new(alloc: Global) -> Log {
+        Log {
+            text: RefCell::new(String::new(alloc)),
+            alloc,
+        }
+    }
+
+    /// How many lines end so.
+    pub fn count(&self, end: &str) -> usize {
+        let Ok(text) = self.text.try_borrow() else {
+            return 0;
+        };
+        let mut count = 0usize;
+        for line in text.as_str().split('\n') {
+            if line.ends_with(end) {
+                count = count.saturating_add(1);
+            }
+        }
+        count
+    }
+
+    fn append<D: Display + Drop>(&self, value: D, end: &str) -> io::Result<()> {
+        let line = format!(in self.alloc; "{value}{end}")?;
+        match self.text.try_borrow_mut() {
+            Ok(mut text) => Ok(text.push_str(line.as_str())?),
+            Err(_) => Err(io::Error::from(ErrorKind::Other)),
+        }
+    }
+}
+
+impl Eprint for Log {
+    fn eprint<D: Display + Drop>(&self, value: D) -> io::Result<()> {
+        self.append(value, "")
+    }
+
+    fn eprintln<D: Display + Drop>(&self, value: D) -> io::Result<()> {
+        self.append(value, "\n")
+    }
+}
+
+/// How a sink takes what it is given.
+#[derive(Clone, Copy, Debug, PartialEq, Eq)]
+pub enum Taking {
+    All,
+    /// Nothing now.
+    Nothing,
+    /// It fails.
+    Failing,
+    /// What is written, but it fails to bring it to the disk.
+    Unsynced,
+}
+
+/// What a sink was given.
+#[derive(Drop)]
+pub struct Store {
+    pub bytes: Vec<u8>,
+    pub syncs: usize,
+    pub taking: Taking,
+    /// How many bytes it takes before it takes nothing.
+    pub room: usize,
+    /// How many writes and syncs it takes before it fails.
+    pub calls: usize,
+}
+
+impl Store {
+    pub fn new(alloc: Global) -> Store {
+        Store {
+            bytes: Vec::new(alloc),
+            syncs: 0,
+            taking: Taking::All,
+            room: usize::MAX,
+            calls: usize::MAX,
+        }
+    }
+
+    /// One call more; whether it fails.
+    fn fails(&mut self) -> bool {
+        let fails = self.calls == 0;
+        self.calls = self.calls.saturating_sub(1);
+        fails
+    }
+}
+
+/// A sink into a store that the test looks at.
+#[derive(Drop)]
+pub struct Shared<'a>(pub &'a RefCell<Store>);
+
+impl Write for Shared<'_> {
+    fn write(&mut self, buf: &[u8]) -> io::Result<usize> {
+        let Ok(mut store) = self.0.try_borrow_mut() else {
+            return Err(io::Error::from(ErrorKind::Other));
+        };
+        match store.taking {
+            Taking::Nothing => Err(io::Error::from(ErrorKind::WouldBlock)),
+            Taking::Failing => Err(io::Error::from(ErrorKind::BrokenPipe)),
+            Taking::All | Taking::Unsynced => {
+                if store.fails() {
+                    return Err(io::Error::from(ErrorKind::Other));
+                }
+                let count = buf.len().min(store.room);
+                if count == 0 {
+                    return Err(io::Error::from(ErrorKind::WouldBlock));
+                }
+                store
+                    .bytes
+                    .extend_from_slice(buf.get(..count).unwrap_or(&[]))?;
+                store.room = store.room.saturating_sub(count);
+                Ok(count)
+            }
+        }
+    }
+
+    fn flush(&mut self) -> io::Result<()> {
+        Ok(())
+    }
+}
+
+impl Sink for Shared<'_> {
+    fn sync(&mut self) -> io::Result<()> {
+        let Ok(mut store) = self.0.try_borrow_mut() else {
+            return Err(io::Error::from(ErrorKind::Other));
+        };
+        store.syncs = store.syncs.saturating_add(1);
+        if store.fails() {
+            return Err(io::Error::from(ErrorKind::Other));
+        }
+        match store.taking {
+            Taking::Unsynced => Err(io::Error::from(ErrorKind::Other)),
+            _ => Ok(()),
+        }
+    }
+}
+
+const SETTINGS: Settings = Settings {
+    peers: 0,
+    connections: 0,
+    idle: 10_000,
+    slow: 3_000,
+    grace: 2_000,
+    sync: true,
+};
+
+/// A gateway, at a moment.
+#[derive(Drop)]
+pub struct Scene<'a> {
+    pub gateway: Gateway<Shared<'a>, Unwatched>,
+    pub log: Log,
+    /// What a peer holds at most.
+    pub bound: u64,
+    address: SocketAddr,
+    now: u64,
+}
+
+impl<'a> Scene<'a> {
+    /// One with so many peers at a time.
+    pub fn new(
+        rt: &HostRuntime,
+        store: &'a RefCell<Store>,
+        open: usize,
+    ) -> Result<Scene<'a>, Fail> {
+        let alloc = rt.alloc();
+        let listener = net::TcpListener::bind(rt, SocketAddr::from((Ipv4Addr::LOCALHOST, 0)))?;
+        let address = listener.local_addr()?;
+        listener.set_nonblocking(true)?;
+        let name = String::from_str(alloc, "r")?;
+        let config = Config::checked(name, 512, 0, 1, 4, 100, 100).ok_or("no such settings")?;
+        let bound = peer_most(&config, link_most(config.bounds()));
+        let rule = Rule {
+            credit: 4,
+            mark: 2,
+            outcome: Outcome::Accepted,
+        };
+        let listener = TcpListener::from_std(listener);
+        let settings = Settings {
+            peers: open,
+            ..SETTINGS
+        };
+        let gateway = Gateway::new(
+            rt,
+            listener,
+            config,
+            rule,
+            settings,
+            Shared(store),
+            Unwatched,
+            0,
+        );
+        Ok(Scene {
+            gateway: gateway.ok().ok_or("no gateway")?,
+            log: Log::new(alloc),
+            bound,
+            address,
+            now: 0,
+        })
+    }
+
+    /// A peer that has sent these bytes.
+    pub fn peer(&self, rt: &HostRuntime, bytes: &[u8]) -> io::Result<TcpStream> {
+        let mut stream = TcpStream::connect(rt, self.address)?;
+        stream.set_nodelay(true)?;
+        stream.write_all(bytes)?;
+        Ok(stream)
+    }
+
+    /// So many turns, each so many milliseconds behind the last one.
+    pub fn turns(&mut self, count: u32, millis: u64) -> Result<(), GatewayFault> {
+        for _ in 0..count {
+            self.now = self.now.saturating_add(millis);
+            self.gateway.turn(&self.log, self.now)?;
+            self.gateway.wait(5)?;
+        }
+        Ok(())
+    }
+}
+
+/// How often these stand among some bytes.
+pub fn times(bytes: &[u8], these: &[u8]) -> usize {
+    let mut times = 0usize;
+    for piece in bytes.windows(these.len().max(1)) {
+        if piece == these {
+            times = times.saturating_add(1);
+        }
+    }
+    times
+}
+
+/// All that a peer is sent, up to the end.
+pub fn received(alloc: Global, stream: &mut TcpStream) -> io::Result<Vec<u8>> {
+    let mut bytes = Vec::new(alloc);
+    stream.read_to_end(&mut bytes)?;
+    Ok(bytes)
+}
