@@ -1,8 +1,11 @@
-/* receiver PORT CREDIT: the receiver that `amqp recv` is compared with, on Qpid Proton's C library, without SASL and TLS.
+/* receiver PORT CREDIT [PEERS]: the receiver that `amqp recv` is compared with, and with PEERS `amqp gateway`, on Qpid Proton's C library,
+ * without SASL and TLS.
  *
- * It serves one connection, keeps each link at so much credit, accepts and settles each message, and does what `amqp recv` does of its
+ * It serves one connection, or with PEERS so many at a time until all have ended, keeps each link at so much credit, accepts and settles each message, and does what `amqp recv` does of its
  * standard output: a record of each message (channel 2 bytes, handle, delivery-id, message-format and length 4 each, big-endian, then
  * the message), through a buffer of 64 KiB that is flushed behind each batch of events, before the answers of that batch are written.
+ * With PEERS the records of a batch, which are one connection's, are a block, as `amqp gateway` writes them: its number (8 bytes), the
+ * length of the records (4 bytes), and they.
  * On standard error stand "listening" once it listens, and at the end how many messages came. */
 #include <proton/connection.h>
 #include <proton/delivery.h>
@@ -13,12 +16,17 @@
 #include <proton/transport.h>
 #include <stdio.h>
 #include <stdlib.h>
+#include <string.h>
 
 static struct {
     int credit;
+    unsigned long peers, opened, ended;
     unsigned long messages;
     char *message;
     size_t room;
+    /* with PEERS: the records of the batch */
+    char *block;
+    size_t length, most;
 } receiving;
 
 static void put(unsigned char *at, unsigned long number, int bytes) {
@@ -32,8 +40,30 @@ static void record(const char *message, size_t length) {
     unsigned char head[18] = {0};
     put(head + 6, receiving.messages, 4);
     put(head + 14, length, 4);
+    if (!receiving.peers) {
+        fwrite(head, 1, sizeof head, stdout);
+        fwrite(message, 1, length, stdout);
+        return;
+    }
+    size_t end = receiving.length + sizeof head + length;
+    if (end > receiving.most) {
+        receiving.most = 2 * end;
+        receiving.block = realloc(receiving.block, receiving.most);
+        if (!receiving.block) exit(1);
+    }
+    memcpy(receiving.block + receiving.length, head, sizeof head);
+    memcpy(receiving.block + receiving.length + sizeof head, message, length);
+    receiving.length = end;
+}
+
+static void end_block(pn_connection_t *connection) {
+    if (!receiving.length) return;
+    unsigned char head[12];
+    put(head, connection ? (unsigned long)pn_connection_get_context(connection) : 0, 8);
+    put(head + 8, receiving.length, 4);
     fwrite(head, 1, sizeof head, stdout);
-    fwrite(message, 1, length, stdout);
+    fwrite(receiving.block, 1, receiving.length, stdout);
+    receiving.length = 0;
 }
 
 static void take(pn_delivery_t *delivery) {
@@ -62,6 +92,7 @@ static void open_link(pn_link_t *link) {
 }
 
 static void open_connection(pn_connection_t *connection) {
+    pn_connection_set_context(connection, (void *)++receiving.opened);
     pn_connection_set_container(connection, "receiver");
     pn_connection_open(connection);
 }
@@ -84,30 +115,36 @@ static void act_on(pn_event_t *event, pn_listener_t *listener) {
     case PN_LINK_REMOTE_CLOSE: pn_link_close(pn_event_link(event)); break;
     case PN_SESSION_REMOTE_CLOSE: pn_session_close(pn_event_session(event)); break;
     case PN_CONNECTION_REMOTE_CLOSE: pn_connection_close(pn_event_connection(event)); break;
-    case PN_TRANSPORT_CLOSED: pn_listener_close(listener); break;
+    case PN_TRANSPORT_CLOSED:
+        if (++receiving.ended >= receiving.peers) pn_listener_close(listener);
+        break;
     default: break;
     }
 }
 
 int main(int argc, char **argv) {
-    if (argc != 3) {
-        fprintf(stderr, "usage: receiver PORT CREDIT\n");
+    if (argc != 3 && argc != 4) {
+        fprintf(stderr, "usage: receiver PORT CREDIT [PEERS]\n");
         return 2;
     }
+    if (argc == 4) receiving.peers = strtoul(argv[3], NULL, 10);
     char address[64];
     snprintf(address, sizeof address, "127.0.0.1:%s", argv[1]);
     receiving.credit = atoi(argv[2]);
     setvbuf(stdout, NULL, _IOFBF, 65536);
     pn_proactor_t *proactor = pn_proactor();
     pn_listener_t *listener = pn_listener();
-    pn_proactor_listen(proactor, listener, address, 16);
+    pn_proactor_listen(proactor, listener, address, receiving.peers > 16 ? receiving.peers : 16);
     for (int is_over = 0; !is_over;) {
         pn_event_batch_t *batch = pn_proactor_wait(proactor);
         pn_event_t *event;
+        pn_connection_t *connection = NULL;
         while ((event = pn_event_batch_next(batch))) {
             if (pn_event_type(event) == PN_PROACTOR_INACTIVE) is_over = 1;
+            if (pn_event_connection(event)) connection = pn_event_connection(event);
             act_on(event, listener);
         }
+        end_block(connection);
         fflush(stdout);
         pn_proactor_done(proactor, batch);
     }

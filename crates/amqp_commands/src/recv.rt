@@ -5,11 +5,13 @@ ghost use Rattle.amqp_frame.specs.Devices.{has_failed};
 use amqp_endpoint::{Config, End, Endpoint};
 use amqp_frame::Device;
 use amqp_serve::{Policy, ServeFault, serve_watched};
-use amqp_trace::{Host, Trace, TracedReader, TracedWriter};
+use amqp_trace::{Cause, Host, Trace, TracedReader, TracedWriter};
 use std::alloc::{AllocError, Global};
+use std::cell::Cell;
 use std::fmt::{self, Display, Formatter};
-use std::io::{BufReader, BufWriter, Read, Write};
+use std::io::{self, BufReader, BufWriter, ErrorKind, Read, Write};
 use std::net::{OpenListener, OpenStream, SocketAddr};
+use std::time::Duration;
 
 /// How many bytes are read from a socket at once, but for the rest of a longer frame, and how many are written to one, or of
 /// records to standard output.
@@ -34,6 +36,8 @@ enum Ending {
     Sink,
     /// Memory was refused.
     NoMemory,
+    /// The peer said nothing, or took nothing, for too long.
+    Idle,
 }
 
 impl Display for Ending {
@@ -47,12 +51,13 @@ impl Display for Ending {
             Ending::Write => "Write",
             Ending::Sink => "Sink",
             Ending::NoMemory => "NoMemory",
+            Ending::Idle => "Idle",
         })
     }
 }
 
-/// How a connection was served, by the answer of `serve`.
-fn ending_of(served: Result<End, ServeFault>) -> Ending
+/// How a connection was served, by the answer of `serve`, and whether its socket was waited for in vain.
+fn ending_of(served: Result<End, ServeFault>, is_idle: bool) -> Ending
     ensures { (result ≡ Ending.Sink) ↔ (served ≡ Err ServeFault.Sink) }
 {
     match served {
@@ -60,6 +65,7 @@ fn ending_of(served: Result<End, ServeFault>) -> Ending
         Ok(End::Failed) => Ending::Failed,
         Ok(End::Between) => Ending::Between,
         Ok(End::Inside(_)) => Ending::Inside,
+        Err(ServeFault::Read | ServeFault::Write) if is_idle => Ending::Idle,
         Err(ServeFault::Read) => Ending::Read,
         Err(ServeFault::Write) => Ending::Write,
         Err(ServeFault::Sink) => Ending::Sink,
@@ -69,14 +75,15 @@ fn ending_of(served: Result<End, ServeFault>) -> Ending
 
 /// Accepts so many connections, one after the other, and serves each by an endpoint of its own that is set up with
 /// `config`. The records of messages go to `sink`, and a line for each connection to `log`, whose failures are passed over:
-/// `connection K: ` and how it was served. What passes is told to a trace, if there is one. Behind a failure of the sink no
-/// more is accepted. True where each of them was closed by its peer.
+/// `connection K: ` and how it was served. A peer whose socket gives or takes nothing for `idle` is left, if that is said. What passes is
+/// told to a trace, if there is one. Behind a failure of the sink no more is accepted. True where each of them was closed by its peer.
 pub fn recv_on<L: OpenListener, S: Write + Drop, W: Write + Drop, H: Host + Drop>(
     alloc: Global,
     listener: &L,
     config: &Config,
     policy: Policy,
     connections: u32,
+    idle: Option<Duration>,
     sink: &mut Device<S>,
     log: &impl Eprint,
     trace: Option<&Trace<W, H>>,
@@ -88,13 +95,18 @@ where
     let mut all_closed = true;
     for number in 1..=connections {
         if let Some(trace) = trace {
-            trace.begin(number);
+            trace.begin(u64::from(number));
         }
-        let served = serve_next(alloc, listener, config, policy, sink, trace);
+        let patience = Patience::new(idle);
+        let served = serve_next(alloc, listener, config, policy, &patience, sink, trace);
+        let told = ending_of(served, patience.is_over());
         if let Some(trace) = trace {
-            trace.end(served);
+            match (told, served) {
+                (Ending::Idle, Err(ServeFault::Write)) => trace.give_up(Cause::Deaf),
+                (Ending::Idle, _) => trace.give_up(Cause::Idle),
+                _ => trace.end(served),
+            }
         }
-        let told = ending_of(served);
         let _ = eprintln!(log; "connection {number}: {told}");
         if told != Ending::Closed {
             all_closed = false;
@@ -106,19 +118,75 @@ where
     all_closed
 }
 
+/// For how long the socket of a peer is waited for, if not for ever, and whether one was waited for in vain.
+#[derive(Drop)]
+struct Patience {
+    limit: Option<Duration>,
+    is_over: Cell<bool>,
+}
+
+impl Patience {
+    fn new(limit: Option<Duration>) -> Patience {
+        Patience {
+            limit,
+            is_over: Cell::new(false),
+        }
+    }
+
+    fn is_over(&self) -> bool {
+        self.is_over.get()
+    }
+
+    /// Notes an answer of the socket.
+    fn note(&self, answer: &io::Result<usize>) {
+        if let Err(error) = answer {
+            let is_late = matches!(error.kind(), ErrorKind::WouldBlock | ErrorKind::TimedOut);
+            self.is_over.set(is_late && self.limit.is_some());
+        }
+    }
+}
+
+/// The socket of a peer, which is waited for with patience.
+#[derive(Drop)]
+struct Awaited<'p, C: Drop> {
+    stream: C,
+    patience: &'p Patience,
+}
+
+impl<C: Read + Drop> Read for Awaited<'_, C> {
+    fn read(&mut self, buf: &mut [u8]) -> io::Result<usize> {
+        let answer = self.stream.read(buf);
+        self.patience.note(&answer);
+        answer
+    }
+}
+
+impl<C: Write + Drop> Write for Awaited<'_, C> {
+    fn write(&mut self, buf: &[u8]) -> io::Result<usize> {
+        let answer = self.stream.write(buf);
+        self.patience.note(&answer);
+        answer
+    }
+
+    fn flush(&mut self) -> io::Result<()> {
+        self.stream.flush()
+    }
+}
+
 /// A connection that was accepted. Its input and its output are buffered, so that what answers one read goes out at once.
-struct Accepted<C: Read + Write + Drop> {
+struct Accepted<'p, C: Read + Write + Drop> {
     endpoint: Endpoint,
-    input: BufReader<C>,
-    output: BufWriter<C>,
+    input: BufReader<Awaited<'p, C>>,
+    output: BufWriter<Awaited<'p, C>>,
 }
 
 /// Accepts a connection.
-fn accept<L: OpenListener>(
+fn accept<'p, L: OpenListener>(
     alloc: Global,
     listener: &L,
     config: &Config,
-) -> Result<(Accepted<L::Stream>, SocketAddr), ServeFault>
+    patience: &'p Patience,
+) -> Result<(Accepted<'p, L::Stream>, SocketAddr), ServeFault>
 where
     L::Stream: Read + Write + OpenStream + Drop,
     ensures { result ≢ Err ServeFault.Sink }
@@ -127,16 +195,20 @@ where
         return Err(ServeFault::Read);
     };
     let _ = stream.set_nodelay(true);
+    if patience.limit.is_some() && limit_waits(&stream, patience.limit).is_err() {
+        return Err(ServeFault::Read);
+    }
     let Ok(other) = stream.try_clone() else {
         return Err(ServeFault::Read);
     };
     let Ok(endpoint) = new_endpoint(alloc, config) else {
         return Err(ServeFault::NoMemory);
     };
-    let Ok(input) = BufReader::with_capacity(alloc, BUFFER, stream) else {
+    let Ok(input) = BufReader::with_capacity(alloc, BUFFER, Awaited { stream, patience }) else {
         return Err(ServeFault::NoMemory);
     };
-    let Ok(output) = BufWriter::with_capacity(alloc, BUFFER, other) else {
+    let stream = other;
+    let Ok(output) = BufWriter::with_capacity(alloc, BUFFER, Awaited { stream, patience }) else {
         return Err(ServeFault::NoMemory);
     };
     let accepted = Accepted {
@@ -147,12 +219,19 @@ where
     Ok((accepted, peer))
 }
 
+/// Has the socket wait for no longer.
+fn limit_waits<C: OpenStream>(stream: &C, limit: Option<Duration>) -> io::Result<()> {
+    stream.set_read_timeout(limit)?;
+    stream.set_write_timeout(limit)
+}
+
 /// Accepts a connection, and serves it. A trace hears of what passes, if there is one.
 fn serve_next<L: OpenListener, S: Write + Drop, W: Write + Drop, H: Host + Drop>(
     alloc: Global,
     listener: &L,
     config: &Config,
     policy: Policy,
+    patience: &Patience,
     sink: &mut Device<S>,
     trace: Option<&Trace<W, H>>,
 ) -> Result<End, ServeFault>
@@ -161,7 +240,7 @@ where
     requires { ¬ (IsTrue (has_failed sink.old)) }
     ensures { (result ≡ Err ServeFault.Sink) ↔ IsTrue (has_failed sink.new) }
 {
-    let (accepted, peer) = match accept(alloc, listener, config) {
+    let (accepted, peer) = match accept(alloc, listener, config, patience) {
         Ok(accepted) => accepted,
         Err(fault) => return Err(fault),
     };
@@ -184,13 +263,13 @@ where
         policy,
         &mut watch,
     );
-    if served == Err(ServeFault::Sink) {
+    if served == Err(ServeFault::Sink) || patience.is_over() {
         give_up(writer.into_inner().into_inner());
     }
     served
 }
 
-/// Throws away what waits to be sent: those of its answers that are to messages wait for records that may be lost.
+/// Throws away what waits to be sent: answers to messages wait for records that may be lost, or the socket takes nothing.
 fn give_up<C: Write + Drop>(output: BufWriter<C>) {
     let _ = output.into_parts();
 }

@@ -3,16 +3,21 @@
 ghost use Rattle.std.specs.Prelude.{◌≡◌};
 ghost use Rattle.amqp_commands.specs.declared.run.Fault.TheVariants.{NoMemory};
 
-use crate::command::{Order, RecvSettings, ToldTo, command_line, order_of};
+use crate::command::{
+    GatewayFiles, GatewaySettings, Order, RecvSettings, ToldTo, command_line, order_of,
+};
+use crate::gateway::{self, Plan};
 use crate::recv::{BUFFER, recv_on};
 use crate::send::Fate;
 use crate::send_file::{FileFault, send_file};
+use crate::store::{Exclusive, Store};
 use crate::told::{Desk, Told};
 use amqp_dump::{DumpFault, dump};
 use amqp_endpoint::Config;
 use amqp_frame::Device;
+use amqp_gateway::{GatewayFault, Unsynced, Unwatched};
 use amqp_perform::Outcome;
-use amqp_records::{Output, RecordsFault, print_records};
+use amqp_records::{BlocksFault, Output, RecordsFault, print_blocks, print_records};
 use amqp_script::{ScriptFault, read_limits, replay_script};
 use amqp_serve::Policy;
 use amqp_trace::Trace;
@@ -22,7 +27,7 @@ use std::io::Read;
 use std::net::{Net, TcpListener};
 use std::process::ExitCode;
 use std::rt::{Env, Files};
-use std::time::Clock;
+use std::time::{Clock, Duration};
 use std::{env, fs, io};
 use thiserror::Error;
 
@@ -44,6 +49,10 @@ enum Fault {
     #[error(transparent)]
     Records(RecordsFault),
     #[error(transparent)]
+    Blocks(BlocksFault),
+    #[error(transparent)]
+    Gateway(GatewayFault),
+    #[error(transparent)]
     Script(ScriptFault),
     #[error(transparent)]
     Send(FileFault),
@@ -59,9 +68,10 @@ impl From<AllocError> for Fault {
 
 /// Runs the program. The exit status is 0 for success, 1 for a fault and 2 for a command line that asks for
 /// no command; what went wrong stands on standard error, but for the fault in a dumped stream.
-pub fn run<R: Print + Eprint + Input + Env + Files + Net + Clock + AllocGlobal>(
-    rt: &R,
-) -> ExitCode {
+pub fn run<R: Print + Eprint + Input + Env + Files + Net + Clock + AllocGlobal>(rt: &R) -> ExitCode
+where
+    R::File: Exclusive,
+{
     match obey(rt) {
         Ok(status) => status,
         Err(fault) => {
@@ -74,7 +84,10 @@ pub fn run<R: Print + Eprint + Input + Env + Files + Net + Clock + AllocGlobal>(
 /// Does what the command line asks for.
 fn obey<R: Print + Eprint + Input + Env + Files + Net + Clock + AllocGlobal>(
     rt: &R,
-) -> Result<ExitCode, Fault> {
+) -> Result<ExitCode, Fault>
+where
+    R::File: Exclusive,
+{
     let words = match words(rt) {
         Ok(words) => words,
         Err(error) => return refuse_words(rt, &error),
@@ -94,12 +107,20 @@ fn obey<R: Print + Eprint + Input + Env + Files + Net + Clock + AllocGlobal>(
             },
         ) => recv(rt, address, settings, limits, told),
         Some(
+            Order::Gateway {
+                address,
+                settings,
+                files,
+            },
+        ) => serve_many(rt, address, settings, files),
+        Some(
             Order::Records {
                 file,
                 output,
                 max_message,
+                blocks,
             },
-        ) => records_file(rt, file, output, max_message),
+        ) => records_file(rt, file, output, max_message, blocks),
         Some(Order::Replay { script }) => replay_file(rt, script),
         Some(Order::Send { address, file }) => send(rt, address, file),
         None => Ok(ExitCode::from(USAGE)),
@@ -167,12 +188,13 @@ fn records_file<R: Print + Input + Files + AllocGlobal>(
     path: &str,
     output: Output,
     max_message: u32,
+    blocks: bool,
 ) -> Result<ExitCode, Fault> {
     if path == STDIN {
-        return records_from(rt, rt.reader(), output, max_message);
+        return records_from(rt, rt.reader(), output, max_message, blocks);
     }
     match fs::open(rt, path) {
-        Ok(file) => records_from(rt, file, output, max_message),
+        Ok(file) => records_from(rt, file, output, max_message, blocks),
         Err(_) => Err(Fault::Open),
     }
 }
@@ -183,19 +205,40 @@ fn records_from<R: Print + AllocGlobal, I: Read + Drop>(
     input: I,
     output: Output,
     max_message: u32,
+    blocks: bool,
 ) -> Result<ExitCode, Fault> {
     let Ok(buffer) = io::BufWriter::with_capacity(rt.alloc(), BUFFER, io::writer(rt)) else {
         return Err(Fault::NoMemory);
     };
     let mut reader = Device::new(input);
     let mut writer = Device::new(buffer);
-    let printed = print_records(rt.alloc(), &mut reader, &mut writer, output, max_message);
+    let printed = if blocks {
+        blocks_printed(print_blocks(rt.alloc(), &mut reader, &mut writer, output, max_message))
+    } else {
+        records_printed(print_records(rt.alloc(), &mut reader, &mut writer, output, max_message))
+    };
     let _ = writer.flush();
     let _ = writer.into_inner().into_parts(); // what standard output refused is not tried again
     match (printed, output) {
         (Ok(count), Output::Only(number)) if count < number => Err(Fault::Absent),
         (Ok(_), _) => Ok(ExitCode::SUCCESS),
-        (Err(fault), _) => Err(Fault::Records(fault)),
+        (Err(fault), _) => Err(fault),
+    }
+}
+
+/// How many records were printed.
+fn records_printed(printed: Result<u64, RecordsFault>) -> Result<u64, Fault> {
+    match printed {
+        Ok(count) => Ok(count),
+        Err(fault) => Err(Fault::Records(fault)),
+    }
+}
+
+/// How many records of blocks were printed.
+fn blocks_printed(printed: Result<u64, BlocksFault>) -> Result<u64, Fault> {
+    match printed {
+        Ok(count) => Ok(count),
+        Err(fault) => Err(Fault::Blocks(fault)),
     }
 }
 
@@ -223,6 +266,9 @@ fn replay_file<R: Print + Files + AllocGlobal>(rt: &R, path: &str) -> Result<Exi
 /// The container-id of the receiver, and the highest channel and handle that it offers.
 const RECEIVER: &str = "recv";
 
+/// The container-id of a gateway.
+const GATEWAY: &str = "gateway";
+
 const CHANNEL_MAX: u32 = 7;
 
 const HANDLE_MAX: u32 = 7;
@@ -240,7 +286,11 @@ fn recv<R: Print + Eprint + Files + Net + Clock + AllocGlobal>(
         credit: settings.allowed,
         outcome: Outcome::Accepted,
     };
-    let connections = settings.connections;
+    let RecvSettings {
+        connections,
+        idle,
+        ..
+    } = settings;
     keep_freed(alloc, settings.max_message);
     let Some(config) = configured(alloc, settings)? else {
         return Ok(ExitCode::from(USAGE));
@@ -263,6 +313,7 @@ fn recv<R: Print + Eprint + Files + Net + Clock + AllocGlobal>(
         &config,
         policy,
         connections,
+        seconds(idle),
         &mut sink,
         rt,
         trace.as_ref(),
@@ -273,6 +324,126 @@ fn recv<R: Print + Eprint + Files + Net + Clock + AllocGlobal>(
     } else {
         ExitCode::FAILURE
     })
+}
+
+/// So many seconds; none where that is 0.
+fn seconds(count: u32) -> Option<Duration> {
+    if count > 0 {
+        Some(Duration::from_secs(u64::from(count)))
+    } else {
+        None
+    }
+}
+
+/// The highest channel and handle that a gateway offers: two sessions of two links each.
+const GATEWAY_MOST: u32 = 1;
+
+/// Serves many peers at a time, with the records in blocks on standard output or behind those of a file. The file is gone through
+/// once it is listened, so that a second program at one address touches nothing.
+fn serve_many<R: Print + Eprint + Input + Files + Net + Clock + AllocGlobal>(
+    rt: &R,
+    address: &str,
+    settings: GatewaySettings,
+    files: GatewayFiles<'_>,
+) -> Result<ExitCode, Fault>
+where
+    R::File: Exclusive,
+{
+    let alloc = rt.alloc();
+    let Some(config) = gateway_config(alloc, settings)? else {
+        return Ok(ExitCode::from(USAGE));
+    };
+    let (config, link) = match files.limits {
+        Some(path) => gateway_limits(rt, config, path)?,
+        None => {
+            let link = gateway::most_of_links(&config, "");
+            (config, link)
+        }
+    };
+    let Ok(listener) = gateway::listen(rt, address) else {
+        return Err(Fault::Open);
+    };
+    let plan = Plan {
+        listener,
+        config,
+        settings,
+        link,
+        metrics: files.metrics,
+    };
+    let served = match files.records {
+        None => gateway::serve_to(rt, plan, Unsynced(io::writer(rt)), Unwatched),
+        Some(path) => {
+            let store = stored(rt, path)?;
+            gateway::serve_to(rt, plan, store, Unwatched)
+        }
+    };
+    match served {
+        Ok(()) => Ok(ExitCode::SUCCESS),
+        Err(fault) => Err(Fault::Gateway(fault)),
+    }
+}
+
+/// The settings with the limits of a file, and what a link of any name keeps at most by them.
+fn gateway_limits<R: Files + AllocGlobal>(
+    rt: &R,
+    config: Config,
+    path: &str,
+) -> Result<(Config, u64), Fault> {
+    let alloc = rt.alloc();
+    let mut file = match fs::open(rt, path) {
+        Ok(file) => file,
+        Err(_) => return Err(Fault::Open),
+    };
+    let mut table = Vec::new(alloc);
+    if file.read_to_end(&mut table).is_err() {
+        return Err(Fault::Script(ScriptFault::Read));
+    }
+    match read_limits(alloc, config, &mut Device::new(table.as_slice())) {
+        Ok(config) => {
+            let text = str::from_utf8(&table).unwrap_or("");
+            let link = gateway::most_of_links(&config, text);
+            Ok((config, link))
+        }
+        Err(fault) => Err(Fault::Script(fault)),
+    }
+}
+
+/// The file of records at a path, gone through, and without a block that was not written to its end, which is set aside.
+fn stored<R: Eprint + Files + AllocGlobal>(rt: &R, path: &str) -> Result<Store<R::File>, Fault>
+where
+    R::File: Exclusive,
+{
+    let Ok(store) = Store::open(rt, path) else {
+        return Err(Fault::Open);
+    };
+    let aside = format!(in rt.alloc(); "{path}.torn")?;
+    match store.checked(rt, rt.alloc(), aside.as_str()) {
+        Ok((store, 0)) => Ok(store),
+        Ok((store, torn)) => {
+            let _ = eprintln!(rt;
+                "records: {torn} bytes of a block that was not written to its end are cut off, and stand in {aside}"
+            );
+            Ok(store)
+        }
+        Err(fault) => Err(Fault::Blocks(fault)),
+    }
+}
+
+/// The settings of a gateway's endpoints; none where one is outside its range.
+fn gateway_config(alloc: Global, settings: GatewaySettings) -> Result<Option<Config>, AllocError> {
+    let name = String::from_str(alloc, GATEWAY)?;
+    let Some(config) = Config::checked(
+        name,
+        settings.max_frame,
+        GATEWAY_MOST,
+        GATEWAY_MOST,
+        settings.allowed,
+        settings.max_message,
+        settings.window,
+    ) else {
+        return Ok(None);
+    };
+    Ok(Some(announced(config, settings.idle)))
 }
 
 /// The trace that is asked for, if one is.
@@ -318,6 +489,7 @@ fn keep_freed(alloc: Global, max_message: u32) {
 /// The settings of a receiver's endpoints; none where one is outside its range.
 fn configured(alloc: Global, settings: RecvSettings) -> Result<Option<Config>, AllocError> {
     let RecvSettings {
+        idle,
         max_frame,
         allowed,
         max_message,
@@ -325,7 +497,7 @@ fn configured(alloc: Global, settings: RecvSettings) -> Result<Option<Config>, A
         ..
     } = settings;
     let name = String::from_str(alloc, RECEIVER)?;
-    Ok(Config::checked(
+    let Some(config) = Config::checked(
         name,
         max_frame,
         CHANNEL_MAX,
@@ -333,7 +505,15 @@ fn configured(alloc: Global, settings: RecvSettings) -> Result<Option<Config>, A
         allowed,
         max_message,
         window,
-    ))
+    ) else {
+        return Ok(None);
+    };
+    Ok(Some(announced(config, idle)))
+}
+
+/// The same settings, by which the open announces half of the time after which a silent peer is left, if it is [2.4.5].
+fn announced(config: Config, idle: u32) -> Config {
+    config.with_idle_time_out(idle.saturating_mul(1000) / 2)
 }
 
 /// The same settings with the limits of a file.

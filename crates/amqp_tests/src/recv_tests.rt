@@ -13,6 +13,7 @@ use std::io::{self, ErrorKind, Read, Write};
 use std::net::{Ipv4Addr, OpenListener, OpenStream, SocketAddr};
 use std::process::Abort;
 use std::test::Fail;
+use std::time::Duration;
 
 /// The peer's header, open, begin and attach, two deliveries in one transfer each, and a close: 130 bytes.
 pub const STREAM: &[u8] =
@@ -37,11 +38,12 @@ impl Host for Nobody {
     fn lost(&self, _view: View, _fault: TraceFault) {}
 }
 
-/// How many bytes the peers were sent, and by how many writes.
+/// How many bytes the peers were sent, by how many writes, and for how long their sockets wait.
 #[derive(Drop)]
 struct Wire {
     bytes: Cell<usize>,
     writes: Cell<usize>,
+    limits: Cell<[Option<Duration>; 2]>,
 }
 
 impl Wire {
@@ -49,20 +51,27 @@ impl Wire {
         Wire {
             bytes: Cell::new(0),
             writes: Cell::new(0),
+            limits: Cell::new([None, None]),
         }
     }
 }
 
-/// A peer that sends these bytes and takes all that it is sent, or nothing.
+/// A peer that sends these bytes, and ends or fails then. It takes all that it is sent, or fails.
 #[derive(Clone, Copy, Drop)]
 struct Peer<'a> {
     rest: &'a [u8],
     wire: &'a Wire,
-    is_deaf: bool,
+    behind: Option<ErrorKind>,
+    deaf: Option<ErrorKind>,
 }
 
 impl Read for Peer<'_> {
     fn read(&mut self, buf: &mut [u8]) -> io::Result<usize> {
+        if let Some(kind) = self.behind
+            && self.rest.is_empty()
+        {
+            return Err(io::Error::from(kind));
+        }
         let count = self.rest.len().min(buf.len());
         buf[..count].copy_from_slice(&self.rest[..count]);
         self.rest = &self.rest[count..];
@@ -72,10 +81,10 @@ impl Read for Peer<'_> {
 
 impl Write for Peer<'_> {
     fn write(&mut self, buf: &[u8]) -> io::Result<usize> {
-        if self.is_deaf {
-            return Err(io::Error::from(ErrorKind::BrokenPipe));
+        if let Some(kind) = self.deaf {
+            return Err(io::Error::from(kind));
         }
-        let Wire { bytes, writes } = self.wire;
+        let Wire { bytes, writes, .. } = self.wire;
         bytes.set(bytes.get().saturating_add(buf.len()));
         writes.set(writes.get().saturating_add(1));
         Ok(buf.len())
@@ -89,6 +98,18 @@ impl Write for Peer<'_> {
 impl OpenStream for Peer<'_> {
     fn try_clone(&self) -> io::Result<Self> {
         Ok(*self)
+    }
+
+    fn set_read_timeout(&self, dur: Option<Duration>) -> io::Result<()> {
+        let [_, written] = self.wire.limits.get();
+        self.wire.limits.set([dur, written]);
+        Ok(())
+    }
+
+    fn set_write_timeout(&self, dur: Option<Duration>) -> io::Result<()> {
+        let [read, _] = self.wire.limits.get();
+        self.wire.limits.set([read, dur]);
+        Ok(())
     }
 }
 
@@ -205,6 +226,21 @@ pub fn served_under<L: OpenListener>(
 where
     L::Stream: Read + Write + OpenStream + Drop,
 {
+    served_within(alloc, config, listener, connections, None, most)
+}
+
+/// The same, where each socket is waited for so long.
+fn served_within<L: OpenListener>(
+    alloc: Global,
+    config: &Config,
+    listener: &L,
+    connections: u32,
+    idle: Option<Duration>,
+    most: usize,
+) -> Result<(bool, String, Vec<u8>), AllocError>
+where
+    L::Stream: Read + Write + OpenStream + Drop,
+{
     let policy = Policy {
         credit: 1,
         outcome: Outcome::Accepted,
@@ -222,6 +258,7 @@ where
         config,
         policy,
         connections,
+        idle,
         &mut Device::new(&mut sink),
         &log,
         None::<&Trace<Vec<u8>, Nobody>>,
@@ -233,7 +270,8 @@ fn talker<'a>(bytes: &'a [u8], wire: &'a Wire) -> Option<Peer<'a>> {
     Some(Peer {
         rest: bytes,
         wire,
-        is_deaf: false,
+        behind: None,
+        deaf: None,
     })
 }
 
@@ -263,7 +301,8 @@ fn deaf<'a>(wire: &'a Wire) -> Option<Peer<'a>> {
     Some(Peer {
         rest: STREAM,
         wire,
-        is_deaf: true,
+        behind: None,
+        deaf: Some(ErrorKind::BrokenPipe),
     })
 }
 
@@ -303,5 +342,55 @@ fn stops_behind_a_sink_that_fails(rt: HostRuntime) -> Result<(), Fail> {
     assert!(rt; records.as_slice().starts_with(RECORDS));
     // The second peer's bytes came at once, so that all that answers them waited for the records.
     assert_eq!(rt; wire.bytes.get(), ANSWERS);
+    Ok(())
+}
+
+/// One that says nothing more and one that takes nothing are left where that is asked, and else the socket has failed.
+#[test]
+fn leaves_who_is_waited_for_in_vain(rt: HostRuntime) -> Result<(), Fail> {
+    let wire = Wire::new();
+    let late = Some(ErrorKind::WouldBlock);
+    let silent = Peer {
+        rest: &STREAM[..45],
+        wire: &wire,
+        behind: late,
+        deaf: None,
+    };
+    let deaf = Peer {
+        rest: STREAM,
+        wire: &wire,
+        behind: None,
+        deaf: late,
+    };
+    let peers = [Some(silent), Some(deaf), talker(STREAM, &wire)];
+    let name = String::from_str(rt.alloc(), "r")?;
+    let config = Config::checked(name, 512, 0, 1, 4, 10, 100).ok_or("no settings")?;
+    let idle = Some(Duration::from_secs(7));
+    for (idle, wanted) in [
+        (
+            None,
+            "connection 1: Read\nconnection 2: Write\nconnection 3: Closed\n",
+        ),
+        (
+            idle,
+            "connection 1: Idle\nconnection 2: Idle\nconnection 3: Closed\n",
+        ),
+    ] {
+        let queue = Queue {
+            peers: &peers,
+            accepted: Cell::new(0),
+        };
+        let (all_closed, log, records) = served_within(
+            rt.alloc(),
+            &config,
+            &queue,
+            3,
+            idle,
+            AMPLE,
+        )?;
+        assert_eq!(rt; (all_closed, log.as_str()), (false, wanted));
+        assert_recorded_twice(&rt, &records);
+        assert_eq!(rt; wire.limits.get(), [idle, idle]);
+    }
     Ok(())
 }

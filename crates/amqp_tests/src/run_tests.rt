@@ -2,10 +2,11 @@
 
 use crate::loopback_tests::{connected, listening};
 use crate::recv_tests::{RECORDS, STREAM};
+use amqp_commands::Exclusive;
 use amqp_commands::run::run;
 use amqp_frame::HEADER;
 use std::alloc::{Alloc, AllocError, Allocator, Global};
-use std::cell::RefCell;
+use std::cell::{Cell, RefCell};
 use std::env::FillError;
 use std::fmt::Display;
 use std::fs::{Metadata, OpenFile, OpenOptions};
@@ -16,11 +17,36 @@ use std::rt::{Env, Files};
 use std::test::Fail;
 use std::time::{Clock, Duration};
 
-/// A file that gives its bytes, and then ends or fails.
+/// What became of the files of a disk.
+#[derive(Drop)]
+struct Disk {
+    cut_to: Cell<u64>,
+    appended: RefCell<Vec<u8>>,
+    aside: RefCell<Vec<u8>>,
+    /// Whether another has the file.
+    is_busy: bool,
+}
+
+impl Disk {
+    fn new(alloc: Global) -> Disk {
+        Disk {
+            cut_to: Cell::new(0),
+            appended: RefCell::new(Vec::new(alloc)),
+            aside: RefCell::new(Vec::new(alloc)),
+            is_busy: false,
+        }
+    }
+}
+
+/// A file that gives its bytes, and then ends or fails. Where there is a disk it takes more.
 #[derive(Clone, Copy)]
 struct Bytes<'a> {
+    all: &'a [u8],
     bytes: &'a [u8],
     is_broken: bool,
+    disk: Option<&'a Disk>,
+    /// Whether it is the file that is set aside.
+    is_aside: bool,
 }
 
 impl Read for Bytes<'_> {
@@ -36,8 +62,20 @@ impl Read for Bytes<'_> {
 }
 
 impl Write for Bytes<'_> {
-    fn write(&mut self, _buf: &[u8]) -> io::Result<usize> {
-        Err(io::Error::from(ErrorKind::Unsupported))
+    fn write(&mut self, buf: &[u8]) -> io::Result<usize> {
+        let Some(disk) = self.disk else {
+            return Err(io::Error::from(ErrorKind::Unsupported));
+        };
+        let file = if self.is_aside {
+            &disk.aside
+        } else {
+            &disk.appended
+        };
+        match file.try_borrow_mut() {
+            Ok(mut file) => file.extend_from_slice(buf)?,
+            Err(_) => return Err(io::Error::from(ErrorKind::Other)),
+        }
+        Ok(buf.len())
     }
 
     fn flush(&mut self) -> io::Result<()> {
@@ -46,8 +84,12 @@ impl Write for Bytes<'_> {
 }
 
 impl Seek for Bytes<'_> {
-    fn seek(&mut self, _to: SeekFrom) -> io::Result<u64> {
-        Err(io::Error::from(ErrorKind::Unsupported))
+    fn seek(&mut self, to: SeekFrom) -> io::Result<u64> {
+        let SeekFrom::Start(at) = to else {
+            return Err(io::Error::from(ErrorKind::Unsupported));
+        };
+        self.bytes = self.all.get(at as usize..).unwrap_or(&[]);
+        Ok(at)
     }
 }
 
@@ -56,8 +98,14 @@ impl OpenFile for Bytes<'_> {
         Err(io::Error::from(ErrorKind::Unsupported))
     }
 
-    fn set_len(&self, _size: u64) -> io::Result<()> {
-        Err(io::Error::from(ErrorKind::Unsupported))
+    fn set_len(&self, size: u64) -> io::Result<()> {
+        match self.disk {
+            Some(disk) => {
+                disk.cut_to.set(size);
+                Ok(())
+            }
+            None => Err(io::Error::from(ErrorKind::Unsupported)),
+        }
     }
 
     fn sync_all(&self) -> io::Result<()> {
@@ -66,6 +114,15 @@ impl OpenFile for Bytes<'_> {
 
     fn sync_data(&self) -> io::Result<()> {
         Ok(())
+    }
+}
+
+impl Exclusive for Bytes<'_> {
+    fn hold(&self) -> bool {
+        match self.disk {
+            Some(disk) => !disk.is_busy,
+            None => true,
+        }
     }
 }
 
@@ -81,8 +138,32 @@ struct Host<'a> {
     /// How many bytes standard output takes.
     most: usize,
     listener: Option<&'a TcpListener>,
+    /// A peer that comes once it is told that it is listened, and stays.
+    caller: Option<Caller<'a>>,
     out: RefCell<String>,
     err: RefCell<String>,
+}
+
+/// A peer that connects to an address, and sends this.
+#[derive(Drop)]
+struct Caller<'a> {
+    rt: &'a HostRuntime,
+    address: SocketAddr,
+    bytes: &'a [u8],
+    stream: RefCell<Option<TcpStream>>,
+}
+
+impl Caller<'_> {
+    /// Connects and sends, where it has not yet.
+    fn call(&self) -> io::Result<()> {
+        let Ok(mut stream) = self.stream.try_borrow_mut() else {
+            return Err(io::Error::from(ErrorKind::Other));
+        };
+        if stream.is_none() {
+            *stream = Some(connected(self.rt, self.address, self.bytes)?);
+        }
+        Ok(())
+    }
 }
 
 /// Appends text to what a stream took.
@@ -146,6 +227,9 @@ impl Eprint for Host<'_> {
     }
 
     fn eprintln<D: Display + Drop>(&self, value: D) -> io::Result<()> {
+        if let Some(caller) = &self.caller {
+            let _ = caller.call(); // none listens any more where it is a fault that is told
+        }
         append(&self.err, value, "\n")
     }
 }
@@ -196,6 +280,10 @@ impl<'a> Files for Host<'a> {
     fn open_file(&self, _how: &OpenOptions, path: &str) -> io::Result<Bytes<'a>> {
         match self.file {
             Some(file) if path == "a.amqp" => Ok(file),
+            Some(file) if path == "a.amqp.torn" => Ok(Bytes {
+                is_aside: true,
+                ..file
+            }),
             _ => Err(io::Error::from(ErrorKind::NotFound)),
         }
     }
@@ -276,6 +364,7 @@ fn host_of<'a>(alloc: Global, words: &'a [&'a str], file: Option<Bytes<'a>>) -> 
         is_shut: false,
         most: usize::MAX,
         listener: None,
+        caller: None,
         out: RefCell::new(String::new(alloc)),
         err: RefCell::new(String::new(alloc)),
     }
@@ -291,6 +380,7 @@ fn host_fed<'a>(alloc: Global, words: &'a [&'a str], input: &'a [u8]) -> Host<'a
         is_shut: false,
         most: usize::MAX,
         listener: None,
+        caller: None,
         out: RefCell::new(String::new(alloc)),
         err: RefCell::new(String::new(alloc)),
     }
@@ -311,16 +401,22 @@ fn assert_ends(rt: &impl Abort, host: Host<'_>, status: ExitCode, out: &str, err
 /// A file that gives its bytes and ends.
 fn whole<'a>(bytes: &'a [u8]) -> Option<Bytes<'a>> {
     Some(Bytes {
+        all: bytes,
         bytes,
         is_broken: false,
+        disk: None,
+        is_aside: false,
     })
 }
 
 /// One that gives them and fails.
 fn broken<'a>(bytes: &'a [u8]) -> Option<Bytes<'a>> {
     Some(Bytes {
+        all: bytes,
         bytes,
         is_broken: true,
+        disk: None,
+        is_aside: false,
     })
 }
 
@@ -677,4 +773,18 @@ fn tells_on_standard_error(rt: HostRuntime) -> Result<(), Fail> {
         drop(peer);
     }
     Ok(())
+}
+
+/// A block of the connection 7 with the record of `hello`, as long as its head says.
+const BLOCK: &[u8] =
+    b"\x00\x00\x00\x00\x00\x00\x00\x07\x00\x00\x00\x1c\x00\x01\x00\x00\x00\x02\x00\x00\x00\x03\x00\x00\x00\x00\x00\x00\x00\x0a\x00Su\xa0\x05hello";
+
+#[test]
+fn prints_blocks(rt: HostRuntime) {
+    let words = ["amqp", "records", "--blocks", "a.amqp"];
+    let line = "connection=7 1 channel=1 handle=2 id=3 format=0 size=10 data \"hello\"\n";
+    let host = host_of(rt.alloc(), &words, whole(BLOCK));
+    assert_ends(&rt, host, ExitCode::SUCCESS, line, "");
+    let host = host_of(rt.alloc(), &words, whole(&BLOCK[..39]));
+    assert_ends(&rt, host, ExitCode::FAILURE, "", "fault: 0 Cut\n");
 }

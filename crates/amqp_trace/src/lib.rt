@@ -26,3 +26,4 @@ mod words;
 
 pub use host::{Host, TraceFault, View};
 pub use trace::{Trace, TracedReader, TracedWriter};
+pub use words::Cause;

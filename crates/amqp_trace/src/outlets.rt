@@ -36,7 +36,7 @@ pub struct Outlets<W: Write + Drop, H: Host + Drop> {
     events: Option<Outlet<BufWriter<W>>>,
     line: Line,
     /// The number of the connection.
-    number: u32,
+    number: u64,
     /// When it began.
     began: u64,
 }
@@ -59,7 +59,7 @@ impl<W: Write + Drop, H: Host + Drop> Outlets<W, H> {
     }
 
     /// The lines from here on are of the connection with this number, which begins now.
-    pub fn begin(&mut self, number: u32) {
+    pub fn begin(&mut self, number: u64) {
         self.number = number;
         self.begin_now();
     }

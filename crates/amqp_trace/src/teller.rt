@@ -9,7 +9,7 @@ use crate::links::Links;
 use crate::outlets::{Outlets, Way};
 use crate::sentences::{Sentence, put_event};
 use crate::unit::Unit;
-use crate::words::{Ending, HowItEnded, refusal};
+use crate::words::{Cause, Ending, HowItEnded, refusal};
 use crate::{Host, TraceFault};
 use amqp_dump::Page;
 use amqp_endpoint::{End, Event, Outcome, Scope};
@@ -61,7 +61,7 @@ impl<W: Write + Drop, H: Host + Drop> Teller<W, H> {
     }
 
     /// The next connection has this number, and begins.
-    pub fn begin(&mut self, number: u32) {
+    pub fn begin(&mut self, number: u64) {
         self.came.restart();
         self.went.restart();
         self.answers.clear();
@@ -95,6 +95,14 @@ impl<W: Write + Drop, H: Host + Drop> Teller<W, H> {
         }
     }
 
+    /// Bytes were written, of no step.
+    pub fn said(&mut self, bytes: &[u8]) {
+        if !self.outlets.are_shut() && self.tell_said(bytes).is_err() {
+            self.outlets.shut_all(TraceFault::NoMemory);
+        }
+        self.outlets.flush();
+    }
+
     /// A step was made.
     pub fn did(&mut self, stepped: &Stepped) {
         if !self.outlets.are_shut() && self.tell(stepped).is_err() {
@@ -109,7 +117,17 @@ impl<W: Write + Drop, H: Host + Drop> Teller<W, H> {
 
     /// The connection was served so.
     pub fn end(&mut self, served: Result<End, ServeFault>) {
-        if !self.outlets.are_shut() && self.tell_end(served).is_err() {
+        self.end_as(Ending(served), HowItEnded(served), served.is_err());
+    }
+
+    /// Its host gave it up.
+    pub fn give_up(&mut self, cause: Cause) {
+        self.end_as(cause, cause.sentence(), true);
+    }
+
+    /// It ended so: by its word, and in a sentence, which is told also behind one of how it ended where that is asked.
+    fn end_as<E: Display + Drop, S: Display + Drop>(&mut self, ending: E, how: S, asked: bool) {
+        if !self.outlets.are_shut() && self.tell_end(ending, how, asked).is_err() {
             self.outlets.shut_all(TraceFault::NoMemory);
         }
         self.outlets.flush();
@@ -137,6 +155,12 @@ impl<W: Write + Drop, H: Host + Drop> Teller<W, H> {
             self.answers.put(piece)?;
         }
         Ok(())
+    }
+
+    /// Tells the frames of these bytes.
+    fn tell_said(&mut self, bytes: &[u8]) -> Result<(), AllocError> {
+        self.keep_answers(bytes)?;
+        self.tell_answers()
     }
 
     /// Tells what came, what it came to, and what answered it.
@@ -229,7 +253,12 @@ impl<W: Write + Drop, H: Host + Drop> Teller<W, H> {
     }
 
     /// Tells what no step told, and how the connection ended.
-    fn tell_end(&mut self, served: Result<End, ServeFault>) -> Result<(), AllocError> {
+    fn tell_end<E: Display + Drop, S: Display + Drop>(
+        &mut self,
+        ending: E,
+        how: S,
+        asked: bool,
+    ) -> Result<(), AllocError> {
         if self.came.is_whole() && !self.is_ended {
             self.tell_unit()?;
         } else if !self.came.is_empty() && !self.is_ended {
@@ -237,11 +266,10 @@ impl<W: Write + Drop, H: Host + Drop> Teller<W, H> {
         }
         self.tell_answers()?;
         self.sentence.text.clear();
-        if !self.is_ended || served.is_err() {
-            let how = HowItEnded(served);
+        if !self.is_ended || asked {
             let _ = write!(self.sentence.text, "{how}");
         }
-        self.outlets.put_event(Ending(served), &self.sentence.text);
+        self.outlets.put_event(ending, &self.sentence.text);
         Ok(())
     }
 

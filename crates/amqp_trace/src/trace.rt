@@ -6,6 +6,7 @@ ghost use Rattle.amqp_trace.specs.Wires.{traced_reader, traced_writer};
 use crate::Host;
 use crate::outlets::Outlets;
 use crate::teller::Teller;
+use crate::words::Cause;
 use amqp_endpoint::End;
 use amqp_frame::{AtHand, HoldsBack};
 use amqp_perform::Outcome;
@@ -16,6 +17,9 @@ use std::fmt::Display;
 use std::io::{self, Read, Write};
 
 /// Tells of connections that are served one after the other, in lines.
+///
+/// A [`TracedReader`], a [`TracedWriter`] and `serve_watched` tell it what passes. A host with a loop of its own calls
+/// [`Trace::came`], [`Trace::went`] and [`Trace::did`] for each step, in this order, and [`Trace::waits`] before it waits.
 ///
 /// It holds at most 43,008 bytes of what peers sent and were sent, and 32,768 of lines: the first 4,096 bytes of the frame that is
 /// due in each direction, 16,384 of answers, and the names of 72 links. A step whose answers are longer is told behind some of them.
@@ -52,7 +56,7 @@ impl<W: Write + Drop, H: Host + Drop> Trace<W, H> {
     }
 
     /// Tells of the connection with this number from here on.
-    pub fn begin(&self, number: u32) {
+    pub fn begin(&self, number: u64) {
         if let Ok(mut teller) = self.teller.try_borrow_mut() {
             teller.begin(number);
         }
@@ -72,25 +76,43 @@ impl<W: Write + Drop, H: Host + Drop> Trace<W, H> {
         }
     }
 
-    fn did(&self, stepped: &Stepped) {
+    /// Tells that its host gave it up.
+    pub fn give_up(&self, cause: Cause) {
+        if let Ok(mut teller) = self.teller.try_borrow_mut() {
+            teller.give_up(cause);
+        }
+    }
+
+    /// Tells of a step: what came before it, what it came to, and what was sent.
+    pub fn did(&self, stepped: &Stepped) {
         if let Ok(mut teller) = self.teller.try_borrow_mut() {
             teller.did(stepped);
         }
     }
 
-    fn came(&self, bytes: &[u8]) {
+    /// Is told what came, as far as the next step takes it.
+    pub fn came(&self, bytes: &[u8]) {
         if let Ok(mut teller) = self.teller.try_borrow_mut() {
             teller.came(bytes);
         }
     }
 
-    fn went(&self, bytes: &[u8]) {
+    /// Tells what is sent in no step.
+    pub fn said(&self, bytes: &[u8]) {
+        if let Ok(mut teller) = self.teller.try_borrow_mut() {
+            teller.said(bytes);
+        }
+    }
+
+    /// Is told what is sent in the next step.
+    pub fn went(&self, bytes: &[u8]) {
         if let Ok(mut teller) = self.teller.try_borrow_mut() {
             teller.went(bytes);
         }
     }
 
-    fn waits(&self) {
+    /// Writes out what was told.
+    pub fn waits(&self) {
         if let Ok(mut teller) = self.teller.try_borrow_mut() {
             teller.waits();
         }

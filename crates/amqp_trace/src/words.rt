@@ -100,3 +100,38 @@ impl Display for HowItEnded {
         })
     }
 }
+
+/// Why a host ended a connection before its peer did.
+#[derive(Clone, Copy, Debug, PartialEq, Eq, Drop)]
+pub enum Cause {
+    /// The peer said nothing for too long.
+    Idle,
+    /// Its socket took nothing for too long.
+    Deaf,
+    /// The peer took none of its answers for too long.
+    Slow,
+    /// The host ended itself.
+    Stopped,
+}
+
+impl Cause {
+    /// The same in a sentence.
+    pub fn sentence(self) -> &'static str {
+        match self {
+            Cause::Idle => "the peer said nothing for too long",
+            Cause::Deaf => "the peer took nothing for too long",
+            Cause::Slow => "the peer took none of its answers for too long",
+            Cause::Stopped => "this side stopped",
+        }
+    }
+}
+
+impl Display for Cause {
+    fn fmt<W: fmt::Write>(&self, f: &mut Formatter<W>) -> fmt::Result {
+        f.write_str(match self {
+            Cause::Idle | Cause::Deaf => "end Idle",
+            Cause::Slow => "end Slow",
+            Cause::Stopped => "end Stopped",
+        })
+    }
+}

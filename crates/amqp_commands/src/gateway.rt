@@ -1,0 +1,222 @@
+//! Serves many peers at a time.
+
+use crate::command::GatewaySettings;
+use crate::metrics::Metrics;
+use amqp_endpoint::Config;
+use amqp_gateway::{Ending, Gateway, GatewayFault, Settings, Sink, Watcher, link_most, peer_most};
+use amqp_perform::Outcome;
+use amqp_serve::Rule;
+use mio::net::TcpListener;
+use std::io::{self, ErrorKind, Read};
+use std::net::{Net, ToSocketAddrs};
+use std::rt::Files;
+use std::time::{Clock, Instant};
+
+/// A turn waits for no longer, in milliseconds.
+const WAIT: u64 = 250;
+
+/// How much of standard input is read at once.
+const INPUT: usize = 4096;
+
+/// A listener that does not block, at the first of the addresses of a name, as `recv` reads it, where one can be had.
+pub fn listen<R: Net>(rt: &R, address: &str) -> io::Result<TcpListener> {
+    let mut refused = io::Error::from(ErrorKind::InvalidInput);
+    for address in address.to_socket_addrs(rt)? {
+        match TcpListener::bind(rt, address) {
+            Ok(listener) => return Ok(listener),
+            Err(error) => refused = error,
+        }
+    }
+    Err(refused)
+}
+
+/// How peers are served.
+#[derive(Drop)]
+pub struct Plan<'a> {
+    pub listener: TcpListener,
+    pub config: Config,
+    pub settings: GatewaySettings,
+    /// What a link keeps at most.
+    pub link: u64,
+    /// The file of metrics, if there is one.
+    pub metrics: Option<&'a str>,
+}
+
+/// Serves peers by a plan, with the records to a sink, until it has ended. The watcher is told of what passes.
+pub fn serve_to<R, S, W>(rt: &R, plan: Plan<'_>, sink: S, watcher: W) -> Result<(), GatewayFault>
+where
+    R: Eprint + Input + Files + Net + Clock + AllocGlobal,
+    S: Sink + Drop,
+    W: Watcher + Drop,
+{
+    let Plan {
+        listener,
+        config,
+        settings,
+        link,
+        metrics,
+    } = plan;
+    let rule = Rule {
+        credit: settings.allowed,
+        mark: settings.allowed / 2,
+        outcome: Outcome::Accepted,
+    };
+    let most = peer_most(&config, link);
+    let bound = (settings.open as u64).saturating_mul(most);
+    let _ = eprintln!(rt; "a peer holds at most {most} bytes, and all together {bound}");
+    let mut clock = Watch::new(rt);
+    let now = clock.millis(rt);
+    let mut gateway = Gateway::new(
+        rt,
+        listener,
+        config,
+        rule,
+        times(&settings),
+        sink,
+        watcher,
+        now,
+    )?;
+    if settings.until_eof && gateway.watch_input().is_err() {
+        gateway.stop(); // a file, which is not waited for
+    }
+    let mut watched = Watched {
+        every: (settings.every as u64).saturating_mul(1000),
+        due: 0,
+        longest: 0,
+        bound,
+        metrics,
+    };
+    for _ in 0..u64::MAX {
+        let now = clock.millis(rt);
+        if now >= watched.due || gateway.is_done() {
+            watched.tell(rt, now, &gateway);
+        }
+        if gateway.is_done() {
+            break;
+        }
+        let turned = gateway.turn(rt, now);
+        watched.longest = watched.longest.max(clock.millis(rt).saturating_sub(now));
+        let waited = match turned {
+            Ok(()) => gateway.wait(WAIT),
+            Err(fault) => Err(fault),
+        };
+        if let Err(fault) = waited {
+            gateway.end_all(rt, ending_by(fault));
+            watched.tell(rt, now, &gateway);
+            return Err(fault);
+        }
+        if settings.until_eof && gateway.input_came() {
+            if has_ended(rt) || gateway.watch_input().is_err() {
+                gateway.stop();
+            }
+        }
+    }
+    Ok(())
+}
+
+/// How the peers end that are left at a fault.
+fn ending_by(fault: GatewayFault) -> Ending {
+    match fault {
+        GatewayFault::Sink => Ending::Sink,
+        GatewayFault::NoMemory => Ending::NoMemory,
+        GatewayFault::Poll => Ending::Stopped,
+    }
+}
+
+/// When the file of metrics is due, and what is told there besides what the gateway counts.
+#[derive(Clone, Copy)]
+struct Watched<'a> {
+    every: u64,
+    due: u64,
+    longest: u64,
+    bound: u64,
+    metrics: Option<&'a str>,
+}
+
+impl Watched<'_> {
+    /// Writes the file, if there is one, at this moment. The longest turn begins anew.
+    fn tell<R, S, W>(&mut self, rt: &R, now: u64, gateway: &Gateway<S, W>)
+    where
+        R: Eprint + Files + AllocGlobal,
+        S: Sink + Drop,
+        W: Watcher + Drop,
+    {
+        let told = Metrics {
+            counts: gateway.counts(),
+            open: gateway.open() as u64,
+            held: gateway.held(),
+            bound: self.bound,
+            longest: self.longest,
+        };
+        self.due = now.saturating_add(self.every);
+        self.longest = 0;
+        tell(rt, self.metrics, &told);
+    }
+}
+
+/// Writes what is told to the file of metrics, if there is one.
+fn tell<R: Eprint + Files + AllocGlobal>(rt: &R, path: Option<&str>, told: &Metrics) {
+    if let Some(path) = path {
+        if told.write(rt, rt.alloc(), path).is_err() {
+            let _ = eprintln!(rt; "metrics: Write");
+        }
+    }
+}
+
+/// The settings of the loop.
+fn times(settings: &GatewaySettings) -> Settings {
+    Settings {
+        peers: settings.open as usize,
+        connections: settings.connections as u64,
+        idle: (settings.idle as u64).saturating_mul(1000),
+        slow: (settings.slow as u64).saturating_mul(1000),
+        grace: (settings.grace as u64).saturating_mul(1000),
+        sync: settings.sync,
+    }
+}
+
+/// What a link of any name keeps at most by these settings, which have this table of limits.
+pub fn most_of_links(config: &Config, table: &str) -> u64 {
+    let mut most = link_most(config.bounds());
+    for row in table.split('\n') {
+        if let Some((prefix, _)) = row.split_once(' ') {
+            most = most.max(link_most(config.bounds_for(prefix.as_bytes())));
+        }
+    }
+    most
+}
+
+/// Whether standard input has ended. It waits where that has nothing to tell.
+fn has_ended<R: Input>(rt: &R) -> bool {
+    let mut room = [0; INPUT];
+    match rt.reader().read(&mut room) {
+        Ok(count) => count == 0,
+        Err(error) if error.kind() == ErrorKind::WouldBlock => false,
+        Err(error) => error.kind() != ErrorKind::Interrupted,
+    }
+}
+
+/// A clock in milliseconds since it was made. Where the system's fails it stands still.
+#[derive(Drop)]
+struct Watch {
+    began: Option<Instant>,
+    last: u64,
+}
+
+impl Watch {
+    fn new<R: Clock>(rt: &R) -> Watch {
+        Watch {
+            began: Instant::now(rt).ok(),
+            last: 0,
+        }
+    }
+
+    fn millis<R: Clock>(&mut self, rt: &R) -> u64 {
+        if let Some(began) = self.began {
+            if let Ok(age) = began.elapsed(rt) {
+                self.last = u64::try_from(age.as_millis()).unwrap_or(u64::MAX);
+            }
+        }
+        self.last
+    }
+}

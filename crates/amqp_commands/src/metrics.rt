@@ -1,0 +1,134 @@
+//! What a gateway counts, in the text format of Prometheus.
+
+use amqp_gateway::{Counts, Ending};
+use std::alloc::{AllocError, Global};
+use std::fs;
+use std::io::{self, Write};
+use std::rt::Files;
+
+/// What is told.
+#[derive(Clone, Copy, Debug)]
+pub struct Metrics {
+    pub counts: Counts,
+    /// How many peers there are.
+    pub open: u64,
+    /// The bytes that they hold, and those that they may.
+    pub held: u64,
+    pub bound: u64,
+    /// The longest turn since they were told last, in milliseconds.
+    pub longest: u64,
+}
+
+impl Metrics {
+    /// Their text.
+    pub fn text(&self, alloc: Global) -> Result<String, AllocError> {
+        let mut text = String::new(alloc);
+        put(
+            alloc,
+            &mut text,
+            "peers_open",
+            "gauge",
+            "Peers that are served.",
+            self.open,
+        )?;
+        put(
+            alloc,
+            &mut text,
+            "connections_accepted_total",
+            "counter",
+            "Connections that were accepted.",
+            self.counts.accepted,
+        )?;
+        put_head(
+            &mut text,
+            "connections_ended_total",
+            "counter",
+            "Connections that ended, by cause.",
+        )?;
+        for ending in Ending::ALL {
+            let count = self.counts.ended.get(ending.place()).copied().unwrap_or(0);
+            let line = format!(in alloc;
+                "amqp_gateway_connections_ended_total{{cause=\"{ending}\"}} {count}\n"
+            )?;
+            text.push_str(line.as_str())?;
+        }
+        put(
+            alloc,
+            &mut text,
+            "messages_total",
+            "counter",
+            "Messages that were recorded.",
+            self.counts.messages,
+        )?;
+        put(
+            alloc,
+            &mut text,
+            "message_bytes_total",
+            "counter",
+            "Bytes of messages that were recorded.",
+            self.counts.bytes,
+        )?;
+        put(
+            alloc,
+            &mut text,
+            "held_bytes",
+            "gauge",
+            "Bytes that all peers hold.",
+            self.held,
+        )?;
+        put(
+            alloc,
+            &mut text,
+            "held_bytes_bound",
+            "gauge",
+            "Bytes that as many peers as may be open can hold.",
+            self.bound,
+        )?;
+        put(
+            alloc,
+            &mut text,
+            "longest_turn_milliseconds",
+            "gauge",
+            "The longest turn of the loop since this file was written last.",
+            self.longest,
+        )?;
+        Ok(text)
+    }
+
+    /// Writes them beside a file, and puts that in its place, so that who reads it finds all or those before.
+    pub fn write<R: Files>(&self, rt: &R, alloc: Global, path: &str) -> io::Result<()> {
+        let text = self.text(alloc)?;
+        let beside = format!(in alloc; "{path}.new")?;
+        let mut file = fs::create(rt, beside.as_str())?;
+        file.write_all(text.as_bytes())?;
+        drop(file);
+        rt.rename(beside.as_str(), path)
+    }
+}
+
+/// Puts what a number is.
+fn put_head(text: &mut String, name: &str, kind: &str, help: &str) -> Result<(), AllocError> {
+    text.push_str("# HELP amqp_gateway_")?;
+    text.push_str(name)?;
+    text.push_str(" ")?;
+    text.push_str(help)?;
+    text.push_str("\n# TYPE amqp_gateway_")?;
+    text.push_str(name)?;
+    text.push_str(" ")?;
+    text.push_str(kind)?;
+    text.push_str("\n")
+}
+
+/// Puts a number.
+fn put(
+    alloc: Global,
+    text: &mut String,
+    name: &str,
+    kind: &str,
+    help: &str,
+    number: u64,
+) -> Result<(), AllocError> {
+    put_head(text, name, kind, help)?;
+    let line = format!(in alloc; "amqp_gateway_{name} {number}\n")?;
+    text.push_str(line.as_str())
+}
