@@ -2,20 +2,9 @@
 --     Loose      the parts of a box
 --     Tokens     that the types' values are lent for as long as the call takes
 --     same       the parts are the box
-use mathlib.Core.Path.{refl}
-use mathlib.Core.List.{[], ◌∷◌}
-use seplogic.Ra.Ura.{Ura}
-use mir.Val.{Val}
-use base.Logic.{id⊢}
-use base.Fml.{flft}
-use types.Logic.{Logic}
-use types.Kit.{Item, Goal, Step, step, ‵, ◌⊛◌, ◌$◌, use1}
 use denote.RattleType.{RattleType}
-use denote.RawPtr.{block_ptr}
 use denote.Signature.{Slot, plain}
-use mathlib.Core.List.{List}
 use Rattle.std_alloc.proofs.BoxSteps.Form.{Bx, D, R, P, B}
-use Rattle.std_alloc.proofs.BoxSteps.Steps.{box_in}
 use Rattle.wuleshomia.specs.contracts.unboxed.Unboxed as Unboxed
 
 module _ (E : Bx) where

@@ -1,5 +1,5 @@
 -- What the numbers that cross stand for.
-use Rattle.std.specs.Prelude.{◌≡◌, ℕ, true, false, nat_eq, if◌then◌else◌, Option, None, Some, Result, Ok, Err}
+use Rattle.std.specs.Prelude.{◌≡◌, ◌<◌, ◌⊎◌, ℕ, true, false, nat_eq, if◌then◌else◌, Option, None, Some, Result, Ok, Err}
 use Rattle.amqp_perform.specs.declared.condition.Condition.{Condition}
 use Rattle.amqp_perform.specs.declared.condition.Condition.TheVariants as condition
 use Rattle.amqp_perform.specs.declared.outcome.Outcome.{Outcome as Settlement}
@@ -22,6 +22,7 @@ use Rattle.amqp_serve.specs.declared.steps.Received.{Received}
 use Rattle.amqp_serve.specs.declared.steps.Receipt.{Receipt}
 use Rattle.amqp_serve.specs.declared.steps.Receipt.TheVariants as receipt
 use Rattle.amqp_serve.specs.declared.steps.Done.{Done}
+use Rattle.amqp_serve.specs.declared.supplies.Topped.{Topped}
 use Rattle.wuleshomia.specs.declared.codes.OpenFault.{OpenFault}
 use Rattle.wuleshomia.specs.declared.codes.OpenFault.TheVariants as refused
 use Rattle.wuleshomia.specs.declared.data.FedReport.{FedReport}
@@ -44,6 +45,25 @@ fault_at n =
     else if nat_eq n 10 then fault.TooMuchCredit
     else if nat_eq n 11 then fault.WindowTooWide
     else fault.Full
+
+-- and the code of a fault
+abbrev pub fault_code : CallFault → ℕ
+fault_code fault.Dead = 1
+fault_code fault.NotOpen = 2
+fault_code fault.NoSession = 3
+fault_code fault.NoLink = 4
+fault_code fault.NoDelivery = 5
+fault_code fault.NotTaken = 6
+fault_code fault.AlreadyTold = 7
+fault_code fault.MixedModes = 8
+fault_code fault.NothingReady = 9
+fault_code fault.TooMuchCredit = 10
+fault_code fault.WindowTooWide = 11
+fault_code fault.Full = 12
+
+-- what a call of the endpoint answers: OK, a fault's code, or that there is none
+abbrev pub IsCallCode : ℕ → Type 0
+IsCallCode code = (code < 13) ⊎ (code ≡ 20)
 
 -- the answer that the code of a call that gives nothing stands for
 abbrev pub accepted_at : ℕ → Answer
@@ -142,6 +162,58 @@ outcome_at f =
     else if nat_eq f.outcome 4 then outcome.NoMemory
     else outcome.Dead
 
+abbrev pub condition_code : Condition → ℕ
+condition_code condition.Other = 0
+condition_code condition.FramingError = 1
+condition_code condition.DecodeError = 2
+condition_code condition.InvalidField = 3
+condition_code condition.IllegalState = 4
+condition_code condition.NotImplemented = 5
+condition_code condition.ResourceLimitExceeded = 6
+condition_code condition.FrameSizeTooSmall = 7
+condition_code condition.WindowViolation = 8
+condition_code condition.HandleInUse = 9
+condition_code condition.UnattachedHandle = 10
+condition_code condition.TransferLimitExceeded = 11
+condition_code condition.MessageSizeExceeded = 12
+
+-- the report of an outcome that is no event, of an event, and of an end with an error
+abbrev pub plain_report : ℕ → FedReport
+plain_report outcome = record { used = 0; outcome = outcome; event = 0; channel = 0; handle = 0; count = 0; scope = 0; condition = 0; reserved = 0 }
+
+abbrev pub event_report : ℕ → ℕ → ℕ → ℕ → FedReport
+event_report event channel handle count = record (plain_report 2) { event = event; channel = channel; handle = handle; count = count }
+
+abbrev pub failure_report : Scope → ℕ → ℕ → FedReport
+failure_report scope.Connection condition count = record (event_report 12 0 0 count) { scope = 1; condition = condition }
+failure_report (scope.Session channel) condition count = record (event_report 12 channel 0 count) { scope = 2; condition = condition }
+failure_report (scope.Link channel handle) condition count = record (event_report 12 channel handle count) { scope = 3; condition = condition }
+
+abbrev pub report_of_event : Event → FedReport
+report_of_event event.Opened = event_report 1 0 0 0
+report_of_event (event.Begun channel) = event_report 2 channel 0 0
+report_of_event (event.Attached channel handle) = event_report 3 channel handle 0
+report_of_event (event.Unfinished channel handle) = event_report 4 channel handle 0
+report_of_event (event.Ready channel handle) = event_report 5 channel handle 0
+report_of_event (event.Aborted channel handle) = event_report 6 channel handle 0
+report_of_event (event.Drained channel handle) = event_report 7 channel handle 0
+report_of_event (event.Settled channel count) = event_report 8 channel 0 count
+report_of_event (event.Detached channel handle dropped) = event_report 9 channel handle dropped
+report_of_event (event.Ended channel dropped) = event_report 10 channel 0 dropped
+report_of_event (event.Closed dropped) = event_report 11 0 0 dropped
+report_of_event (event.Failed scope condition dropped) = failure_report scope (condition_code condition) dropped
+
+abbrev pub report_of : Outcome → FedReport
+report_of outcome.More = plain_report 1
+report_of (outcome.Event e) = report_of_event e
+report_of outcome.Blocked = plain_report 3
+report_of outcome.NoMemory = plain_report 4
+report_of outcome.Dead = plain_report 5
+
+-- it is the report of what it tells: what it doesn't speak of is 0
+pub record IsAllTold (f : FedReport) : Type 0 where
+  pub same : f ≡ record (report_of (outcome_at f)) { used = f.used }
+
 -- What a step came to. ------------------------------------------------------------------------------------------------
 
 abbrev pub received_at : StepReport → Received
@@ -165,7 +237,40 @@ lost_code lost.Write = 29
 lost_code lost.Sink = 30
 lost_code lost.NoMemory = 21
 
+-- the report of these numbers, and of what was done
+abbrev pub receipt_report : FedReport → Topped → ℕ → Received → ℕ → StepReport
+receipt_report fed topped number message refusal = record {
+  fed = fed;
+  receipt = number;
+  id = message.delivery_id;
+  len = message.len;
+  refusal = refusal;
+  widened = topped.widened;
+  granted = topped.granted;
+  refused = topped.refused;
+  reserved = 0;
+}
+
+abbrev pub no_message : Received
+no_message = record { delivery_id = 0; len = 0 }
+
+abbrev pub report_of_receipt : FedReport → Topped → Receipt → StepReport
+report_of_receipt fed topped receipt.Nothing = receipt_report fed topped 0 no_message 0
+report_of_receipt fed topped (receipt.Refused f) = receipt_report fed topped 1 no_message (fault_code f)
+report_of_receipt fed topped (receipt.Settled m) = receipt_report fed topped 2 m 0
+report_of_receipt fed topped (receipt.Told m) = receipt_report fed topped 3 m 0
+report_of_receipt fed topped (receipt.Untold m f) = receipt_report fed topped 4 m (fault_code f)
+
+-- it is the report of what it tells: what it doesn't speak of is 0
+pub record IsStepTold (r : StepReport) : Type 0 where
+  pub fed : IsAllTold r.fed
+  pub same : r ≡ report_of_receipt r.fed (done_at r).topped (done_at r).receipt
+
+-- what a step that broke off has done
+abbrev pub nothing_done : Done
+nothing_done = record { receipt = receipt.Nothing; topped = record { widened = 0; granted = 0; refused = 0 } }
+
 -- a step that came out so has this code and this report
 abbrev pub IsDoneAs : Result Done ServeFault → ℕ → StepReport → Type 0
 IsDoneAs (Ok d) code r = (code ≡ 0) × (done_at r ≡ d)
-IsDoneAs (Err x) code r = code ≡ lost_code x
+IsDoneAs (Err x) code r = (code ≡ lost_code x) × (done_at r ≡ nothing_done)

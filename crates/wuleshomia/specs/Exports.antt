@@ -1,5 +1,5 @@
 -- What the exports do to the endpoint that C holds, and what they answer.
-use Rattle.std.specs.Prelude.{◌≡◌, ℕ, Bool, true, false, nat_eq, nat_le, if◌then◌else◌, List, [], ◌∷◌, ◌++◌, length, take, drop, min, Option, None, Some}
+use Rattle.std.specs.Prelude.{◌≡◌, ◌<◌, ℕ, Bool, true, false, nat_eq, nat_le, if◌then◌else◌, List, [], ◌∷◌, ◌++◌, length, take, drop, min, Option, None, Some}
 use Rattle.std.specs.Str.{IsUtf8}
 use Rattle.amqp_link.specs.Links.{open_count}
 use Rattle.amqp_session.specs.declared.slot.Slot.{Slot}
@@ -17,6 +17,8 @@ use Rattle.wuleshomia.specs.declared.data.LimitRow.{LimitRow}
 use Rattle.wuleshomia.specs.declared.data.LinkReport.{LinkReport}
 use Rattle.wuleshomia.specs.declared.data.TakenReport.{TakenReport}
 use Rattle.wuleshomia.specs.declared.held.Held.{Held}
+use Rattle.wuleshomia.specs.declared.views.Terminus.{Terminus}
+use Rattle.wuleshomia.specs.declared.views.Terminus.TheVariants as terminus
 use Rattle.wuleshomia.specs.Codes.{fault_at}
 
 -- What happens. -------------------------------------------------------------------------------------------------------
@@ -128,6 +130,7 @@ pub record IsTaken (channel handle : ℕ) (t : TakenReport) (before after : Held
   pub rest : after ≡ record before { endpoint = after.endpoint; message = after.message }
   pub does : Does before.endpoint after.endpoint (InSession channel (Take handle)) (handed_at t (bytes_in after.message))
   pub len : t.len ≡ length (bytes_in after.message)
+  pub settled : t.settled < 2
 
 abbrev pub TakesIf : Bool → ℕ → ℕ → ℕ → TakenReport → Held → Held → Type 0
 TakesIf true code channel handle t before after = IsTaken channel handle t before after
@@ -170,3 +173,8 @@ abbrev pub ShowsPart : Slot LiveLink → (LiveLink → List ℕ) → ℕ → Lis
 ShowsPart Free part code old new = (code ≡ 4) × (new ≡ old)
 ShowsPart (Live l) part code old new = (code ≡ 0) × IsCopied (part l) old new
 ShowsPart Waits part code old new = (code ≡ 4) × (new ≡ old)
+
+-- one of its source and its target
+abbrev pub terminus_of : Terminus → List ℕ → List ℕ → List ℕ
+terminus_of terminus.Source source target = source
+terminus_of terminus.Target source target = target

@@ -10,7 +10,7 @@ use Rattle.amqp_perform.specs.declared.outcome.Outcome.{Outcome as Settlement}
 use Rattle.wuleshomia.specs.declared.data.ServeRule.{ServeRule}
 use Rattle.wuleshomia.specs.declared.data.StepReport.{StepReport}
 use Rattle.wuleshomia.specs.declared.held.Held.{Held}
-use Rattle.wuleshomia.specs.Codes.{outcome_at, IsDoneAs, lost_code}
+use Rattle.wuleshomia.specs.Codes.{outcome_at, IsDoneAs, IsStepTold, lost_code}
 use Rattle.wuleshomia.specs.Exports.{next_of}
 
 -- the rule, by what it says becomes of messages
@@ -52,6 +52,7 @@ pub record HasServed (r : Rule) (piece : List ℕ) (s : Stepped) (before after :
 pub record IsServed (r : Rule) (piece : List ℕ) (code : ℕ) (report : StepReport) (before after : Held) : Type 0 where
   pub done : Result Done ServeFault
   pub told : IsDoneAs done code report
+  pub all : IsStepTold report
   pub served : HasServed r piece (record { used = report.fed.used; told = outcome_at report.fed; done = done }) before after
 
 abbrev pub ServesAs : Option ℕ → Rule → List ℕ → ℕ → StepReport → StepReport → Held → Held → Type 0

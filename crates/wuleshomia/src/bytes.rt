@@ -2,7 +2,7 @@
 ghost use Rattle.std.specs.Prelude.{◌≡◌, ◌<◌, ◌++◌, nat_lt, min, length, take, drop, if◌then◌else◌};
 ghost use Rattle.amqp_endpoint.specs.Connections.{is_dead};
 ghost use Rattle.amqp_endpoint.specs.Runs.{Feed, Fed, Close, Heartbeat, Finish, Ended};
-ghost use Rattle.wuleshomia.specs.Codes.{accepted_at, dropped_at, end_at, outcome_at};
+ghost use Rattle.wuleshomia.specs.Codes.{accepted_at, dropped_at, end_at, outcome_at, IsAllTold, IsCallCode};
 ghost use Rattle.wuleshomia.specs.Exports.{Did, Makes, Moves, waiting_in};
 
 use crate::codes::{NO_ENDPOINT, OK, of_count, of_done, of_end, of_fed};
@@ -18,13 +18,14 @@ pub extern "C" fn wule_feed(
     bytes: &[u8],
     fed: &mut FedReport,
 ) -> u32
-    ensures { Did endpoint.old.held endpoint.new.held (λ before after. Makes (Feed bytes.now) (Fed fed.new.used (outcome_at fed.new)) before after × (result ≡ 0)) ((result ≡ 20) × (fed.new ≡ fed.old)) }
+    ensures done { Did endpoint.old.held endpoint.new.held (λ before after. Makes (Feed bytes.now) (Fed fed.new.used (outcome_at fed.new)) before after × (result ≡ 0)) ((result ≡ 20) × (fed.new ≡ fed.old)) }
+    ensures told { result ≡ 0 → IsAllTold fed.new }
 {
     let Some(mut held) = endpoint.take(alloc) else {
         return NO_ENDPOINT;
     };
     *fed = of_fed(held.as_mut().endpoint.feed(bytes));
-    endpoint.put(alloc, held);
+    endpoint.put_back(alloc, held);
     OK
 }
 
@@ -43,7 +44,7 @@ pub extern "C" fn wule_output(
         return 0;
     };
     let count = held.as_mut().output(alloc, room);
-    endpoint.put(alloc, held);
+    endpoint.put_back(alloc, held);
     count
 }
 
@@ -57,7 +58,7 @@ pub extern "C" fn wule_has_output(alloc: Global, endpoint: &mut EndpointHandle) 
         return 0;
     };
     let waits = held.as_ref().has_output();
-    endpoint.put(alloc, held);
+    endpoint.put_back(alloc, held);
     if waits { 1 } else { 0 }
 }
 
@@ -65,26 +66,28 @@ pub extern "C" fn wule_has_output(alloc: Global, endpoint: &mut EndpointHandle) 
 #[unsafe(no_mangle)]
 pub extern "C" fn wule_close(alloc: Global, endpoint: &mut EndpointHandle, dropped: &mut u32) -> u32
     ensures done { Did endpoint.old.held endpoint.new.held (Makes Close (dropped_at result dropped.new)) (result ≡ 20) }
+    ensures code { IsCallCode result }
     ensures kept { 0 < result → dropped.new ≡ dropped.old }
 {
     let Some(mut held) = endpoint.take(alloc) else {
         return NO_ENDPOINT;
     };
     let code = of_count(held.as_mut().endpoint.close(), dropped);
-    endpoint.put(alloc, held);
+    endpoint.put_back(alloc, held);
     code
 }
 
 /// Writes an empty frame.
 #[unsafe(no_mangle)]
 pub extern "C" fn wule_heartbeat(alloc: Global, endpoint: &mut EndpointHandle) -> u32
-    ensures { Did endpoint.old.held endpoint.new.held (Makes Heartbeat (accepted_at result)) (result ≡ 20) }
+    ensures done { Did endpoint.old.held endpoint.new.held (Makes Heartbeat (accepted_at result)) (result ≡ 20) }
+    ensures code { IsCallCode result }
 {
     let Some(mut held) = endpoint.take(alloc) else {
         return NO_ENDPOINT;
     };
     let code = of_done(held.as_mut().endpoint.heartbeat());
-    endpoint.put(alloc, held);
+    endpoint.put_back(alloc, held);
     code
 }
 
@@ -93,13 +96,14 @@ pub extern "C" fn wule_heartbeat(alloc: Global, endpoint: &mut EndpointHandle) -
 #[unsafe(no_mangle)]
 pub extern "C" fn wule_finish(alloc: Global, endpoint: &mut EndpointHandle, inside: &mut u64) -> u32
     ensures done { Did endpoint.old.held endpoint.new.held (λ before after. Makes Finish (Ended (end_at result inside.new)) before after × (0 < result)) (result ≡ 0) }
+    ensures code { result < 5 }
     ensures kept { (result ≡ 3 → ⊥) → inside.new ≡ inside.old }
 {
     let Some(mut held) = endpoint.take(alloc) else {
         return 0;
     };
     let code = of_end(held.as_mut().endpoint.finish(), inside);
-    endpoint.put(alloc, held);
+    endpoint.put_back(alloc, held);
     code
 }
 
@@ -112,6 +116,6 @@ pub extern "C" fn wule_is_over(alloc: Global, endpoint: &mut EndpointHandle) -> 
         return 1;
     };
     let over = held.as_ref().endpoint.is_over();
-    endpoint.put(alloc, held);
+    endpoint.put_back(alloc, held);
     if over { 1 } else { 0 }
 }

@@ -4,7 +4,7 @@ ghost use Rattle.amqp_endpoint.specs.Endpoints.{accepted_by, dropped_by, named_b
 ghost use Rattle.amqp_endpoint.specs.declared.event.Event.TheVariants as event;
 ghost use Rattle.amqp_endpoint.specs.declared.event.Outcome.TheVariants as outcome;
 ghost use Rattle.amqp_perform.specs.declared.outcome.Outcome.TheVariants as settlement;
-ghost use Rattle.wuleshomia.specs.Codes.{fault_at, accepted_at, dropped_at, named_at, Found, settlement_at, condition_at, outcome_at, end_at, open_fault_at, receipt_at, done_at, lost_code, IsDoneAs};
+ghost use Rattle.wuleshomia.specs.Codes.{fault_at, fault_code, accepted_at, dropped_at, named_at, Found, settlement_at, condition_at, outcome_at, end_at, open_fault_at, receipt_at, done_at, lost_code, IsDoneAs, condition_code, failure_report, report_of_event, report_of, report_of_receipt, IsAllTold, IsStepTold};
 
 use crate::data::{FedReport, StepReport};
 use amqp_endpoint::{CallFault, End, Event, Fed, LimitFault, Outcome, Scope};
@@ -55,7 +55,9 @@ pub enum OpenFault {
 /// Why no endpoint was set up, and which row of the limits is at fault where one is.
 pub fn of_open_fault(fault: OpenFault, row: &mut usize) -> u32
     ensures fault { open_fault_at result row.new ≡ fault }
-    ensures some { 0 < result }
+    ensures some { 20 < result }
+    ensures few { result < 27 }
+    ensures kept { result < 25 → row.new ≡ row.old }
 {
     match fault {
         OpenFault::InUse => IN_USE,
@@ -75,9 +77,10 @@ pub fn of_open_fault(fault: OpenFault, row: &mut usize) -> u32
 
 /// Why a call was refused.
 pub fn of_fault(fault: CallFault) -> u32
+    ensures code { result ≡ fault_code fault }
     ensures fault { fault_at result ≡ fault }
     ensures some { 0 < result }
-    ensures few { result < 20 }
+    ensures few { result < 13 }
 {
     match fault {
         CallFault::Dead => 1,
@@ -97,7 +100,8 @@ pub fn of_fault(fault: CallFault) -> u32
 
 /// What became of a call that gives nothing.
 pub fn of_done(done: Result<(), CallFault>) -> u32
-    ensures { accepted_at result ≡ accepted_by done }
+    ensures accepted { accepted_at result ≡ accepted_by done }
+    ensures few { result < 13 }
 {
     match done {
         Ok(()) => OK,
@@ -110,6 +114,7 @@ pub fn of_count(given: Result<u32, CallFault>, count: &mut u32) -> u32
     ensures dropped { dropped_at result count.new ≡ dropped_by given }
     ensures named { named_at result count.new ≡ named_by given }
     ensures kept { 0 < result → count.new ≡ count.old }
+    ensures few { result < 13 }
 {
     match given {
         Ok(number) => {
@@ -159,7 +164,8 @@ fn modified(failed: bool, undeliverable: bool) -> Settlement
 }
 
 fn of_condition(condition: Condition) -> u32
-    ensures { condition_at result ≡ condition }
+    ensures code { result ≡ condition_code condition }
+    ensures condition { condition_at result ≡ condition }
 {
     match condition {
         Condition::Other => 0,
@@ -182,6 +188,7 @@ fn of_condition(condition: Condition) -> u32
 pub fn of_end(end: End, inside: &mut u64) -> u32
     ensures end { end_at result inside.new ≡ end }
     ensures some { 0 < result }
+    ensures few { result < 5 }
     ensures kept { (result ≡ 3 → ⊥) → inside.new ≡ inside.old }
 {
     match end {
@@ -199,6 +206,7 @@ pub fn of_end(end: End, inside: &mut u64) -> u32
 pub fn of_fed(fed: Fed) -> FedReport
     ensures used { result.used ≡ fed.used }
     ensures outcome { outcome_at result ≡ fed.outcome }
+    ensures told { IsAllTold result }
 {
     let Fed { used, outcome } = fed;
     let mut told = told(outcome);
@@ -207,7 +215,8 @@ pub fn of_fed(fed: Fed) -> FedReport
 }
 
 fn told(outcome: Outcome) -> FedReport
-    ensures { outcome_at result ≡ outcome }
+    ensures outcome { outcome_at result ≡ outcome }
+    ensures report { result ≡ report_of outcome }
 {
     match outcome {
         Outcome::More => plain(1),
@@ -246,7 +255,8 @@ fn about(event: u32, channel: u16, handle: u32, count: u32) -> FedReport
 }
 
 fn of_event(event: Event) -> FedReport
-    ensures { outcome_at result ≡ outcome.Event event }
+    ensures outcome { outcome_at result ≡ outcome.Event event }
+    ensures report { result ≡ report_of_event event }
 {
     match event {
         Event::Opened => about(1, 0, 0, 0),
@@ -273,7 +283,8 @@ fn of_event(event: Event) -> FedReport
 }
 
 fn of_failure(scope: Scope, condition: Condition, dropped: u32) -> FedReport
-    ensures { outcome_at result ≡ outcome.Event (event.Failed scope condition dropped) }
+    ensures outcome { outcome_at result ≡ outcome.Event (event.Failed scope condition dropped) }
+    ensures report { result ≡ failure_report scope (condition_code condition) dropped }
 {
     let (number, channel, handle) = match scope {
         Scope::Connection => (1, 0, 0),
@@ -302,6 +313,7 @@ pub fn of_step(stepped: Stepped, report: &mut StepReport) -> u32
     ensures used { report.new.fed.used ≡ stepped.used }
     ensures told { outcome_at report.new.fed ≡ stepped.told }
     ensures done { IsDoneAs stepped.done result report.new }
+    ensures all { IsStepTold report.new }
 {
     let Stepped { used, told, done } = stepped;
     let fed = of_fed(Fed {
@@ -323,6 +335,7 @@ pub fn of_step(stepped: Stepped, report: &mut StepReport) -> u32
 fn of_work(fed: FedReport, done: Done) -> StepReport
     ensures fed { result.fed ≡ fed }
     ensures done { done_at result ≡ done }
+    ensures report { result ≡ report_of_receipt fed done.topped done.receipt }
 {
     let mut report = of_receipt(fed, done.receipt);
     report.widened = done.topped.widened;
@@ -334,6 +347,7 @@ fn of_work(fed: FedReport, done: Done) -> StepReport
 fn of_receipt(fed: FedReport, receipt: Receipt) -> StepReport
     ensures fed { result.fed ≡ fed }
     ensures receipt { receipt_at result ≡ receipt }
+    ensures report { result ≡ report_of_receipt fed (record { widened = 0; granted = 0; refused = 0 }) receipt }
 {
     match receipt {
         Receipt::Nothing => no_work(fed),

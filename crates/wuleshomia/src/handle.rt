@@ -84,6 +84,18 @@ impl EndpointHandle {
         let before = mem::replace(self, EndpointHandle::of_unboxed(Unboxed::of(held)));
         drop(before.into_held(alloc));
     }
+
+    /// Puts one back, where none is held.
+    pub(crate) fn put_back(&mut self, alloc: Global, held: Box<Held>)
+        requires { self.old.held ≡ None }
+        ensures { self.new.held ≡ Some held.value }
+    {
+        let none = mem::replace(self, EndpointHandle::of_unboxed(Unboxed::of(held)));
+        match none.into_unboxed(alloc) {
+            None => {}
+            Some(_) => unreachable!(),
+        }
+    }
 }
 
 unsafe impl Send for EndpointHandle {}

@@ -1,6 +1,7 @@
 //! Messages.
 ghost use Rattle.std.specs.Prelude.{◌≡◌, ◌<◌, ◌≤◌, ◌+◌, ◌-◌, ◌++◌, min, length, take, drop};
 ghost use Rattle.std.specs.Option.{option_map};
+ghost use Rattle.wuleshomia.specs.Codes.{IsCallCode};
 ghost use Rattle.wuleshomia.specs.Exports.{Did, Takes, message_in, without_message, IsCopied};
 
 use crate::codes::{NO_ENDPOINT, OK, of_fault};
@@ -22,6 +23,7 @@ pub extern "C" fn wule_take(
     room: &mut [u8],
 ) -> u32
     ensures took { Did endpoint.old.held endpoint.new.held (Takes result (min channel 65535) handle taken.new) (result ≡ 20) }
+    ensures code { IsCallCode result }
     ensures bytes { result ≡ 0 → IsCopied (message_in endpoint.new.held) room.old room.new }
     ensures kept { 0 < result → (taken.new ≡ taken.old) × (room.new ≡ room.old) }
 {
@@ -50,7 +52,7 @@ pub extern "C" fn wule_take(
         }
         Err(fault) => of_fault(fault),
     };
-    endpoint.put(alloc, held);
+    endpoint.put_back(alloc, held);
     code
 }
 
@@ -73,7 +75,7 @@ pub extern "C" fn wule_message_read(
         Some(message) => read(message, at, room),
         None => 0,
     };
-    endpoint.put(alloc, held);
+    endpoint.put_back(alloc, held);
     count
 }
 
@@ -84,7 +86,7 @@ pub extern "C" fn wule_message_drop(alloc: Global, endpoint: &mut EndpointHandle
 {
     if let Some(mut held) = endpoint.take(alloc) {
         held.as_mut().message = None;
-        endpoint.put(alloc, held);
+        endpoint.put_back(alloc, held);
     }
 }
 
@@ -93,16 +95,10 @@ fn read(message: &Message, at: usize, room: &mut [u8]) -> usize
     ensures count { result ≡ min (length room.old) (length (drop at message.now)) }
     ensures bytes { room.new ≡ take result (drop at message.now) ++ drop result room.old }
 {
-    if at >= message.len() {
-        return 0;
-    }
+    let wanted = message.len().saturating_sub(at).min(room.len());
     let mut count = 0;
-    while count < room.len() {
-        let piece = message.piece(at + count);
-        if piece.is_empty() {
-            break;
-        }
-        count += put(piece, room, count);
+    while count < wanted {
+        count += put(message.piece(at + count), room, count);
     }
     count
 }

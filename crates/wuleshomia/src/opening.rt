@@ -37,6 +37,8 @@ pub extern "C" fn wule_open(
     ensures opened { result ≡ 0 → IsOpened settings.now container_id.now (map limit_of limits.now) endpoint.old.held endpoint.new.held }
     ensures refused { 0 < result → OpenRefused settings.now container_id.now (map limit_of limits.now) endpoint.old.held (open_fault_at result row.new) }
     ensures same { 0 < result → endpoint.new.held ≡ endpoint.old.held }
+    ensures code { (result ≡ 0) ⊎ ((20 < result) × (result < 27)) }
+    ensures row { result < 25 → row.new ≡ row.old }
 {
     match open(alloc, endpoint, settings, container_id, limits) {
         Ok(()) => OK,
@@ -56,7 +58,7 @@ fn open(
     ensures same { IsErr result → endpoint.new.held ≡ endpoint.old.held }
 {
     if let Some(held) = endpoint.take(alloc) {
-        endpoint.put(alloc, held);
+        endpoint.put_back(alloc, held);
         return Err(OpenFault::InUse);
     }
     let held = made(alloc, settings, container_id, limits)?;

@@ -1,8 +1,8 @@
 //! What an application asks of a session and its links.
-ghost use Rattle.std.specs.Prelude.{◌≡◌, ◌<◌, min, MatchOption};
+ghost use Rattle.std.specs.Prelude.{◌≡◌, ◌<◌, ◌⊎◌, min, MatchOption};
 ghost use Rattle.amqp_session.specs.Calls.{Widen, Grant, Drain, Settle, SettleRange, Detach};
 ghost use Rattle.amqp_endpoint.specs.Runs.{InSession};
-ghost use Rattle.wuleshomia.specs.Codes.{accepted_at, dropped_at, named_at, settlement_at};
+ghost use Rattle.wuleshomia.specs.Codes.{accepted_at, dropped_at, named_at, settlement_at, IsCallCode};
 ghost use Rattle.wuleshomia.specs.Exports.{Did, Makes};
 
 use crate::codes::{BAD_OUTCOME, NO_ENDPOINT, of_count, of_done, settlement};
@@ -25,13 +25,14 @@ pub extern "C" fn wule_grant(
     handle: u32,
     n: u32,
 ) -> u32
-    ensures { Did endpoint.old.held endpoint.new.held (Makes (InSession (min channel 65535) (Grant handle n)) (accepted_at result)) (result ≡ 20) }
+    ensures done { Did endpoint.old.held endpoint.new.held (Makes (InSession (min channel 65535) (Grant handle n)) (accepted_at result)) (result ≡ 20) }
+    ensures code { IsCallCode result }
 {
     let Some(mut held) = endpoint.take(alloc) else {
         return NO_ENDPOINT;
     };
     let code = of_done(held.as_mut().endpoint.grant(number(channel), handle, n));
-    endpoint.put(alloc, held);
+    endpoint.put_back(alloc, held);
     code
 }
 
@@ -43,13 +44,14 @@ pub extern "C" fn wule_widen(
     channel: u32,
     n: u32,
 ) -> u32
-    ensures { Did endpoint.old.held endpoint.new.held (Makes (InSession (min channel 65535) (Widen n)) (accepted_at result)) (result ≡ 20) }
+    ensures done { Did endpoint.old.held endpoint.new.held (Makes (InSession (min channel 65535) (Widen n)) (accepted_at result)) (result ≡ 20) }
+    ensures code { IsCallCode result }
 {
     let Some(mut held) = endpoint.take(alloc) else {
         return NO_ENDPOINT;
     };
     let code = of_done(held.as_mut().endpoint.widen(number(channel), n));
-    endpoint.put(alloc, held);
+    endpoint.put_back(alloc, held);
     code
 }
 
@@ -61,13 +63,14 @@ pub extern "C" fn wule_drain(
     channel: u32,
     handle: u32,
 ) -> u32
-    ensures { Did endpoint.old.held endpoint.new.held (Makes (InSession (min channel 65535) (Drain handle)) (accepted_at result)) (result ≡ 20) }
+    ensures done { Did endpoint.old.held endpoint.new.held (Makes (InSession (min channel 65535) (Drain handle)) (accepted_at result)) (result ≡ 20) }
+    ensures code { IsCallCode result }
 {
     let Some(mut held) = endpoint.take(alloc) else {
         return NO_ENDPOINT;
     };
     let code = of_done(held.as_mut().endpoint.drain(number(channel), handle));
-    endpoint.put(alloc, held);
+    endpoint.put_back(alloc, held);
     code
 }
 
@@ -80,7 +83,8 @@ pub extern "C" fn wule_settle(
     id: u32,
     outcome: u32,
 ) -> u32
-    ensures { MatchOption (settlement_at outcome) ((result ≡ 27) × (endpoint.new.held ≡ endpoint.old.held)) (λ o. Did endpoint.old.held endpoint.new.held (Makes (InSession (min channel 65535) (Settle id o)) (accepted_at result)) (result ≡ 20)) }
+    ensures done { MatchOption (settlement_at outcome) ((result ≡ 27) × (endpoint.new.held ≡ endpoint.old.held)) (λ o. Did endpoint.old.held endpoint.new.held (Makes (InSession (min channel 65535) (Settle id o)) (accepted_at result)) (result ≡ 20)) }
+    ensures code { IsCallCode result ⊎ (result ≡ 27) }
 {
     let Some(outcome) = settlement(outcome) else {
         return BAD_OUTCOME;
@@ -89,7 +93,7 @@ pub extern "C" fn wule_settle(
         return NO_ENDPOINT;
     };
     let code = of_done(held.as_mut().endpoint.settle(number(channel), id, outcome));
-    endpoint.put(alloc, held);
+    endpoint.put_back(alloc, held);
     code
 }
 
@@ -105,6 +109,7 @@ pub extern "C" fn wule_settle_range(
     named: &mut u32,
 ) -> u32
     ensures done { MatchOption (settlement_at outcome) ((result ≡ 27) × (endpoint.new.held ≡ endpoint.old.held)) (λ o. Did endpoint.old.held endpoint.new.held (Makes (InSession (min channel 65535) (SettleRange first last o)) (named_at result named.new)) (result ≡ 20)) }
+    ensures code { IsCallCode result ⊎ (result ≡ 27) }
     ensures kept { 0 < result → named.new ≡ named.old }
 {
     let Some(outcome) = settlement(outcome) else {
@@ -119,7 +124,7 @@ pub extern "C" fn wule_settle_range(
             .settle_range(number(channel), first, last, outcome),
         named,
     );
-    endpoint.put(alloc, held);
+    endpoint.put_back(alloc, held);
     code
 }
 
@@ -133,6 +138,7 @@ pub extern "C" fn wule_detach(
     dropped: &mut u32,
 ) -> u32
     ensures done { Did endpoint.old.held endpoint.new.held (Makes (InSession (min channel 65535) (Detach handle)) (dropped_at result dropped.new)) (result ≡ 20) }
+    ensures code { IsCallCode result }
     ensures kept { 0 < result → dropped.new ≡ dropped.old }
 {
     let Some(mut held) = endpoint.take(alloc) else {
@@ -142,6 +148,6 @@ pub extern "C" fn wule_detach(
         held.as_mut().endpoint.detach(number(channel), handle),
         dropped,
     );
-    endpoint.put(alloc, held);
+    endpoint.put_back(alloc, held);
     code
 }

@@ -39,7 +39,7 @@ pub extern "C" fn wule_serve_step(
         Some(refusal) => refusal,
         None => of_step(held.as_mut().serve(alloc, rule, bytes), step),
     };
-    endpoint.put(alloc, held);
+    endpoint.put_back(alloc, held);
     code
 }
 
@@ -58,6 +58,6 @@ pub extern "C" fn wule_records(
         return 0;
     };
     let count = held.as_mut().records.move_into(alloc, room);
-    endpoint.put(alloc, held);
+    endpoint.put_back(alloc, held);
     count
 }

@@ -7,7 +7,7 @@ ghost use Rattle.amqp_endpoint.specs.Connections.{slot_at};
 ghost use Rattle.amqp_endpoint.specs.Held.{held};
 ghost use Rattle.amqp_endpoint.specs.Takings.{link_at};
 ghost use Rattle.wuleshomia.specs.Codes.{Found, found_at};
-ghost use Rattle.wuleshomia.specs.Exports.{Did, report_of, Shows, ShowsPart};
+ghost use Rattle.wuleshomia.specs.Exports.{Did, report_of, Shows, ShowsPart, terminus_of};
 
 use crate::codes::{NO_ENDPOINT, NO_LINK, NO_SESSION, OK, of_found};
 use crate::data::LinkReport;
@@ -26,7 +26,7 @@ pub extern "C" fn wule_held(alloc: Global, endpoint: &mut EndpointHandle) -> u64
         return 0;
     };
     let count = held.as_ref().endpoint.held();
-    endpoint.put(alloc, held);
+    endpoint.put_back(alloc, held);
     count
 }
 
@@ -44,7 +44,7 @@ pub extern "C" fn wule_window(
         return NO_ENDPOINT;
     };
     let window = held.as_ref().endpoint.window(number(channel));
-    endpoint.put(alloc, held);
+    endpoint.put_back(alloc, held);
     of_found(window, NO_SESSION, places)
 }
 
@@ -71,7 +71,7 @@ pub extern "C" fn wule_link(
         }
         None => NO_LINK,
     };
-    endpoint.put(alloc, held);
+    endpoint.put_back(alloc, held);
     code
 }
 
@@ -107,18 +107,7 @@ pub extern "C" fn wule_link_source(
 ) -> u32
     ensures { Did endpoint.old.held endpoint.new.held (λ before after. (after ≡ before) × ShowsPart (link_at before.endpoint.connection (min channel 65535) handle) (λ l. l.source) result room.old room.new) ((result ≡ 20) × (room.new ≡ room.old)) }
 {
-    let Some(held) = endpoint.take(alloc) else {
-        return NO_ENDPOINT;
-    };
-    let code = match held.as_ref().endpoint.link(number(channel), handle) {
-        Some(view) => {
-            let _ = put(view.source, room, 0);
-            OK
-        }
-        None => NO_LINK,
-    };
-    endpoint.put(alloc, held);
-    code
+    show_terminus(alloc, endpoint, channel, handle, Terminus::Source, room)
 }
 
 /// The first bytes of its target.
@@ -132,18 +121,48 @@ pub extern "C" fn wule_link_target(
 ) -> u32
     ensures { Did endpoint.old.held endpoint.new.held (λ before after. (after ≡ before) × ShowsPart (link_at before.endpoint.connection (min channel 65535) handle) (λ l. l.target) result room.old room.new) ((result ≡ 20) × (room.new ≡ room.old)) }
 {
+    show_terminus(alloc, endpoint, channel, handle, Terminus::Target, room)
+}
+
+/// An end of a link.
+#[derive(Clone, Copy)]
+enum Terminus {
+    Source,
+    Target,
+}
+
+/// The first bytes of an end of a link.
+fn show_terminus(
+    alloc: Global,
+    endpoint: &mut EndpointHandle,
+    channel: u32,
+    handle: u32,
+    terminus: Terminus,
+    room: &mut [u8],
+) -> u32
+    ensures { Did endpoint.old.held endpoint.new.held (λ before after. (after ≡ before) × ShowsPart (link_at before.endpoint.connection (min channel 65535) handle) (λ l. terminus_of terminus l.source l.target) result room.old room.new) ((result ≡ 20) × (room.new ≡ room.old)) }
+{
     let Some(held) = endpoint.take(alloc) else {
         return NO_ENDPOINT;
     };
     let code = match held.as_ref().endpoint.link(number(channel), handle) {
         Some(view) => {
-            let _ = put(view.target, room, 0);
+            let _ = put(terminus_in(&view, terminus), room, 0);
             OK
         }
         None => NO_LINK,
     };
-    endpoint.put(alloc, held);
+    endpoint.put_back(alloc, held);
     code
+}
+
+fn terminus_in<'a>(view: &LinkView<'a>, terminus: Terminus) -> &'a [u8]
+    ensures { result.now ≡ terminus_of terminus view.now.source.now view.now.target.now }
+{
+    match terminus {
+        Terminus::Source => view.source,
+        Terminus::Target => view.target,
+    }
 }
 
 /// The first handle from one on whose link has less credit than that, and is allowed more.
@@ -167,6 +186,6 @@ pub extern "C" fn wule_first_lacking(
         .as_ref()
         .endpoint
         .first_lacking(number(channel), from, credit);
-    endpoint.put(alloc, held);
+    endpoint.put_back(alloc, held);
     of_found(lacking, NO_LINK, found)
 }
