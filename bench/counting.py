@@ -1,4 +1,4 @@
-"""What `instructions` and `functions` share: a run of `benches` under valgrind, and how many rounds take long enough."""
+"""What `instructions` and `functions` share: a run of `bench_functions` under valgrind, and how many rounds take long enough."""
 import os
 import re
 import subprocess

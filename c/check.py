@@ -23,9 +23,9 @@ HERE = Path(__file__).resolve().parent
 ROOT = HERE.parent
 BUILD = Path(sys.argv[1]).resolve() if len(sys.argv) > 1 else HERE / "build"
 PYTHON = ROOT / "python"
-RECEIVE = ROOT / "crates" / "receive"
+RECEIVE = ROOT / "crates" / "example_receive"
 SHOP = RECEIVE / "data" / "shop.amqp"
-STREAMS = sorted((ROOT / "crates" / "layer_rows" / "data").glob("*.amqp"))
+STREAMS = sorted((ROOT / "crates" / "test_layer_rows" / "data").glob("*.amqp"))
 SECONDS = 300
 ENVIRONMENT = {**os.environ, "WULESHOMIA_LIBRARY": str(BUILD / "libwuleshomia.so"), "PYTHONPATH": str(PYTHON / "src"), "PYTHONDONTWRITEBYTECODE": "1"}
 PROTON_PYTHON = next((p for p in (sys.executable, "/usr/bin/python3") if subprocess.run([p, "-c", "import proton"], capture_output=True).returncode == 0), None)
@@ -112,7 +112,7 @@ def _() -> str:
     return f"asks for {', '.join(sorted(asked))}"
 
 
-@test("the twins print what crates/receive prints, in every cutting from 1 to 64 bytes and whole")
+@test("the twins print what crates/example_receive prints, in every cutting from 1 to 64 bytes and whole")
 def _() -> None:
     wanted = (RECEIVE / "stdout").read_bytes()
     for piece in (*range(1, 65), 1 << 20):

@@ -1,4 +1,4 @@
-/* The twin of crates/receive: over the same file it prints the same lines.   receive FILE [PIECE] */
+/* The twin of crates/example_receive: over the same file it prints the same lines.   receive FILE [PIECE] */
 #include "wuleshomia.h"
 #include <stdio.h>
 #include <stdlib.h>
@@ -46,7 +46,7 @@ static void tell_failure(const wule_fed *fed) {
     printf(", %s\n", wule_condition_symbol(fed->condition));
 }
 
-/* Credit and windows as crates/receive gives them. */
+/* Credit and windows as crates/example_receive gives them. */
 static void top_up(wule_endpoint *e) {
     uint32_t channel, handle, places, open;
     for (channel = 0; channel < CHANNELS; channel++) {

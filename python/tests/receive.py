@@ -1,4 +1,4 @@
-"""The twin of crates/receive: over the same file it prints the same lines.   receive.py FILE [PIECE]"""
+"""The twin of crates/example_receive: over the same file it prints the same lines.   receive.py FILE [PIECE]"""
 
 from __future__ import annotations
 
@@ -31,7 +31,7 @@ def receive(endpoint: Endpoint, channel: int, handle: int) -> None:
 
 
 def top_up(endpoint: Endpoint) -> None:
-    """Credit and windows as crates/receive gives them."""
+    """Credit and windows as crates/example_receive gives them."""
     for channel in range(PLACES):
         try:
             places = endpoint.window(channel)

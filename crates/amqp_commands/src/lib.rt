@@ -2,7 +2,7 @@
 //! `amqp_records`, `replay` by `amqp_script`, `recv` by `amqp_serve` over sockets (`recv`), told by `amqp_trace` (`told`), `gateway` by
 //! `amqp_gateway` (`gateway`), with its records in a file (`store`) and what it counts (`metrics`), `send` by `amqp_send` (`send_file`,
 //! `send`).
-//! The tests stand in `amqp_tests`.
+//! The tests stand in `test_amqp`.
 #![tactic(auto)]
 
 mod command;

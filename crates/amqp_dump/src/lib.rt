@@ -4,7 +4,7 @@
 //! [`dump`] (`printer`) reads a piece from a `Device`, has `scan` cut it into units and tell of each (`scanned`), prints
 //! their lines into one buffer (`lines`, values by `text`, into a `page`), writes them from there, and reads again.
 //! `specs/Entries.antt` has what is told of a stream, `specs/Printing.antt` what is printed of it.
-//! The tests stand in `codec_rows`, `amqp_tests` and `same_as_before`.
+//! The tests stand in `test_codec_rows`, `test_amqp` and `test_texts_against_start`.
 #![tactic(auto)]
 
 mod digits;

@@ -26,7 +26,7 @@ use Rattle.amqp_session.specs.Laws.{IsCallInRange}
 use Rattle.amqp_session.specs.Places.{IfLive, Life, life_state, IsInUse}
 use Rattle.amqp_session.specs.Sessions as event
 use Rattle.amqp_session.specs.Sessions.{LiveLink, SessionState, SessionEvent, SessionMay}
-use Rattle.amqp_link.specs.Links.{Sent, Delivery, first_ready, is_beyond}
+use Rattle.amqp_link.specs.Links.{Sent, Delivery, first_ready, is_beyond_credit}
 use Rattle.amqp_session.proofs.Firsts.{neither}
 use Rattle.amqp_session.proofs.Places.{got, tabulate_long}
 use Rattle.amqp_session.proofs.Tables.{same_live, present, found}
@@ -148,7 +148,7 @@ one_event config false d e x y = y
 flow_limited : (config : Configured) (handle : ℕ) (f : Flowing) (x : Slot LiveLink) → IsLimited config (session.flow_event handle f x)
 flow_limited config handle f Free = tt
 flow_limited config handle f (Live l) =
-    one_event config (is_beyond l.link.delivery_count l.link.credit f.delivery_count) (event.LinkFlowEnded handle f.next_outgoing_id)
+    one_event config (is_beyond_credit l.link.delivery_count l.link.credit f.delivery_count) (event.LinkFlowEnded handle f.next_outgoing_id)
     (event.LinkFlowCame handle f.next_outgoing_id f.delivery_count) tt tt
 flow_limited config handle f Waits = tt
 

@@ -15,7 +15,7 @@ use Rattle.amqp_session.specs.Sessions.{Attached, SessionEvent, SessionMay, IsAt
 use Rattle.amqp_session.proofs.Places.{got, get_at}
 use Rattle.amqp_session.proofs.Tables.{same_live}
 use Rattle.amqp_endpoint.specs.Configs.{Configured}
-use Rattle.amqp_endpoint.specs.Connections.{ConnectionState, ConnectionEvent, ConnectionMay, IsBegun, MayIn, channels, happens}
+use Rattle.amqp_endpoint.specs.Connections.{ConnectionState, ConnectionEvent, ConnectionMay, MayBeginWith, MayIn, channels, happens}
 use Rattle.amqp_endpoint.specs.Histories.{part, state_of, IsSoundPart, Accepted}
 use Rattle.amqp_endpoint.specs.Runs.{Handed, handed_of}
 use Rattle.amqp_endpoint.specs.Takings.{lives, taken_in, part_in, link_part, last_part, lived_or, AreFirst}
@@ -63,7 +63,7 @@ module _ (begins : ConnectionBegins) (goes_on : ConnectionGoesOn) (config : Conf
   session_within [] channel terms past all is = absurd (grind (arith, is))
   session_within (e ∷ h) channel terms past all is =
       elim (went channel (happens e) terms (part channel h) past is) [
-        | inl x ↦ begun_within (IsBegun config) (MayIn config) lived.state_of (channels config) (λ k. part k h) channel (happens e) x.0 (may_there e h all).2
+        | inl x ↦ begun_within (MayBeginWith config) (MayIn config) lived.state_of (channels config) (λ k. part k h) channel (happens e) x.0 (may_there e h all).2
         | inr x ↦ session_within h channel terms x.1 all.0 x.2
       ]
 
@@ -71,7 +71,7 @@ module _ (begins : ConnectionBegins) (goes_on : ConnectionGoesOn) (config : Conf
   session_may : (e : ConnectionEvent) (h : List ConnectionEvent) (channel : ℕ) (x : SessionEvent) (terms : SessionTerms) (past : List SessionEvent) → Accepted config (e ∷ h) →
       part channel h ≡ Live (terms, past) → goes_there channel (happens e) ≡ Some x → SessionMay (lived.state_of terms past) x
   session_may e h channel x terms past all here is =
-      (may_come (IsBegun config) (MayIn config) lived.state_of (channels config) (λ k. part k h) channel (happens e) x terms past (session_within h channel terms past all.0 here) here is (may_there e h all).2).0
+      (may_come (MayBeginWith config) (MayIn config) lived.state_of (channels config) (λ k. part k h) channel (happens e) x terms past (session_within h channel terms past all.0 here) here is (may_there e h all).2).0
 
   -- a link that lives by an event of its session stood within the handles before it, or begins within them
   link_went : (terms : SessionTerms) (past : List SessionEvent) (x : SessionEvent) (handle : ℕ) (a : Attached) (l : List LinkEvent) → SessionMay (lived.state_of terms past) x →

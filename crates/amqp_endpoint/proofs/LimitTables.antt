@@ -4,7 +4,7 @@ use Rattle.std.specs.Prelude.{nat_lt, slice_get, if◌then◌else◌}
 use Rattle.std.proofs.lemmas.Bool.{ltb-true}
 use Rattle.std.proofs.lemmas.Option.{same_Some, slice_get_within}
 use Rattle.amqp_link.specs.Bounds.{IsBounded}
-use Rattle.amqp_endpoint.specs.Limits.{Limit, begins_with, longer, longest, IsFound, IsGood, IsRepeated, AreFine, IsTable}
+use Rattle.amqp_endpoint.specs.Limits.{Limit, begins_with, longer, longest, IsLimitOf, IsGood, IsRepeated, AreFine, IsTable}
 
 -- What is found. --------------------------------------------------------------------------------------------------------
 
@@ -13,8 +13,8 @@ differ true x y = absurd (grind (arith, y))
 differ false x y = absurd (grind (arith, x))
 
 -- one limit more in front
-in_front : (name : List ℕ) (q : Limit) (rows : List Limit) (b : Bool) → begins_with q.prefix name ≡ b → (o : Option Limit) → IsFound name rows o →
-    IsFound name (q ∷ rows) (longer (if b then Some q else None) o)
+in_front : (name : List ℕ) (q : Limit) (rows : List Limit) (b : Bool) → begins_with q.prefix name ≡ b → (o : Option Limit) → IsLimitOf name rows o →
+    IsLimitOf name (q ∷ rows) (longer (if b then Some q else None) o)
 in_front name q rows true begins None none = record {
   begins = begins;
   stands = (0, refl);
@@ -26,7 +26,7 @@ in_front name q rows true begins None none = record {
     most (suc i) x is so = differ (begins_with x.prefix name) so (none i x is)
 in_front name q rows true begins (Some p) found = by (nat_lt (length q.prefix) (length p.prefix)) refl
   where
-    by : (t : Bool) → nat_lt (length q.prefix) (length p.prefix) ≡ t → IsFound name (q ∷ rows) (if t then Some p else Some q)
+    by : (t : Bool) → nat_lt (length q.prefix) (length p.prefix) ≡ t → IsLimitOf name (q ∷ rows) (if t then Some p else Some q)
     by true less = record {
       begins = found.begins;
       stands = (suc found.stands.0, found.stands.1);
@@ -65,14 +65,14 @@ in_front name q rows false begins (Some p) found = record {
     most (suc i) x is so = found.most i x is so
 
 -- what is found is the longest, or none where the name begins with none
-pub longest_found : (name : List ℕ) (rows : List Limit) → IsFound name rows (longest name rows)
+pub longest_found : (name : List ℕ) (rows : List Limit) → IsLimitOf name rows (longest name rows)
 longest_found name [] = λ i x is. absurd (grind (arith, is))
 longest_found name (q ∷ rows) = in_front name q rows (begins_with q.prefix name) refl (longest name rows) (longest_found name rows)
 
 -- of a table without fault its bounds are within their ranges
 pub found_bounded : (name : List ℕ) (rows : List Limit) (r : Limit) → IsTable rows → longest name rows ≡ Some r → IsBounded r.bounds.allowed r.bounds.max_message_size
 found_bounded name rows r table is =
-    let found = subst (λ (o : Option Limit). IsFound name rows o) is (longest_found name rows) in
+    let found = subst (λ (o : Option Limit). IsLimitOf name rows o) is (longest_found name rows) in
     (table.fine found.stands.0 r (slice_get_within rows found.stands.0 r found.stands.1) found.stands.1).0.bounds
 
 -- Faults. ---------------------------------------------------------------------------------------------------------------

@@ -9,7 +9,7 @@ use Rattle.amqp_frame.proofs.Fronts.{waits_or_not}
 use Rattle.amqp_link.specs.declared.transfer.LinkFault.{LinkFault}
 use Rattle.amqp_link.specs.declared.transfer.Step.{Step}
 use Rattle.amqp_link.specs.declared.transfer.Step.TheVariants as step
-use Rattle.amqp_link.specs.Links.{is_beyond, is_drained, Sent, Delivery, LinkState, Transferred, first_ready, open_count, step_of, delivery_after, link_after}
+use Rattle.amqp_link.specs.Links.{is_beyond_credit, is_drained, Sent, Delivery, LinkState, Transferred, first_ready, open_count, step_of, delivery_after, link_after}
 use Rattle.amqp_perform.specs.declared.condition.Condition.{Condition}
 use Rattle.amqp_perform.specs.declared.condition.Condition.TheVariants as condition
 use Rattle.amqp_perform.specs.declared.descriptor.Descriptor.{Descriptor}
@@ -237,7 +237,7 @@ attach_is k (Some c) handle e = grind (arith, e)
 flow_is : (k : ℕ) (f : Flowing) (x : Slot LiveLink) (handle : ℕ) → flow_report k f x ≡ report.Ready handle → ⊥
 flow_is k f Free handle e = grind (arith, e)
 flow_is k f (Live l) handle e =
-    either_report (is_beyond l.link.delivery_count l.link.credit f.delivery_count) (report.Failed k condition.TransferLimitExceeded (length l.link.ready))
+    either_report (is_beyond_credit l.link.delivery_count l.link.credit f.delivery_count) (report.Failed k condition.TransferLimitExceeded (length l.link.ready))
     (if is_drained l.link f.delivery_count then report.Drained k else report.Nothing) handle (λ a. grind (arith, a))
     (λ a. either_report (is_drained l.link f.delivery_count) (report.Drained k) report.Nothing handle (λ b. grind (arith, b)) (λ b. grind (arith, b)) a) e
 flow_is k f Awaits handle e = grind (arith, e)

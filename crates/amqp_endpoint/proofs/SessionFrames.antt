@@ -27,7 +27,7 @@ use Rattle.amqp_session.specs.Sessions.{SessionState, session_after}
 use Rattle.amqp_endpoint.specs.declared.event.Event.{Event}
 use Rattle.amqp_endpoint.specs.declared.event.Event.TheVariants as told
 use Rattle.amqp_endpoint.specs.declared.event.Scope.TheVariants as scope
-use Rattle.amqp_endpoint.specs.Acting.{attach_answered, IsDone, IsWithout, HasDone, IsLive, IsForSession, FrameDone, IsFramed, IsUnframed, IsRefused, is_beyond, replied, ending}
+use Rattle.amqp_endpoint.specs.Acting.{attach_answered, IsDone, IsWithout, HasDone, IsLive, IsForSession, FrameDone, IsFramed, IsUnframed, IsRefused, is_above_handle_max, replied, ending}
 use Rattle.amqp_endpoint.specs.Connections as event
 use Rattle.amqp_endpoint.specs.Connections.{ConnectionState, connection_after, slot_at, channel_ready}
 use Rattle.amqp_endpoint.specs.Lines as line
@@ -61,7 +61,7 @@ pub unframed_as : (s new : ConnectionState) (channel : ℕ) (t : SessionState) (
 unframed_as s new channel t f r e is done = subst (λ (r : Result Done SessionFault). FrameDone s new channel t f r) is done
 
 -- an attach is too high where its frame is
-beyond_is : (config : Configured) (p : Performative) (payload : List ℕ) (t : SessionState) (f : Frame) → frame_in config p payload ≡ Some f → is_beyond (Live t) p ≡ attach_too_high t f
+beyond_is : (config : Configured) (p : Performative) (payload : List ℕ) (t : SessionState) (f : Frame) → frame_in config p payload ≡ Some f → is_above_handle_max (Live t) p ≡ attach_too_high t f
 beyond_is config (performative.Open p) payload t f e = absurd (grind (arith, e))
 beyond_is config (performative.Begin p) payload t f e = absurd (grind (arith, e))
 beyond_is config (performative.Attach p) payload t f e = ap (λ (g : Frame). attach_too_high t g) (same_Some (Attaches (attaching p (bounds_for config p.name.now))) f e)
@@ -194,8 +194,8 @@ module _ (s new : ConnectionState) (channel : ℕ) (t : SessionState) (f : Frame
 
 module _ (s new : ConnectionState) (channel : ℕ) (p : Performative) (payload : List ℕ) (t : SessionState) (f : Frame) (live : slot_at s channel ≡ Live t) (is : frame_in s.config p payload ≡ Some f) where
   -- an attach's handle is not too high
-  pub low_is : false ≡ is_beyond (slot_at s channel) p → attach_too_high t f ≡ false
-  low_is low = sym (beyond_is s.config p payload t f is) ∙ sym (ap (λ (x : Slot SessionState). is_beyond x p) live) ∙ sym low
+  pub low_is : false ≡ is_above_handle_max (slot_at s channel) p → attach_too_high t f ≡ false
+  low_is low = sym (beyond_is s.config p payload t f is) ∙ sym (ap (λ (x : Slot SessionState). is_above_handle_max x p) live) ∙ sym low
 
   pub answer_is : (d : Done) → IsFramed s new channel t f d → replied new.config p d.answer ≡ answer_of t f
   answer_is d framed =

@@ -16,7 +16,7 @@ use Rattle.amqp_endpoint.specs.Configs.{Configured}
 use Rattle.amqp_endpoint.specs.Connections as event
 use Rattle.amqp_endpoint.specs.Connections.{ConnectionState, ConnectionEvent, channels, channel_limit, is_dead, is_open, is_end, is_own_close, opened_by, phase_after, happens, connection_begins}
 use Rattle.amqp_endpoint.specs.Connections.{connection_after}
-use Rattle.amqp_endpoint.specs.Connections.{IsTimely, IsOffered, IsBegun, HasBounds, IsLimited, MayIn, ConnectionMay}
+use Rattle.amqp_endpoint.specs.Connections.{IsTimely, IsOffered, MayBeginWith, HasBounds, IsLimited, MayIn, ConnectionMay}
 use Rattle.amqp_endpoint.specs.Histories.{opening_in, phase_of, part, state_of, IsSoundPart, Sound, after_all, Accepted}
 
 -- what a session owes
@@ -39,7 +39,7 @@ ConnectionGoesOn = (config : Configured) (h : List ConnectionEvent) (e : Connect
 
 -- Parts. ----------------------------------------------------------------------------------------------------------------
 
-part_begins : SessionBegins → (config : Configured) → config.window < 2 ^ 31 → (terms : SessionTerms) → IsBegun config terms →
+part_begins : SessionBegins → (config : Configured) → config.window < 2 ^ 31 → (terms : SessionTerms) → MayBeginWith config terms →
     (one.session_begins terms ≡ session.state_of terms []) × IsSoundPart config terms []
 part_begins law config narrow terms begun =
     let first = law terms (subst (λ (n : ℕ). n < 2 ^ 31) (sym begun.window) narrow) begun.first in (first.0, record { begun = begun; session = first.1; limited = λ handle. tt })
@@ -164,7 +164,7 @@ begins_sound config = (refl, record { limit = omega arith; sessions = λ k l. tt
 pub goes_on_sound : SessionBegins → SessionGoesOn → ConnectionGoesOn
 unfolding made
 goes_on_sound begins step config h e narrow sound may =
-    let life = places_step one.session_begins one.session_after session.state_of (IsBegun config) (MayIn config) (IsSoundPart config) (channels config) (λ channel. part channel h) in
+    let life = places_step one.session_begins one.session_after session.state_of (MayBeginWith config) (MayIn config) (IsSoundPart config) (channels config) (λ channel. part channel h) in
     let table = life (happens e) (part_begins begins config narrow) (part_goes_on step config) sound.sessions may.2 in
     let p = phase_on h e may.0 in
     let after = connection_after (state_of config h) e in

@@ -60,9 +60,9 @@ IsForSession None = ⊥
 IsForSession (Some f) = Unit {0}
 
 -- an attach's handle is above the session's highest
-abbrev pub is_beyond : Slot SessionState → Performative → Bool
-is_beyond (Live s) (performative.Attach p) = nat_lt s.terms.handle_max p.handle
-is_beyond _ p = false
+abbrev pub is_above_handle_max : Slot SessionState → Performative → Bool
+is_above_handle_max (Live s) (performative.Attach p) = nat_lt s.terms.handle_max p.handle
+is_above_handle_max _ p = false
 
 -- What is written for the answer to a performative that its session has taken: an attach that is accepted is answered by an attach, one that is refused by an attach and a detach. [2.6.3]
 abbrev pub attach_answered : Attaching → Answer → List Said

@@ -9,9 +9,9 @@ use Rattle.amqp_session.specs.Sessions as of_session
 use Rattle.amqp_session.specs.Sessions.{SessionState, session_after}
 use Rattle.amqp_session.specs.Slots.{HandsUp}
 use Rattle.amqp_endpoint.specs.declared.fault.CallFault.{CallFault}
-use Rattle.amqp_endpoint.specs.declared.asking.Request.{Request}
-use Rattle.amqp_endpoint.specs.declared.asking.Request.TheVariants as request
-use Rattle.amqp_endpoint.specs.declared.asking.Asked.{Asked}
+use Rattle.amqp_endpoint.specs.declared.requests.Request.{Request}
+use Rattle.amqp_endpoint.specs.declared.requests.Request.TheVariants as request
+use Rattle.amqp_endpoint.specs.declared.requests.Asked.{Asked}
 use Rattle.amqp_endpoint.specs.Calls.{call_fault, call_event, call_spoken}
 use Rattle.amqp_endpoint.specs.Connections.{ConnectionState, connection_after}
 use Rattle.amqp_endpoint.specs.Replies.{joined}

@@ -30,7 +30,7 @@ abbrev pub bounds_for : Configured → List ℕ → Bounds
 bounds_for config name = bounds_in config.bounds (longest name config.limits)
 
 -- what can be asked for
-pub record IsAsked (container_id : List ℕ) (max_frame channel_max handle_max allowed max_message window : ℕ) : Type 0 where
+pub record MayBeConfigured (container_id : List ℕ) (max_frame channel_max handle_max allowed max_message window : ℕ) : Type 0 where
   pub configured : IsConfigured container_id max_frame window
   pub channels : channel_max ≤ 255
   pub handles : handle_max ≤ 255

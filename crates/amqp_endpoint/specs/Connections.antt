@@ -154,7 +154,7 @@ connection_after s e = record {
 -- Whether an event is accepted. ---------------------------------------------------------------------------------------
 
 -- what the sessions of this connection may begin with [2.7.2]
-pub record IsBegun (config : Configured) (terms : SessionTerms) : Type 0 where
+pub record MayBeginWith (config : Configured) (terms : SessionTerms) : Type 0 where
   pub window : terms.incoming_window ≡ config.window
   pub first : terms.next_outgoing_id < 2 ^ 32
   pub handles : terms.handle_max ≤ config.handle_max
@@ -194,4 +194,4 @@ abbrev pub MayIn : Configured → SessionState → SessionEvent → Type 0
 MayIn config s e = SessionMay s e × IsLimited config e
 
 abbrev pub ConnectionMay : ConnectionState → ConnectionEvent → Type 0
-ConnectionMay s e = IsTimely s.phase e × IsOffered s.config e × places_may (IsBegun s.config) (MayIn s.config) s.sessions (happens e)
+ConnectionMay s e = IsTimely s.phase e × IsOffered s.config e × places_may (MayBeginWith s.config) (MayIn s.config) s.sessions (happens e)

@@ -12,7 +12,7 @@ use Rattle.amqp_session.specs.Histories as lived
 use Rattle.amqp_endpoint.specs.declared.phase.Phase.{Phase}
 use Rattle.amqp_endpoint.specs.declared.phase.Phase.TheVariants as phase
 use Rattle.amqp_endpoint.specs.Configs.{Configured}
-use Rattle.amqp_endpoint.specs.Connections.{ConnectionState, ConnectionEvent, channels, channel_limit, is_open, connection_begins, connection_after, ConnectionMay, IsBegun, HasBounds, happens, is_end}
+use Rattle.amqp_endpoint.specs.Connections.{ConnectionState, ConnectionEvent, channels, channel_limit, is_open, connection_begins, connection_after, ConnectionMay, MayBeginWith, HasBounds, happens, is_end}
 use Rattle.amqp_endpoint.specs.Connections.{is_own_close, is_failure, is_peer_close, opened_by}
 
 -- what the peer's open fixed, if it came
@@ -40,7 +40,7 @@ state_of config h = record {
 
 -- what holds of each part
 pub record IsSoundPart (config : Configured) (terms : SessionTerms) (h : List SessionEvent) : Type 0 where
-  pub begun : IsBegun config terms
+  pub begun : MayBeginWith config terms
   pub session : lived.Sound terms h
   -- every live link has the bounds of its name
   pub limited : (handle : ℕ) → IfLive (λ (life : Life Attached LinkEvent). HasBounds config life.0) (lived.part handle h)

@@ -41,9 +41,9 @@ pub record IsLongest (name : List ℕ) (rows : List Limit) (r : Limit) : Type 0 
   pub most : (i : ℕ) (q : Limit) → slice_get rows i ≡ Some q → begins_with q.prefix name ≡ true → length q.prefix ≤ length r.prefix
 
 -- which one is found: the longest, or none where the name begins with no prefix of the table
-abbrev pub IsFound : List ℕ → List Limit → Option Limit → Type 0
-IsFound name rows None = (i : ℕ) (q : Limit) → slice_get rows i ≡ Some q → begins_with q.prefix name ≡ false
-IsFound name rows (Some r) = IsLongest name rows r
+abbrev pub IsLimitOf : List ℕ → List Limit → Option Limit → Type 0
+IsLimitOf name rows None = (i : ℕ) (q : Limit) → slice_get rows i ≡ Some q → begins_with q.prefix name ≡ false
+IsLimitOf name rows (Some r) = IsLongest name rows r
 
 -- Which tables may be asked for. -----------------------------------------------------------------------------------------
 

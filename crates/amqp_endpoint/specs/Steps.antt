@@ -1,7 +1,7 @@
 -- One step of an endpoint, from the bytes of a piece, or a call, to the bytes added to its output, the answer, and the new state.
 use Rattle.std.specs.Prelude.{◌≡◌, ℕ, ◌≤◌, ◌⊎◌, Bool, true, false, if◌then◌else◌, List, ◌++◌, Option, Some, None}
 use Rattle.amqp_frame.specs.declared.units.Stage.{Stage}
-use Rattle.amqp_frame.specs.Splits.{SplitterState, IsAsked, Waits, IsTaken, IsUnchanged, IsEmptied}
+use Rattle.amqp_frame.specs.Splits.{SplitterState, AsksNext, Waits, IsTaken, IsUnchanged, IsEmptied}
 use Rattle.amqp_frame.specs.Units.{StreamUnit, HeaderUnit, FrameUnit, FaultUnit, due_after}
 use Rattle.amqp_endpoint.specs.declared.event.Event.{Event}
 use Rattle.amqp_endpoint.specs.declared.event.Outcome.{Outcome}
@@ -22,7 +22,7 @@ pub record EndpointState : Type 0 where
 -- So many bytes of the unit that is due are asked for next; once the connection is over none, whatever its splitter asks for.
 abbrev pub AsksIf : Bool → ℕ → Stage → List ℕ → ℕ → Type 0
 AsksIf true max stage bytes n = n ≡ 0
-AsksIf false max stage bytes n = IsAsked max stage bytes n
+AsksIf false max stage bytes n = AsksNext max stage bytes n
 
 abbrev pub AsksFor : EndpointState → ℕ → Type 0
 AsksFor s n = AsksIf (is_dead s.connection.phase) s.input.limit s.input.stage s.input.filled n

@@ -29,7 +29,7 @@ fn say_close<A: Allocator + Copy>(
 }
 
 /// This side closes the connection with an error.
-pub fn fail<A: Allocator + Copy>(
+pub fn close_with_error<A: Allocator + Copy>(
     connection: &mut Connection<A>,
     out: &mut Output<A>,
     condition: Condition,
@@ -43,12 +43,15 @@ pub fn fail<A: Allocator + Copy>(
     Event::Failed {
         scope: Scope::Connection,
         condition,
-        dropped: connection.fail(),
+        dropped: connection.close_with_error(),
     }
 }
 
 /// A frame came that is none: the connection is over at once [2.3.1].
-pub fn break_off<A: Allocator + Copy>(connection: &mut Connection<A>, out: &mut Output<A>) -> Event
+pub fn fail_at_once<A: Allocator + Copy>(
+    connection: &mut Connection<A>,
+    out: &mut Output<A>,
+) -> Event
     requires { length out.old + reply_room ≤ output_size }
     ensures connection { connection.new ≡ connection_after connection.old Broken }
     ensures unsent { out.new ≡ out.old ++ joined (close_spoken connection.old Condition.FramingError) }
@@ -58,7 +61,7 @@ pub fn break_off<A: Allocator + Copy>(connection: &mut Connection<A>, out: &mut 
     Event::Failed {
         scope: Scope::Connection,
         condition: Condition::FramingError,
-        dropped: connection.break_off(),
+        dropped: connection.fail_at_once(),
     }
 }
 

@@ -1,7 +1,7 @@
 //! What an endpoint is set up with.
 ghost use Rattle.std.specs.Prelude.{◌≡◌, ◌↔◌, ◌≤◌, ◌<◌, ◌^◌, length, [], None, IsSome, IfSome, IfOk, IfErr, OnOk};
 ghost use Rattle.std.specs.String.{string_bytes};
-ghost use Rattle.amqp_endpoint.specs.Configs.{Configured, IsConfigured, IsAsked, bounds_for, time_out};
+ghost use Rattle.amqp_endpoint.specs.Configs.{Configured, IsConfigured, MayBeConfigured, bounds_for, time_out};
 ghost use Rattle.amqp_endpoint.specs.Limits.{IsTable, IsFault};
 
 use crate::limits::{self, LimitFault, LinkLimit};
@@ -48,7 +48,7 @@ impl<A: Allocator + Copy> Config<A> {
         max_message: u32,
         window: u32,
     ) -> Option<Self>
-        ensures some { IsSome result ↔ IsAsked (string_bytes container_id) max_frame channel_max handle_max allowed max_message window }
+        ensures some { IsSome result ↔ MayBeConfigured (string_bytes container_id) max_frame channel_max handle_max allowed max_message window }
         ensures is { IfSome result (λ c. c ≡ record { container_id = string_bytes container_id; max_frame = max_frame; channel_max = channel_max; handle_max = handle_max; bounds = record { allowed = allowed; max_message_size = max_message }; limits = []; window = window; idle_time_out = None }) }
     {
         let bounds = LinkBounds::new(allowed, max_message)?;

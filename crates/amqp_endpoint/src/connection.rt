@@ -142,7 +142,7 @@ impl<A: Allocator + Copy> Connection<A> {
     }
 
     /// This side closes it with an error. Answers how many ready deliveries are dropped.
-    pub fn fail(&mut self) -> u32
+    pub fn close_with_error(&mut self) -> u32
         ensures new { self.new ≡ connection_after self.old Failed }
         ensures dropped { result ≡ connection_ready self.old }
     {
@@ -177,7 +177,7 @@ impl<A: Allocator + Copy> Connection<A> {
     }
 
     /// A frame came that is none. Answers how many ready deliveries are dropped.
-    pub fn break_off(&mut self) -> u32
+    pub fn fail_at_once(&mut self) -> u32
         ensures new { self.new ≡ connection_after self.old Broken }
         ensures dropped { result ≡ connection_ready self.old }
     {
@@ -198,7 +198,7 @@ impl<A: Allocator + Copy> Connection<A> {
     }
 
     /// A frame came that is none, while the peer's close was awaited.
-    pub fn lose(&mut self)
+    pub fn drop_silently(&mut self)
         ensures { self.new ≡ connection_after self.old Lost }
     {
         self.phase = Phase::Dead;

@@ -17,15 +17,15 @@ ghost use Rattle.amqp_endpoint.specs.Steps.{AsksFor, MayRead, Comes, IsFed, Take
 ghost use Rattle.amqp_endpoint.specs.RoomLending.{LendsRoom};
 ghost use Rattle.std.specs.Borrow.{sem};
 
-use crate::asking::Request;
 use crate::config::Config;
 use crate::connection::Connection;
 use crate::event::{End, Event, Fed, Outcome};
 use crate::fault::CallFault;
 use crate::output::Output;
 use crate::phase::Phase;
+use crate::requests::Request;
 use crate::units::{act_on_fault, act_on_frame, act_on_header};
-use crate::{asking, closing};
+use crate::{closing, requests};
 use amqp_frame::{Frame, Splitter};
 use amqp_link::Taken;
 use amqp_perform::Outcome as Settlement;
@@ -356,7 +356,7 @@ impl<A: Allocator + Copy> Endpoint<A> {
     pub fn take(&mut self, channel: u16, handle: u32) -> Result<Taken<A>, CallFault>
         ensures { CallDone self.old self.new channel (Take handle) (handed_by result) }
     {
-        asking::take(&mut self.connection, channel, handle)
+        requests::take(&mut self.connection, channel, handle)
     }
 
     /// Tells the sender what became of the delivery of a session with this id, by the disposition that it writes
@@ -415,7 +415,7 @@ impl<A: Allocator + Copy> Endpoint<A> {
         ensures input { IsUnchanged self.old.input self.new.input }
         ensures count { IfOk result (λ n. IsCounted (accepted_answer (slot_at self.old.connection channel) (asked_of request)) n) }
     {
-        asking::ask(&mut self.connection, &mut self.out, channel, request)
+        requests::ask(&mut self.connection, &mut self.out, channel, request)
     }
 
     /// Closes the connection, by the close that it writes [2.4.3], and answers how many ready deliveries are dropped.

@@ -20,7 +20,7 @@ ghost use Rattle.amqp_endpoint.specs.Fields.{read_in, read_of};
 ghost use Rattle.amqp_endpoint.specs.Held.{held, session_count, channel_links_most, session_parts, session_part_bytes};
 ghost use Rattle.amqp_endpoint.specs.Lengths.{said_most};
 ghost use Rattle.amqp_perform.specs.Said.{Said, said_frame};
-ghost use Rattle.amqp_endpoint.specs.Limits.{Limit, longest, IsFound};
+ghost use Rattle.amqp_endpoint.specs.Limits.{Limit, longest, IsLimitOf};
 ghost use Rattle.amqp_endpoint.specs.Histories.{phase_of, state_of, Sound, after_all, Accepted};
 ghost use Rattle.amqp_endpoint.specs.Lines.{line_of, event_on, fault_on, told_on};
 ghost use Rattle.amqp_endpoint.specs.Replies.{open_said, plain_open_said, joined, reply_on};
@@ -104,7 +104,7 @@ pub fn held_is_bounded()
 /// found exactly where it begins with none.
 #[tactic(auto, using(crate::proofs::LimitTables::longest_found))]
 pub fn the_longest_prefix_is_found()
-    ensures { (name : List ℕ) (rows : List Limit) → IsFound name rows (longest name rows) }
+    ensures { (name : List ℕ) (rows : List Limit) → IsLimitOf name rows (longest name rows) }
 {}
 
 /// Where no idle-time-out is announced the open says what it says of the other settings, and nothing else [2.4.5, 2.7.1].

@@ -9,13 +9,12 @@
 //! over all such lists; `amqp_serve` does this over a reader, a writer and a sink.
 //!
 //! A frame goes through `endpoint`, `units` (what a unit comes to) and `sessions` (a frame of a live session, with its answer) to
-//! `amqp_session`, whose sessions `connection` keeps by channel; `telling` makes an event of a report. A call goes through `asking`
+//! `amqp_session`, whose sessions `connection` keeps by channel; `reports` makes an event of a report. A call goes through `requests`
 //! as a `Request`, or through `closing`. What is said is a `Saying`, and goes out by `Output::put`. `specs/Lines.antt` has
 //! what a unit comes to, `specs/Replies.antt` what is written, `specs/Calls.antt` the calls, `specs/Traces.antt` what holds of every
-//! run. The tests stand in `layer_rows` and `endpoint_tests`.
+//! run. The tests stand in `test_layer_rows` and `test_endpoint`.
 #![tactic(auto)]
 
-mod asking;
 mod call;
 mod closing;
 mod config;
@@ -30,8 +29,9 @@ mod opening;
 mod output;
 mod phase;
 mod replays;
+mod reports;
+mod requests;
 mod sessions;
-mod telling;
 mod units;
 mod words;
 

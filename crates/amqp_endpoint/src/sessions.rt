@@ -6,7 +6,7 @@ ghost use Rattle.amqp_session.specs.Answers.{said_by};
 ghost use Rattle.amqp_session.specs.Faults.{failure_answer};
 ghost use Rattle.amqp_session.specs.Frames.{Frame, attaching};
 ghost use Rattle.amqp_session.specs.Sessions.{SessionState};
-ghost use Rattle.amqp_endpoint.specs.Acting.{IsLive, IsForSession, HasDone, IsRefused, is_beyond, replied, attach_answered};
+ghost use Rattle.amqp_endpoint.specs.Acting.{IsLive, IsForSession, HasDone, IsRefused, is_above_handle_max, replied, attach_answered};
 ghost use Rattle.amqp_endpoint.specs.Calls.{output_size, reply_room};
 ghost use Rattle.amqp_endpoint.specs.Connections.{connection_after, channel_ready, slot_at, Begun, SessionEnded, SessionFailed};
 ghost use Rattle.amqp_endpoint.specs.Fields.{beginning, frame_in};
@@ -18,7 +18,7 @@ use crate::event::{Event, Scope};
 use crate::laws::frames_are_as_long;
 use crate::output::{Output, Saying};
 use crate::phase::Phase;
-use crate::{closing, frames, telling};
+use crate::{closing, frames, reports};
 use amqp_link::LinkBounds;
 use amqp_perform::{Attach, Begin, Condition, Performative};
 use amqp_session::{Answer, Report, SessionFault, SessionTerms, Slot, failure, refusal_reply};
@@ -128,12 +128,12 @@ pub fn frame<A: Allocator + Copy>(
 {
     frames_are_as_long();
     if is_too_high(connection, channel, performative) {
-        return Ok(Some(closing::fail(connection, out, Condition::FramingError)));
+        return Ok(Some(closing::close_with_error(connection, out, Condition::FramingError)));
     }
     match &connection.frame(channel, performative, payload) {
         Ok(done) => {
             answer(connection, out, channel, performative, &done.answer);
-            Ok(telling::told(channel as u16, done.report))
+            Ok(reports::told(channel as u16, done.report))
         }
         Err(fault) => refuse(connection, out, channel, *fault),
     }
@@ -151,7 +151,7 @@ pub fn refuse<A: Allocator + Copy>(
     requires channel { channel ≤ connection.old.config.channel_max }
     ensures { IsRefused connection.old connection.new out.old out.new channel fault result }
 {
-    match telling::condition_of(fault) {
+    match reports::condition_of(fault) {
         Some(condition) => Ok(Some(fail(connection, out, channel, condition))),
         None => Err(AllocError),
     }
@@ -177,7 +177,7 @@ pub fn answer_transfer<A: Allocator + Copy>(
     {
         out.put(channel as u16, &Saying::Detach(failure(handle, condition)));
     }
-    telling::told(channel as u16, report)
+    reports::told(channel as u16, report)
 }
 
 /// Whether an attach's handle is above the highest of the session on a channel [2.7.2].
@@ -187,7 +187,7 @@ fn is_too_high<A: Allocator + Copy>(
     performative: &Performative<'_>,
 ) -> bool
     requires { channel ≤ connection.now.config.channel_max }
-    ensures { result ≡ is_beyond (slot_at connection.now channel) performative.now }
+    ensures { result ≡ is_above_handle_max (slot_at connection.now channel) performative.now }
 {
     match performative {
         Performative::Attach(attach) => match connection.place(channel) {

@@ -51,10 +51,10 @@ pub fn act_on_fault<A: Allocator + Copy>(
     ensures { (fault : FrameFault) (bytes : List ℕ) → IsDone connection.old connection.new out.old out.new (line_of connection.old (FaultUnit fault bytes)) result }
 {
     if is_closing(connection) {
-        connection.lose();
+        connection.drop_silently();
         return None;
     }
-    Some(closing::break_off(connection, out))
+    Some(closing::fail_at_once(connection, out))
 }
 
 /// Acts upon a whole frame, by what its body says [2.3.2, 2.7]. Where memory is refused nothing has changed.
@@ -99,7 +99,7 @@ fn act_on_any_frame<A: Allocator + Copy>(
         return Ok(None);
     }
     if channel > connection.channel_limit() {
-        return Ok(Some(closing::fail(connection, out, Condition::FramingError)));
+        return Ok(Some(closing::close_with_error(connection, out, Condition::FramingError)));
     }
     match &read_body(body) {
         Ok((performative, len)) => {
@@ -122,7 +122,7 @@ fn refuse_body<A: Allocator + Copy>(
         BodyFault::Decode(_) => Condition::DecodeError,
         BodyFault::InvalidField => Condition::InvalidField,
     };
-    closing::fail(connection, out, condition)
+    closing::close_with_error(connection, out, condition)
 }
 
 /// A frame while the peer's close is awaited: a close that can be read counts, and anything else is dropped [2.4.3].
@@ -174,7 +174,11 @@ fn act<A: Allocator + Copy>(
         return Ok(Some(act_unopened(connection, out, performative)));
     }
     match performative {
-        Performative::Open(_) => Ok(Some(closing::fail(connection, out, Condition::IllegalState))),
+        Performative::Open(_) => Ok(Some(closing::close_with_error(
+            connection,
+            out,
+            Condition::IllegalState,
+        ))),
         Performative::Close(_) => Ok(Some(closing::peer_closes(connection, out))),
         Performative::Begin(begin) => act_on_begin(connection, out, channel, begin),
         Performative::End(_) => Ok(Some(act_on_end(connection, out, channel))),
@@ -193,7 +197,7 @@ fn act_unopened<A: Allocator + Copy>(
 {
     match performative {
         Performative::Open(open) => act_on_open(connection, out, open),
-        _ => closing::fail(connection, out, Condition::IllegalState),
+        _ => closing::close_with_error(connection, out, Condition::IllegalState),
     }
 }
 
@@ -234,7 +238,7 @@ fn act_on_begin<A: Allocator + Copy>(
             let terms = sessions::terms(connection, begin);
             Ok(Some(sessions::begin(connection, out, channel, terms)?))
         }
-        _ => Ok(Some(closing::fail(connection, out, Condition::IllegalState))),
+        _ => Ok(Some(closing::close_with_error(connection, out, Condition::IllegalState))),
     }
 }
 
@@ -249,7 +253,7 @@ fn act_on_end<A: Allocator + Copy>(
     ensures { IsDone connection.old connection.new out.old out.new (channel_line channel (slot_at connection.old channel) Ends) (Some result) }
 {
     match connection.place(channel) {
-        Slot::Free => closing::fail(connection, out, Condition::IllegalState),
+        Slot::Free => closing::close_with_error(connection, out, Condition::IllegalState),
         Slot::Live(_) => sessions::end(connection, out, channel),
         Slot::Waits => Event::Ended {
             channel: channel as u16,
@@ -302,7 +306,7 @@ fn act_elsewhere<A: Allocator + Copy>(
 {
     match connection.place(channel) {
         Slot::Waits => None,
-        _ => Some(closing::fail(connection, out, Condition::IllegalState)),
+        _ => Some(closing::close_with_error(connection, out, Condition::IllegalState)),
     }
 }
 

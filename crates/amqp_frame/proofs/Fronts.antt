@@ -7,7 +7,7 @@ use Rattle.std.proofs.lemmas.Bool.Decides.{nat_tests}
 use Rattle.std.proofs.lemmas.List.{length-append, length-take, length-drop, length-take-le, take-append-drop, get_or_append_left, append_cancel_left, append_assoc, append-nil}
 use Rattle.byteorder.specs.Numbers.{big_from-append}
 use Rattle.amqp_frame.specs.Units.{StreamUnit, HeaderUnit, FrameUnit, FaultUnit, bytes_of, due_after, IsUnit, IsFault, IsFrame, IsSized, IsPlaced, IsRest, size_of, offset_of, type_of}
-use Rattle.amqp_frame.specs.Splits.{SplitterState, Waits, IsOne, IsHeld, IsJudged, IsSound, IsOver, Stands, IsProgress, IsWanted, IsWholeIn, IsNext, IsTaken, IsAsked, MayCome, frame_asks}
+use Rattle.amqp_frame.specs.Splits.{SplitterState, Waits, IsOne, IsHeld, IsJudged, IsSound, IsOver, Stands, IsProgress, IsWanted, IsWholeIn, IsNext, IsTaken, AsksNext, MayCome, frame_asks}
 use Rattle.amqp_frame.specs.declared.units.FrameFault.{FrameFault}
 use Rattle.amqp_frame.specs.declared.units.FrameFault.TheVariants.{TooSmall, TooLarge, BadOffset, BadType}
 use Rattle.amqp_frame.specs.declared.units.Progress.{Progress}
@@ -640,35 +640,35 @@ not_one : (max : ℕ) (stage : Stage) (s : List ℕ) → IsRest max stage s → 
 not_one max stage s r o = r.none o.unit [] o.stands.is (o.stands.whole ∙ sym (append-nil (bytes_of o.unit)))
 
 -- of a header what is left of eight bytes
-pub asked_header : (max : ℕ) (s : List ℕ) → IsAsked max Header s (8 - length s)
+pub asked_header : (max : ℕ) (s : List ℕ) → AsksNext max Header s (8 - length s)
 asked_header max s = record {
   none = λ o. let q = header_exact max o.unit o.stands.is in let e = ap length o.stands.whole in omega (arith, q, e);
   some = λ none. refl;
 }
 
 -- of a frame what its progress says
-pub asked_more : (max : ℕ) (s : List ℕ) (n : ℕ) → IsProgress max s (Wants n) → IsAsked max Frames s n
+pub asked_more : (max : ℕ) (s : List ℕ) (n : ℕ) → IsProgress max s (Wants n) → AsksNext max Frames s n
 asked_more max s n p = record { none = λ o. absurd (not_one max Frames s p.1 o); some = λ none. p.3 }
 
 -- nothing where a unit waits
-pub asked_none : (max : ℕ) (stage : Stage) (s : List ℕ) → IsOne max stage s → IsAsked max stage s 0
+pub asked_none : (max : ℕ) (stage : Stage) (s : List ℕ) → IsOne max stage s → AsksNext max stage s 0
 asked_none max stage s o = record { none = λ one. refl; some = λ none. absurd (none o) }
 
 -- and nothing once it is over
-pub asked_over : (max : ℕ) (stage : Stage) (s : List ℕ) → IsOver stage → IsAsked max stage s 0
+pub asked_over : (max : ℕ) (stage : Stage) (s : List ℕ) → IsOver stage → AsksNext max stage s 0
 asked_over max Header s o = absurd o
 asked_over max Frames s o = absurd o
 asked_over max Refused s o = record { none = λ one. refl; some = λ none. refl }
 asked_over max (Faulty f) s o = record { none = λ one. refl; some = λ none. refl }
 
 -- what is asked for of a header may come
-asked_of_header : (max : ℕ) (s : List ℕ) (n : ℕ) → 8 ≤ max → IsHeld max Header s → IsAsked max Header s n → IsRest max Header s ⊎ IsOne max Header s → IsWanted max Header s n
+asked_of_header : (max : ℕ) (s : List ℕ) (n : ℕ) → 8 ≤ max → IsHeld max Header s → AsksNext max Header s n → IsRest max Header s ⊎ IsOne max Header s → IsWanted max Header s n
 asked_of_header max s n m held a (inl r) = subst (λ (k : ℕ). IsWanted max Header s k) (sym (a.some (not_one max Header s r))) (wants_eight max s m held)
 asked_of_header max s n m held a (inr o) =
     subst (λ (k : ℕ). IsWanted max Header s k) (sym (a.none o)) (wants_none max Header s (let l = header_upto max s held in omega (arith, l, m)) held)
 
 -- what is asked for may come
-pub asked_wanted : (max : ℕ) (stage : Stage) (s : List ℕ) (p : Progress) (n : ℕ) → 8 ≤ max → IsHeld max stage s → IsJudged max stage s p → IsAsked max stage s n → IsWanted max stage s n
+pub asked_wanted : (max : ℕ) (stage : Stage) (s : List ℕ) (p : Progress) (n : ℕ) → 8 ≤ max → IsHeld max stage s → IsJudged max stage s p → AsksNext max stage s n → IsWanted max stage s n
 asked_wanted max Header s p n m held j a =
     asked_of_header max s n m held a held
 asked_wanted max Frames s (Wants k) n m held j a = subst (λ (i : ℕ). IsWanted max Frames s i) (j.3 ∙ sym (a.some (not_one max Frames s j.1))) j.2

@@ -120,13 +120,13 @@ pub record IsEmptied (old new : SplitterState) (due : Stage) : Type 0 where
   pub filled : new.filled ≡ []
 
 -- so many bytes are asked for next: none where a unit waits
-pub record IsAsked (max : ℕ) (stage : Stage) (bytes : List ℕ) (n : ℕ) : Type 0 where
+pub record AsksNext (max : ℕ) (stage : Stage) (bytes : List ℕ) (n : ℕ) : Type 0 where
   pub none : IsOne max stage bytes → n ≡ 0
   pub some : (IsOne max stage bytes → ⊥) → n ≡ asks stage bytes
 
 -- the same of a splitter
 abbrev pub Asks : SplitterState → ℕ → Type 0
-Asks s n = IsAsked s.limit s.stage s.filled n
+Asks s n = AsksNext s.limit s.stage s.filled n
 
 -- so many bytes may come next: none, or at most as many as are asked for
 abbrev pub MayCome : SplitterState → ℕ → Type 0

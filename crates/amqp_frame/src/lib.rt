@@ -9,7 +9,7 @@
 //! [`Device`] is a reader or a writer that keeps its first failure. [`AtHand`] shows the bytes that a reader
 //! read ahead, [`HoldsBack`] tells how many a writer keeps to itself; [`Direct`] is for one that can't say.
 //! `specs/Units.antt` has what a unit is, `specs/Splits.antt` what a splitter holds.
-//! The tests stand in `codec_rows`.
+//! The tests stand in `test_codec_rows`.
 #![tactic(auto)]
 
 mod device;

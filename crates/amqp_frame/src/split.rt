@@ -4,7 +4,7 @@ ghost use Rattle.amqp_frame.specs.Units.{StreamUnit, HeaderUnit, IsRest, due_aft
 ghost use Rattle.std.specs.Borrow.{sem};
 ghost use Rattle.amqp_frame.specs.Rooms.{whole_length};
 ghost use Rattle.amqp_frame.specs.SplitLends.{LendsRoom};
-ghost use Rattle.amqp_frame.specs.Splits.{IsHeld, IsJudged, IsSound, IsFilled, IsWanted, IsWholeIn, IsLentFront, IsOver, TakesNothing, IsOne, IsAsked, Asks, MayCome, IsTaken, Waits, IsUnchanged, IsEmptied, IsFrameAnswer, IsNext, WentBy};
+ghost use Rattle.amqp_frame.specs.Splits.{IsHeld, IsJudged, IsSound, IsFilled, IsWanted, IsWholeIn, IsLentFront, IsOver, TakesNothing, IsOne, AsksNext, Asks, MayCome, IsTaken, Waits, IsUnchanged, IsEmptied, IsFrameAnswer, IsNext, WentBy};
 
 use crate::room::Room;
 use crate::units::{Frame, FrameFault, HEADER, Progress, Stage, progress_of, whole_size};
@@ -238,7 +238,7 @@ fn wanted(max: usize, stage: Stage, progress: Progress, bytes: &[u8]) -> usize
     requires judged { IsJudged max stage bytes.now progress }
     ensures wanted { IsWanted max stage bytes.now result }
     ensures full { result ≡ 0 → IsOne max stage bytes.now ⊎ IsOver stage }
-    ensures asked { IsAsked max stage bytes.now result }
+    ensures asked { AsksNext max stage bytes.now result }
 {
     match stage {
         Stage::Header => HEADER.len() - bytes.len(),

@@ -44,7 +44,7 @@ pub record MayOpen (s : GatewayState) : Type 0 where
   pub room : s.peers < s.settings.peers
 
 -- one that has begun: of these settings, without peers, and nothing waits
-pub record IsBegun (asked : Settings) (s : GatewayState) : Type 0 where
+pub record IsNewGateway (asked : Settings) (s : GatewayState) : Type 0 where
   pub settings : s.settings ≡ asked
   pub none : s.peers ≡ 0
   pub stopped : s.stopped ≡ None

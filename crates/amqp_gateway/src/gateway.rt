@@ -3,7 +3,7 @@
 ghost use Rattle.slab.specs.Slab.{slab_len};
 ghost use Rattle.std.specs.Prelude.{◌≡◌, ◌≤◌, ◌^◌, ◌-◌, false, min, IsTrue, IfOk};
 ghost use Rattle.amqp_hub.specs.Turns.{all_held};
-ghost use Rattle.amqp_gateway.specs.Gateways.{IsBegun, IsStopping, IsGoneOn, IsTurned, IsPlaced, MayOpen, is_done, is_last};
+ghost use Rattle.amqp_gateway.specs.Gateways.{IsNewGateway, IsStopping, IsGoneOn, IsTurned, IsPlaced, MayOpen, is_done, is_last};
 ghost use Rattle.amqp_gateway.specs.Outlets.{IsSettled};
 
 use crate::counts::Counts;
@@ -121,7 +121,7 @@ impl<S: Sink + Drop, W: Watcher + Drop> Gateway<S, W> {
         watcher: W,
         now: u64,
     ) -> Result<Gateway<S, W>, GatewayFault>
-        ensures { IfOk result (λ gateway. IsBegun settings gateway) }
+        ensures { IfOk result (λ gateway. IsNewGateway settings gateway) }
     {
         let alloc = rt.alloc();
         let Ok(poll) = Poll::new(rt) else {

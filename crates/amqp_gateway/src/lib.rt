@@ -6,7 +6,7 @@
 //! and a [`Watcher`] is told of what passes at each peer.
 //!
 //! What each peer is told and what is recorded of it is the hub's; here stand the order of the calls, which the sockets give,
-//! and the time-outs [2.4.5]. The tests stand in `gateway_tests`.
+//! and the time-outs [2.4.5]. The tests stand in `test_gateway`.
 #![tactic(auto)]
 
 mod bound;

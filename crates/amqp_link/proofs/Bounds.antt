@@ -10,7 +10,7 @@ use Rattle.std.specs.Prelude.{option_map, is_none, slice_get}
 use Rattle.std.proofs.lemmas.Option.{same_Some}
 use Rattle.amqp_link.specs.declared.terms.Terms.{Terms}
 use Rattle.amqp_link.specs.Links.{Sent, goes_on, completes, Delivery, OpenSet, LinkState, set_bytes, how_many, delivery_bytes, with_delivery, delivery_after, cost, fault_of, is_formed, is_covered}
-use Rattle.amqp_link.specs.Links.{Transferred, ReceiverSettled, SenderSettled, receiver_settles, told_by, receiver_settled_in, sender_settled_by, sender_settled_in, newly_settled, named_count}
+use Rattle.amqp_link.specs.Links.{Transferred, ReceiverSettled, SenderSettled, receiver_settles, marked_told, receiver_settled_in, sender_settled_by, sender_settled_in, newly_settled, named_count}
 use Rattle.amqp_link.specs.Links.{in_order, settle_fault, left_open, HandedUp}
 use Rattle.amqp_link.specs.Keeping.{link_of, IsLink, IsShort}
 use Rattle.amqp_link.proofs.Keys.{total_is}
@@ -135,7 +135,7 @@ pub stays_for_receiver : (terms : Terms) (credit count : ℕ) (draining : Bool) 
 stays_for_receiver terms credit count draining o first last link may = record {
   within = within_after (link_of terms credit count draining o) (ReceiverSettled first last) may link.within;
   bounded = link.bounded;
-  awaiting = all_turned terms (told_by first last) (λ d s. record { delivery_tag = s.delivery_tag; message = s.message }) _ (all_left (IsShort terms)
+  awaiting = all_turned terms (marked_told first last) (λ d s. record { delivery_tag = s.delivery_tag; message = s.message }) _ (all_left (IsShort terms)
       (receiver_settles first last) o.awaiting link.awaiting);
   ready = link.ready;
   unfinished = link.unfinished;

@@ -8,7 +8,7 @@ use Rattle.std.proofs.lemmas.List.Sums.{sum_by-cons, sum_by-append, length-filte
 use Rattle.std.proofs.lemmas.List.Filters.{sum_by-filter_both}
 use Rattle.amqp_link.specs.declared.terms.Terms.{Terms}
 use Rattle.amqp_link.specs.Links.{Sent, goes_on, completes, begun, Delivery, delivery_after, has_id, is_covered, covers, named_count, open_set, LinkState, link_bytes, LinkEvent}
-use Rattle.amqp_link.specs.Links.{Transferred, HandedUp, ReceiverSettled, SenderSettled, link_after, LinkMay, left_open, receiver_settles, told_by, sender_settled_by}
+use Rattle.amqp_link.specs.Links.{Transferred, HandedUp, ReceiverSettled, SenderSettled, link_after, LinkMay, left_open, receiver_settles, marked_told, sender_settled_by}
 use Rattle.amqp_link.specs.Histories.{Group, groups, message_of, one_if, takes, handed_up_groups, is_handed_up, id_of, is_settled, is_open, shown_awaiting, kept_bytes, state_of, Sound}
 use Rattle.amqp_link.specs.Laws.{id_count, begun_with, is_named_by}
 use Rattle.amqp_link.proofs.Selections.{taken_picked, opens_picked, count_selected, bytes_selected}
@@ -106,9 +106,9 @@ receiver_ids id first last s =
     let left = filter (λ d. not (receiver_settles first last d)) s.awaiting in
     omega (
       arith,
-      count_parts has (map (told_by first last) left) s.ready (option_to_list s.unfinished),
+      count_parts has (map (marked_told first last) left) s.ready (option_to_list s.unfinished),
       count_parts has s.awaiting s.ready (option_to_list s.unfinished),
-      count_map has has (told_by first last) (λ d. refl) left,
+      count_map has has (marked_told first last) (λ d. refl) left,
       count_filter has (λ d. not (receiver_settles first last d)) s.awaiting,
     )
 

@@ -14,7 +14,7 @@ use Rattle.amqp_link.specs.declared.open_delivery.Settler.TheVariants.{SenderOfH
 use Rattle.amqp_link.specs.declared.places.Found.TheVariants.{HandedUp, Ready}
 use Rattle.amqp_link.specs.declared.settlement.Standing.TheVariants.{Untaken}
 use Rattle.amqp_link.specs.Links.{Delivery, OpenSet, has_id, is_covered, IsOnce, standing_at, standing_of, newly_settled, sender_settled_by, sender_settled_in}
-use Rattle.amqp_link.specs.Keeping.{at_key, keys_of, set_at, settled_list, AreKeys, IsUnder, IsFound, IsKeptAt, Settles}
+use Rattle.amqp_link.specs.Keeping.{at_key, keys_of, set_at, settled_list, AreKeys, IsUnder, IsFoundAt, IsKeptAt, Settles}
 use Rattle.amqp_link.proofs.Counts.{count_parts}
 use Rattle.amqp_link.proofs.Hints.{count_one, once_split, id_covered, none_found, unnamed, any_at, counted_at, found_there, only_one}
 use Rattle.amqp_link.proofs.Keys.{total_is}
@@ -89,7 +89,7 @@ module _ {A : Type 0} (slab : Slab (OpenDelivery A)) (order places : List (Optio
   stands e = ap (λ (ps : List (Option ℕ)). slice_get ps i) (sym same) ∙ e
 
   -- One that was handed up: those that were not don't have the id.
-  module _ (seen : IsFound slab places h unfinished key id (HandedUp i)) where
+  module _ (seen : IsFoundAt slab places h unfinished key id (HandedUp i)) where
     covered : is_covered id id (at_key slab key) ≡ true
     covered = id_covered id (at_key slab key) low seen.0.named
 
@@ -159,7 +159,7 @@ module _ {A : Type 0} (slab : Slab (OpenDelivery A)) (order places : List (Optio
         )
 
   -- One that is ready: no other has the id.
-  module _ (seen : IsFound slab places h unfinished key id (Ready i)) where
+  module _ (seen : IsFoundAt slab places h unfinished key id (Ready i)) where
     behind : slice_get (drop h order) (i - h) ≡ Some (Some key)
     behind = get_back order h i key seen.2 (stands seen.1)
 

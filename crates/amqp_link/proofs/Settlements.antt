@@ -6,7 +6,7 @@ use Rattle.std.proofs.Math.Bool.{or-false}
 use Rattle.std.proofs.lemmas.Bool.{cases_Bool}
 use Rattle.std.proofs.lemmas.List.Sums.{length-filter}
 use Rattle.amqp_link.specs.declared.terms.Terms.{Terms}
-use Rattle.amqp_link.specs.Links.{Delivery, open_set, deliveries, LinkEvent, ReceiverSettled, SenderSettled, link_after, is_first, mode_at, receiver_settles, tells, told_by}
+use Rattle.amqp_link.specs.Links.{Delivery, open_set, deliveries, LinkEvent, ReceiverSettled, SenderSettled, link_after, is_first, mode_at, receiver_settles, tells, marked_told}
 use Rattle.amqp_link.specs.Links.{covers, is_covered, sender_settled_by, newly_settled}
 use Rattle.amqp_link.specs.Histories.{Group, groups, is_aborted, is_unfinished, takes, handed_up_groups, ready_groups, is_handed_up, is_open, is_open_if, comes_settled, id_of}
 use Rattle.amqp_link.specs.Histories.{passes, settled_later, told_later, is_settled, is_settled_by, shown, shown_awaiting, kept, state_of}
@@ -148,7 +148,7 @@ made_same d a b c e p q = rw (p, q) refl
 
 named_turn : (terms : Terms) (h : List LinkEvent) (first last : ℕ) (g : Group) → StandsIn h true g →
     Turns (is_settled terms h) (is_settled terms (ReceiverSettled first last ∷ h)) (shown_awaiting terms h) (shown_awaiting terms (ReceiverSettled first last ∷ h))
-    (receiver_settles first last) (told_by first last) g
+    (receiver_settles first last) (marked_told first last) g
 unfolding made
 named_turn terms h first last g s = record {
   gone = named_settled terms h first last g s;
@@ -180,7 +180,7 @@ named_state terms h first last =
     let readies = all_from _ _ same (ready_groups h) (readies_in h) in
     let last_one = any_from _ _ same (find is_unfinished (groups h)) (part_in h) in
     stated_same terms _ _ _ _ _ _ _ _ _ _ _ _ refl refl refl
-    (turned (is_settled terms h) (is_settled terms g) (shown_awaiting terms h) (shown_awaiting terms g) (receiver_settles first last) (told_by first last) (handed_up_groups h) turns)
+    (turned (is_settled terms h) (is_settled terms g) (shown_awaiting terms h) (shown_awaiting terms g) (receiver_settles first last) (marked_told first last) (handed_up_groups h) turns)
     (sym (map_same _) ∙ map_agree (shown terms h) (shown terms g) (λ d. d) (ready_groups h) readies)
     (sym (option_same _) ∙ option_agree (shown terms h) (shown terms g) (λ d. d) (find is_unfinished (groups h)) last_one)
 

@@ -12,7 +12,7 @@ use Rattle.amqp_link.specs.declared.transfer.LinkFault.{LinkFault}
 use Rattle.amqp_link.specs.declared.terms.Terms.{Terms}
 use Rattle.amqp_link.specs.Links.{Sent, goes_on, completes, Delivery, delivery_after, LinkState, open_count, LinkEvent, Granted, DrainAsked, Transferred, FlowStated, HandedUp}
 use Rattle.amqp_link.specs.Links.{ReceiverSettled, SenderSettled, link_after, LinkMay, link_begins, cost, left_open, fault_of, lacks_credit, is_too_long, is_tag, is_formed_head}
-use Rattle.amqp_link.specs.Links.{is_formed, advance_by, advanced, is_beyond, is_drained, receiver_settles, told_by, is_covered, sender_settled_by}
+use Rattle.amqp_link.specs.Links.{is_formed, advance_by, advanced, is_beyond_credit, is_drained, receiver_settles, marked_told, is_covered, sender_settled_by}
 use Rattle.amqp_link.specs.declared.transfer.LinkFault.TheVariants.{TransferLimit, MessageSize, InvalidField, NotImplemented}
 use Rattle.amqp_link.specs.Histories.{Group, groups, message_of, is_whole, is_unfinished, wholes, takes, handed_up_groups, heads, one_if, grants, advances, credit, delivery_count}
 use Rattle.amqp_link.specs.Histories.{draining, shown, state_of, Content, content, content_of, transfer_of, handed_up_by, handed_up, Sound, after_all, Accepted, granted_by}
@@ -63,7 +63,7 @@ no_distance n l = omega (arith, l)
 zero_moves : (known here told : ℕ) → distance_of known told ≡ 0 → advance_by known here (Some told) ≡ 0
 zero_moves known here told e = rw e (same_either {X = ℕ} (nat_le 0 here) 0)
 
-zero_within : (known here told : ℕ) → distance_of known told ≡ 0 → is_beyond known here (Some told) ≡ false
+zero_within : (known here told : ℕ) → distance_of known told ≡ 0 → is_beyond_credit known here (Some told) ≡ false
 zero_within known here told e = rw e (and_left (nat_lt here 0) (nat_lt 0 (2 ^ 31)) (le-ltb here 0 (omega arith)))
 
 -- a flow that states the known count does what one without a count does
@@ -152,7 +152,7 @@ within_after s (FlowStated n) may l = omega (arith, l)
 within_after s (HandedUp d) may l = omega (arith, l, left_open_one d, length-append s.awaiting (left_open d), slice_get_within s.ready 0 d may, length-drop 1 s.ready)
 within_after s (ReceiverSettled first last) may l =
     let stays = λ (d : Delivery). not (receiver_settles first last d) in
-    omega (arith, l, length-map (filter stays s.awaiting) (told_by first last), left_few stays s.awaiting)
+    omega (arith, l, length-map (filter stays s.awaiting) (marked_told first last), left_few stays s.awaiting)
 within_after s (SenderSettled first last) may l =
     let stays = λ (d : Delivery). not (is_covered first last d) in
     let turn = sender_settled_by first last in

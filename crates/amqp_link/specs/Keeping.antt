@@ -14,7 +14,7 @@ use Rattle.amqp_link.specs.declared.places.Found.{Found}
 use Rattle.amqp_link.specs.declared.places.Found.TheVariants.{HandedUp, Ready, Unfinished, Unknown}
 use Rattle.amqp_link.specs.declared.terms.Terms.{Terms}
 use Rattle.amqp_link.specs.Bounds.{IsBounded}
-use Rattle.amqp_link.specs.Links.{Delivery, OpenSet, LinkState, set_bytes, delivery_bytes, how_many, left_open, has_id, is_covered, tells, told_by, receiver_settles, sender_settled_by}
+use Rattle.amqp_link.specs.Links.{Delivery, OpenSet, LinkState, set_bytes, delivery_bytes, how_many, left_open, has_id, is_covered, tells, marked_told, receiver_settles, sender_settled_by}
 
 -- One delivery. -----------------------------------------------------------------------------------------------
 
@@ -35,7 +35,7 @@ ends s d = ends_by s.settler s.ids.first s.ids.last d
 
 -- what it is after one, if it stays open
 abbrev pub turned_by : Settler → ℕ → ℕ → Delivery → Delivery
-turned_by Receiver first last d = told_by first last d
+turned_by Receiver first last d = marked_told first last d
 turned_by SenderOfHandedUp first last d = d
 turned_by SenderOfUntaken first last d = sender_settled_by first last d
 
@@ -101,11 +101,11 @@ module _ {A : Type 0} where
     pub named : has_id id (at_key slab key) ≡ true
 
   -- where one look found it
-  abbrev pub IsFound : Slab (OpenDelivery A) → List (Option ℕ) → ℕ → Option ℕ → ℕ → ℕ → Found → Type 0
-  IsFound slab places handed_up unfinished key id (HandedUp place) = IsUnder slab key id × (slice_get places place ≡ Some (Some key)) × (place < handed_up)
-  IsFound slab places handed_up unfinished key id (Ready place) = IsUnder slab key id × (slice_get places place ≡ Some (Some key)) × (handed_up ≤ place)
-  IsFound slab places handed_up unfinished key id Unfinished = IsUnder slab key id × (unfinished ≡ Some key)
-  IsFound slab places handed_up unfinished key id Unknown = Unit {0}
+  abbrev pub IsFoundAt : Slab (OpenDelivery A) → List (Option ℕ) → ℕ → Option ℕ → ℕ → ℕ → Found → Type 0
+  IsFoundAt slab places handed_up unfinished key id (HandedUp place) = IsUnder slab key id × (slice_get places place ≡ Some (Some key)) × (place < handed_up)
+  IsFoundAt slab places handed_up unfinished key id (Ready place) = IsUnder slab key id × (slice_get places place ≡ Some (Some key)) × (handed_up ≤ place)
+  IsFoundAt slab places handed_up unfinished key id Unfinished = IsUnder slab key id × (unfinished ≡ Some key)
+  IsFoundAt slab places handed_up unfinished key id Unknown = Unit {0}
 
   -- the same deliveries under the same keys: what each was told of its place may differ
   pub record SameDeliveries (old new : Slab (OpenDelivery A)) : Type 0 where

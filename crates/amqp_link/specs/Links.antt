@@ -258,9 +258,9 @@ advance_by count credit None = 0
 advance_by count credit (Some stated) = if nat_le (distance_of count stated) credit then distance_of count stated else 0
 
 -- The sender stated more than its credit. From 2^31 on a count is behind, and says nothing. [2.6.7]
-abbrev pub is_beyond : ℕ → ℕ → Option ℕ → Bool
-is_beyond count credit None = false
-is_beyond count credit (Some stated) = nat_lt credit (distance_of count stated) && nat_lt (distance_of count stated) (2 ^ 31)
+abbrev pub is_beyond_credit : ℕ → ℕ → Option ℕ → Bool
+is_beyond_credit count credit None = false
+is_beyond_credit count credit (Some stated) = nat_lt credit (distance_of count stated) && nat_lt (distance_of count stated) (2 ^ 31)
 
 -- a head takes one place of the credit, also one that is aborted itself; a continuation takes none [2.6.7]
 abbrev pub cost : Option Delivery → ℕ
@@ -304,12 +304,12 @@ abbrev pub tells : ℕ → ℕ → Delivery → Bool
 tells first last d = not (is_first d.rcv_settle_mode) && is_covered first last d
 
 -- the delivery after it
-abbrev pub told_by : ℕ → ℕ → Delivery → Delivery
-told_by first last d = record d { told = d.told || tells first last d }
+abbrev pub marked_told : ℕ → ℕ → Delivery → Delivery
+marked_told first last d = record d { told = d.told || tells first last d }
 
 -- The open deliveries after the receiver's own settle of these ids, which speaks of those that were handed up: what it settles is open no longer. [2.6.12, 2.8.3]
 abbrev pub receiver_settled_in : ℕ → ℕ → OpenSet → OpenSet
-receiver_settled_in first last o = record o { awaiting = map (told_by first last) (filter (λ d. not (receiver_settles first last d)) o.awaiting) }
+receiver_settled_in first last o = record o { awaiting = map (marked_told first last) (filter (λ d. not (receiver_settles first last d)) o.awaiting) }
 
 -- No two open deliveries have one of these ids. [2.6.12, 2.8.9]
 abbrev pub IsOnce : ℕ → ℕ → OpenSet → Type 0
@@ -387,7 +387,7 @@ abbrev pub LinkMay : LinkState → LinkEvent → Type 0
 LinkMay s (Granted n) = s.credit + open_count s + n ≤ s.terms.bounds.allowed
 LinkMay s DrainAsked = Unit {0}
 LinkMay s (Transferred t) = fault_of s t ≡ None
-LinkMay s (FlowStated stated) = is_beyond s.delivery_count s.credit stated ≡ false
+LinkMay s (FlowStated stated) = is_beyond_credit s.delivery_count s.credit stated ≡ false
 LinkMay s (HandedUp d) = first_ready s ≡ Some d
 LinkMay s (ReceiverSettled first last) = settle_fault first last (open_set s) ≡ None
 LinkMay s (SenderSettled first last) = Unit {0}

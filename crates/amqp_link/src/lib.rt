@@ -5,7 +5,7 @@
 //! [`Link::sender_count`]; [`Link::take`] hands a whole delivery up, and [`Link::settle`] or
 //! [`Link::peer_settled`] settles it. `specs/Links.antt` has the state and what each event does to it,
 //! `specs/Histories.antt` what a whole history gives, and [`laws`] that both agree.
-//! The tests stand in `layer_rows`.
+//! The tests stand in `test_layer_rows`.
 #![tactic(auto)]
 
 pub mod laws;

@@ -2,7 +2,7 @@
 ghost use Rattle.amqp_link.specs.Links as spec;
 ghost use Rattle.std.specs.Prelude.{◌≡◌, ◌<◌, ◌≤◌, ◌+◌, ◌*◌, ◌^◌, [], length, Option, Some, None, OnOk, OnErr, IfOk, IfErr, IfSome, IfNone, IsSomeAnd, is_none, map, option_map, Bool, true, IsFalse, nat_lt, false};
 ghost use Rattle.std.specs.List.{list_any};
-ghost use Rattle.amqp_link.specs.Links.{LinkState, sent_of, Granted, DrainAsked, Transferred, FlowStated, HandedUp, ReceiverSettled, SenderSettled, LinkMay, link_after, link_begins, link_bytes, deliveries, open_set, open_count, first_ready, has_id, fault_of, IsVerdict, step_of, is_drained, is_beyond, IsRefusal, with_delivery, delivery_after, may_grow_at, set_bytes, named_count, newly_settled, settle_fault, standing_of, IsAwaiting, IsOnce};
+ghost use Rattle.amqp_link.specs.Links.{LinkState, sent_of, Granted, DrainAsked, Transferred, FlowStated, HandedUp, ReceiverSettled, SenderSettled, LinkMay, link_after, link_begins, link_bytes, deliveries, open_set, open_count, first_ready, has_id, fault_of, IsVerdict, step_of, is_drained, is_beyond_credit, IsRefusal, with_delivery, delivery_after, may_grow_at, set_bytes, named_count, newly_settled, settle_fault, standing_of, IsAwaiting, IsOnce};
 ghost use Rattle.amqp_link.specs.HandedUps.{IsHandedUp};
 ghost use Rattle.amqp_link.specs.Keeping.{delivery_of};
 
@@ -205,7 +205,7 @@ impl<A: Allocator + Copy> Link<A> {
         ensures may { OnOk result (LinkMay self.old (FlowStated (Some stated))) }
         ensures new { OnOk result (self.new ≡ link_after self.old (FlowStated (Some stated))) }
         ensures drained { IfOk result (λ drained. drained ≡ is_drained self.old (Some stated)) }
-        ensures beyond { IfErr result (λ e. (e ≡ LinkFault.TransferLimit) × (is_beyond self.old.delivery_count self.old.credit (Some stated) ≡ true)) }
+        ensures beyond { IfErr result (λ e. (e ≡ LinkFault.TransferLimit) × (is_beyond_credit self.old.delivery_count self.old.credit (Some stated) ≡ true)) }
         ensures err { OnErr result (self.new ≡ self.old) }
     {
         let known = Serial(self.delivery_count);

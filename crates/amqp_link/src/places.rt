@@ -3,7 +3,7 @@ ghost use Rattle.std.specs.Prelude.{◌≡◌, ◌<◌, ◌≤◌, ◌+◌, ◌*
 ghost use Rattle.std.specs.List.{AllByRecursion};
 ghost use Rattle.slab.specs.Slab.{ContainsKey, slab_len};
 ghost use Rattle.amqp_link.specs.Links.{delivery_bytes};
-ghost use Rattle.amqp_link.specs.Keeping.{delivery_of, at_key, keys_of, AreKeys, SameKeys, SameDeliveries, asks_of, IsFound, Settles};
+ghost use Rattle.amqp_link.specs.Keeping.{delivery_of, at_key, keys_of, AreKeys, SameKeys, SameDeliveries, asks_of, IsFoundAt, Settles};
 
 use crate::open_delivery::{OpenDelivery, Question, Settling};
 use slab::Slab;
@@ -63,7 +63,7 @@ pub fn look<A: Allocator + Copy>(
     key: usize,
     id: u32,
 ) -> Found
-    ensures { IsFound slab.now places.now handed_up unfinished key id result }
+    ensures { IsFoundAt slab.now places.now handed_up unfinished key id result }
 {
     let Some(delivery) = slab.get(key) else {
         return Found::Unknown;
@@ -115,7 +115,7 @@ pub fn settle<A: Allocator + Copy>(
 }
 
 /// Settles the delivery at one place, if there is one.
-// For `benches endpoint`.
+// For `bench_functions endpoint`.
 #[inline(always)]
 pub fn settle_at<A: Allocator + Copy>(
     slab: &mut Slab<OpenDelivery<A>, A>,
@@ -140,7 +140,7 @@ pub fn settle_at<A: Allocator + Copy>(
 
 /// Closes up empty places, if there are many, and then tells each delivery its place. So many places are of
 /// deliveries that were handed up; those behind them are of ready ones.
-// For `benches endpoint`.
+// For `bench_functions endpoint`.
 #[tactic(auto, using(crate::proofs::Hints::same_deliveries))]
 #[inline(always)]
 pub fn close_up<A: Allocator + Copy>(

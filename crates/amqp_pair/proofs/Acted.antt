@@ -5,7 +5,7 @@ use Rattle.std.specs.List.{list_any}
 use Rattle.amqp_link.specs.declared.transfer.LinkFault.{LinkFault}
 use Rattle.amqp_link.specs.declared.transfer.Step.{Step}
 use Rattle.amqp_link.specs.declared.transfer.Step.TheVariants as step
-use Rattle.amqp_link.specs.Links.{Sent, LinkState, Transferred, FlowStated, deliveries, has_id, fault_of, step_of, is_beyond, is_drained, link_after}
+use Rattle.amqp_link.specs.Links.{Sent, LinkState, Transferred, FlowStated, deliveries, has_id, fault_of, step_of, is_beyond_credit, is_drained, link_after}
 use Rattle.amqp_session.specs.declared.slot.Slot.{Slot}
 use Rattle.amqp_session.specs.declared.slot.Slot.TheVariants.{Free, Live}
 use Rattle.amqp_session.specs.Faults.{step_report}
@@ -127,10 +127,10 @@ module _ (stand : StandsLaw) (takes : TakenLaw) (heeds : HeededLaw) where
         reply = ap joined k.reply;
       }
 
-  flow : (s : ConnectionState) (w : World) (a : Stands s w) (q : List Frame) (f : FlowState) → f.next_outgoing_id < 2 ^ 32 → is_beyond w.link.delivery_count w.link.credit (Some f.delivery_count) ≡ false
+  flow : (s : ConnectionState) (w : World) (a : Stands s w) (q : List Frame) (f : FlowState) → f.next_outgoing_id < 2 ^ 32 → is_beyond_credit w.link.delivery_count w.link.credit (Some f.delivery_count) ≡ false
       → GoesOnAs s (SessionFrame 0 a.session (Flows (flowing_of f))) (record w { to_end = q; link = link_after w.link (FlowStated (Some f.delivery_count)); next = f.next_outgoing_id })
   flow s w a q f few fine =
-      let k = heeds s a.session a.link f (at_handle s w a) (ap (λ (l : LinkState). is_beyond l.delivery_count l.credit (Some f.delivery_count)) a.same ∙ fine) in
+      let k = heeds s a.session a.link f (at_handle s w a) (ap (λ (l : LinkState). is_beyond_credit l.delivery_count l.credit (Some f.delivery_count)) a.same ∙ fine) in
       record {
         event = LinkFlowCame 0 f.next_outgoing_id (Some f.delivery_count);
         is = k.event;
@@ -171,7 +171,7 @@ module _ (stand : StandsLaw) (takes : TakenLaw) (heeds : HeededLaw) where
         moved s r.0 _ _ _ r.1 (world ∙ taken_in w q (later_sent payload more) false fine) r.2
     acted s w x most (Answers f drain) q lt a i e right =
         let world : happens w To_end ≡ counts w q f.delivery_count f.next_outgoing_id = ap (λ (z : List Frame). acts w z) e in
-        let fine = heeded (is_beyond w.link.delivery_count w.link.credit (Some f.delivery_count)) (ap (λ (v : World). v.failed) (sym world) ∙ never w x i) in
+        let fine = heeded (is_beyond_credit w.link.delivery_count w.link.credit (Some f.delivery_count)) (ap (λ (v : World). v.failed) (sym world) ∙ never w x i) in
         moved s (SessionFrame 0 a.session (Flows (flowing_of f))) _ _ _
         (flows s a.session a.link f drain a.opened (at_channel s w a) (at_handle s w a) right.0 right.1 right.2 (omega (arith, right.3, lt)))
         (world ∙ ap (λ (b : Bool). cond b (fails w) (record w { to_end = q; link = link_after w.link (FlowStated (Some f.delivery_count)); next = f.next_outgoing_id })) fine)

@@ -8,7 +8,7 @@ use Rattle.amqp_frame.specs.Units.{StreamUnit, HeaderUnit, bytes_of, AreUnits, d
 use Rattle.amqp_frame.specs.declared.units.Stage.{Stage}
 use Rattle.amqp_frame.specs.declared.units.Stage.TheVariants.{Frames}
 use Rattle.amqp_frame.specs.declared.units.TheConstants.{HEADER}
-use Rattle.amqp_link.specs.Links.{Sent, LinkState, link_begins, link_after, FlowStated, fault_of, is_beyond}
+use Rattle.amqp_link.specs.Links.{Sent, LinkState, link_begins, link_after, FlowStated, fault_of, is_beyond_credit}
 use Rattle.amqp_link.specs.declared.transfer.LinkFault.{LinkFault}
 use Rattle.amqp_perform.specs.Said.{Said, said_frame}
 use Rattle.amqp_session.specs.declared.slot.Slot.{Slot}
@@ -124,7 +124,7 @@ counted_so w q count next false e = record { sender = refl; to_end = refl; to_se
 took_by : (w : World) (f : Frame) (q : List Frame) → (acts_on w (f ∷ q)).failed ≡ false → Took w (acts_on w (f ∷ q)) q
 took_by w (First id payload more) q e = judged_so w q (first_sent id payload more) (eqb w.places 0) (id_open w.link id) (fault_of w.link (first_sent id payload more)) e
 took_by w (Later payload more) q e = judged_so w q (later_sent payload more) (eqb w.places 0) false (fault_of w.link (later_sent payload more)) e
-took_by w (Told count next) q e = counted_so w q count next (is_beyond w.link.delivery_count w.link.credit (Some count)) e
+took_by w (Told count next) q e = counted_so w q count next (is_beyond_credit w.link.delivery_count w.link.credit (Some count)) e
 
 -- what the frames of the opening come to
 abbrev peer_opens : Line

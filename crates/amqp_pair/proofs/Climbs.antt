@@ -1,6 +1,6 @@
 -- What is on its way, in plain numbers.
 use Rattle.std.proofs.Common.{◌≡◌, ℕ, ◌+◌, ◌-◌, ◌%◌, ◌^◌, ◌<◌, ◌≤◌, Bool, true, false, cond, ltb, List, [], ◌∷◌, ◌++◌, Option, None, refl, ◌∙◌, ap, arith}
-use Rattle.amqp_pair.specs.World.{Flow, Frame, First, Later, Told, ahead, grown, IsBegun, Walk, Climb}
+use Rattle.amqp_pair.specs.World.{Flow, Frame, First, Later, Told, ahead, grown, IsDeliveryBegun, Walk, Climb}
 
 pub walk_le : (q : List Frame) (part : Option (List ℕ)) (c n k : ℕ) (last : Option (List ℕ)) (cs ns ks : ℕ) → Walk q part c n k last cs ns ks → (c ≤ cs) × (n ≤ ns) × (k ≤ ks)
 walk_le [] part c n k last cs ns ks w = (omega (arith, w.1), omega (arith, w.2), omega (arith, w.3))
@@ -14,7 +14,7 @@ walk_first (First i pl mo ∷ q) part c n k last cs ns ks id p m e f w = (w.0, w
 walk_first (Later pl mo ∷ q) part c n k last cs ns ks id p m e f w = (w.0, walk_first q (grown part pl mo) c (n + 1) k last cs ns ks id p m e f w.1)
 walk_first (Told a b ∷ q) part c n k last cs ns ks id p m e f w = (w.0, w.1, w.2, w.3, walk_first q part w.0 n k last cs ns ks id p m e f w.4)
 
-pub walk_later : (q : List Frame) (part : Option (List ℕ)) (c n k : ℕ) (last : Option (List ℕ)) (cs ns ks : ℕ) (p : List ℕ) (m : Bool) → IsBegun last → Walk q part c n k last cs ns ks → Walk (q ++ Later p m ∷ []) part c n k (grown last p m) cs (ns + 1) ks
+pub walk_later : (q : List Frame) (part : Option (List ℕ)) (c n k : ℕ) (last : Option (List ℕ)) (cs ns ks : ℕ) (p : List ℕ) (m : Bool) → IsDeliveryBegun last → Walk q part c n k last cs ns ks → Walk (q ++ Later p m ∷ []) part c n k (grown last p m) cs (ns + 1) ks
 walk_later [] part c n k last cs ns ks p m b w = (rw w.0 b, (ap (λ x. grown x p m) w.0, w.1, omega (arith, w.2), w.3))
 walk_later (First i pl mo ∷ q) part c n k last cs ns ks p m b w = (w.0, w.1, walk_later q (grown None pl mo) (c + 1) (n + 1) (k + 1) last cs ns ks p m b w.2)
 walk_later (Later pl mo ∷ q) part c n k last cs ns ks p m b w = (w.0, walk_later q (grown part pl mo) c (n + 1) k last cs ns ks p m b w.1)

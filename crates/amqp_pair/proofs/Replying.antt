@@ -25,7 +25,7 @@ use Rattle.amqp_endpoint.specs.Configs.{Configured}
 use Rattle.amqp_endpoint.specs.Replies.{time_out_said, open_said, begin_said}
 use Rattle.amqp_send.specs.declared.telling.Telling.TheVariants.{Flowed}
 use Rattle.amqp_send.specs.Frames.{IsText}
-use Rattle.amqp_send.specs.Tellings.{told_by, disposed}
+use Rattle.amqp_send.specs.Tellings.{performative_told, disposed}
 use Rattle.amqp_pair.specs.Reading.{attaching_of}
 use Rattle.amqp_pair.specs.Replying.{SaysAndTells, OpenTells, BeginTells, AttachTells, FlowTells, LinkFlowTells, DispositionTells}
 use Rattle.amqp_pair.specs.Tells.{TellsLaw}
@@ -217,7 +217,7 @@ flag_is true = refl
 flag_is false = refl
 
 module _ (law : TellsLaw) where
-  tells : (x : Said) → MayBeSaid x → SaysAndTells x (told_by x.type x.cells)
+  tells : (x : Said) → MayBeSaid x → SaysAndTells x (performative_told x.type x.cells)
   tells x may = record { may = may; tells = λ few. law 0 x [] may (omega arith) few }
 
   pub opens : Spelled → OpenTells

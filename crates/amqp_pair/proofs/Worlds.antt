@@ -6,9 +6,9 @@ use Rattle.std.proofs.lemmas.Bool.{ltb-true, leb-true, le-leb}
 use Rattle.std.proofs.lemmas.List.{take-append-drop, map-append}
 use Rattle.amqp_perform.specs.declared.modes.ReceiverSettleMode.{ReceiverSettleMode}
 use Rattle.amqp_perform.specs.declared.modes.ReceiverSettleMode.TheVariants as mode
-use Rattle.amqp_link.specs.Links.{Delivery, LinkState, deliveries, open_count, has_id, fault_of, advance_by, link_after, delivery_after, Granted, DrainAsked, Transferred, ReceiverSettled, receiver_settles, told_by, is_first}
+use Rattle.amqp_link.specs.Links.{Delivery, LinkState, deliveries, open_count, has_id, fault_of, advance_by, link_after, delivery_after, Granted, DrainAsked, Transferred, ReceiverSettled, receiver_settles, marked_told, is_first}
 use Rattle.amqp_serial.specs.Numbers.{sum_of}
-use Rattle.amqp_pair.specs.World.{Flow, Frame, First, Later, Told, Sender, ahead, credit_of, window_of, World, frame_of, charge, sent, puts, cuts, writes, answers, drained, answered, told, comes, offers, first_sent, later_sent, fails, judged, takes_in, id_open, counts, acts, flow_of, flows, takes, Turn, Offer, Write, To_end, To_sender, Grant, Widen, Drain, Take, Settle, happens, text, grown, done, wholes, tail, IsBegun, BegunAs, Walk, Tells, Climb, part_text, messages, waits_first, Plain, Inv, IsWithin, IsFair, start, StepLaw, BeginLaw, run, AreFair, heads_of, transfers_of, IsServed, WorldLaw}
+use Rattle.amqp_pair.specs.World.{Flow, Frame, First, Later, Told, Sender, ahead, credit_of, window_of, World, frame_of, charge, sent, puts, cuts, writes, answers, drained, answered, told, comes, offers, first_sent, later_sent, fails, judged, takes_in, id_open, counts, acts, flow_of, flows, takes, Turn, Offer, Write, To_end, To_sender, Grant, Widen, Drain, Take, Settle, happens, text, grown, done, wholes, tail, IsDeliveryBegun, BegunAs, Walk, Tells, Climb, part_text, messages, waits_first, Plain, Inv, IsWithin, IsFair, start, StepLaw, BeginLaw, run, AreFair, heads_of, transfers_of, IsServed, WorldLaw}
 use Rattle.amqp_pair.proofs.Climbs.{walk_le, walk_first, walk_later, walk_told, climb_le, climb_up, climb_link, climb_session, ahead_is}
 use Rattle.amqp_pair.proofs.Wholes.{wholes_first, wholes_later, wholes_told, Small, small_back, small_more, next_fits}
 
@@ -121,7 +121,7 @@ not_begun : (b : Bool) (last : Option (List ℕ)) → b ≡ false → BegunAs b 
 not_begun true last e h = absurd cc
 not_begun false last e h = h
 
-is_begun : (b : Bool) (last : Option (List ℕ)) → b ≡ true → BegunAs b last → IsBegun last
+is_begun : (b : Bool) (last : Option (List ℕ)) → b ≡ true → BegunAs b last → IsDeliveryBegun last
 is_begun true last e h = h
 is_begun false last e h = absurd cc
 
@@ -436,11 +436,11 @@ below_left : (k : ℕ) (d : Delivery) (b : Bool) → d.delivery_id < k → Below
 below_left k d true l = tt
 below_left k d false l = (l, tt)
 
-below_named : (k id : ℕ) (ds : List Delivery) → Below k ds → Below k (map (told_by id id) (filter (λ d. not (receiver_settles id id d)) ds))
+below_named : (k id : ℕ) (ds : List Delivery) → Below k ds → Below k (map (marked_told id id) (filter (λ d. not (receiver_settles id id d)) ds))
 below_named k id [] a = tt
 below_named k id (d ∷ ds) a = pick _ (below_named k id ds a.1)
   where
-    pick : (b : Bool) → Below k (map (told_by id id) (filter (λ d. not (receiver_settles id id d)) ds)) → Below k (map (told_by id id) (cond b (d ∷ filter (λ d. not (receiver_settles id id d)) ds) (filter (λ d. not (receiver_settles id id d)) ds)))
+    pick : (b : Bool) → Below k (map (marked_told id id) (filter (λ d. not (receiver_settles id id d)) ds)) → Below k (map (marked_told id id) (cond b (d ∷ filter (λ d. not (receiver_settles id id d)) ds) (filter (λ d. not (receiver_settles id id d)) ds)))
     pick true r = (a.0, r)
     pick false r = r
 
@@ -566,7 +566,7 @@ no_part : (part : Option Delivery) → option_map (λ d. d.message) part ≡ Non
 no_part None e = refl
 no_part (Some d) e = absurd (cc e)
 
-some_part : (part : Option Delivery) → IsBegun (option_map (λ d. d.message) part) → (d : Delivery) × (part ≡ Some d)
+some_part : (part : Option Delivery) → IsDeliveryBegun (option_map (λ d. d.message) part) → (d : Delivery) × (part ≡ Some d)
 some_part None b = absurd b
 some_part (Some d) b = (d, refl)
 

@@ -6,7 +6,7 @@ use Rattle.amqp_perform.specs.declared.modes.Role.TheVariants as of_role
 use Rattle.amqp_perform.specs.declared.modes.SenderSettleMode.TheVariants as sender_mode
 use Rattle.amqp_perform.specs.declared.modes.ReceiverSettleMode.TheVariants as receiver_mode
 use Rattle.amqp_perform.specs.Said.{Said, said_frame, MayBeSaid}
-use Rattle.amqp_link.specs.Links.{Sent, fault_of, step_of, is_beyond, is_drained}
+use Rattle.amqp_link.specs.Links.{Sent, fault_of, step_of, is_beyond_credit, is_drained}
 use Rattle.amqp_session.specs.declared.slot.Slot.TheVariants.{Free, Live}
 use Rattle.amqp_session.specs.Faults.{step_report}
 use Rattle.amqp_session.specs.Frames.{Attaching, Flowing, Attaches, Flows, Transfers}
@@ -110,4 +110,4 @@ pub record IsHeeded (s : ConnectionState) (t : SessionState) (l : LiveLink) (f :
   pub reply : spoken_on s (SessionFrame 0 t (Flows (flowing_of f))) ≡ []
 
 abbrev pub HeededLaw : Type 0
-HeededLaw = (s : ConnectionState) (t : SessionState) (l : LiveLink) (f : FlowState) → session.slot_at t 0 ≡ Live l → is_beyond l.link.delivery_count l.link.credit (Some f.delivery_count) ≡ false → IsHeeded s t l f
+HeededLaw = (s : ConnectionState) (t : SessionState) (l : LiveLink) (f : FlowState) → session.slot_at t 0 ≡ Live l → is_beyond_credit l.link.delivery_count l.link.credit (Some f.delivery_count) ≡ false → IsHeeded s t l f

@@ -3,7 +3,7 @@ use Rattle.std.specs.Prelude.{◌≡◌, ℕ, ◌+◌, ◌-◌, ◌%◌, ◌^◌
 use Rattle.std.specs.List.{AllByRecursion, list_any}
 use Rattle.byteorder.specs.Endian.{big_bytes}
 use Rattle.amqp_serial.specs.Numbers.{sum_of}
-use Rattle.amqp_link.specs.Links.{Sent, Delivery, LinkState, deliveries, open_count, has_id, fault_of, is_beyond, link_after, link_begins, Granted, DrainAsked, Transferred, FlowStated, HandedUp, ReceiverSettled}
+use Rattle.amqp_link.specs.Links.{Sent, Delivery, LinkState, deliveries, open_count, has_id, fault_of, is_beyond_credit, link_after, link_begins, Granted, DrainAsked, Transferred, FlowStated, HandedUp, ReceiverSettled}
 use Rattle.amqp_link.specs.declared.transfer.LinkFault.{LinkFault}
 use Rattle.amqp_link.specs.declared.terms.Terms.{Terms}
 
@@ -137,7 +137,7 @@ id_open s id = is_none s.unfinished && list_any (has_id id) (deliveries s)
 
 -- A flow of the sender raises the delivery-count, and is a fault where it goes beyond the credit [2.6.7].
 abbrev pub counts : World → List Frame → ℕ → ℕ → World
-counts w q count next = if is_beyond w.link.delivery_count w.link.credit (Some count) then fails w else record w { to_end = q; link = link_after w.link (FlowStated (Some count)); next = next }
+counts w q count next = if is_beyond_credit w.link.delivery_count w.link.credit (Some count) then fails w else record w { to_end = q; link = link_after w.link (FlowStated (Some count)); next = next }
 
 -- the first frame on its way is acted upon
 abbrev pub acts : World → List Frame → World
@@ -208,19 +208,19 @@ abbrev pub tail : Option (List ℕ) → Option (List ℕ) → List (List ℕ)
 tail last None = []
 tail last (Some rest) = (text last ++ rest) ∷ []
 
-abbrev pub IsBegun : Option (List ℕ) → Type 0
-IsBegun None = ⊥
-IsBegun (Some m) = Unit {0}
+abbrev pub IsDeliveryBegun : Option (List ℕ) → Type 0
+IsDeliveryBegun None = ⊥
+IsDeliveryBegun (Some m) = Unit {0}
 
 abbrev pub BegunAs : Bool → Option (List ℕ) → Type 0
-BegunAs true last = IsBegun last
+BegunAs true last = IsDeliveryBegun last
 BegunAs false last = last ≡ None
 
 -- From what the endpoint has of a message, its plain count, transfers and heads, the frames lead to the sender's.
 abbrev pub Walk : List Frame → Option (List ℕ) → ℕ → ℕ → ℕ → Option (List ℕ) → ℕ → ℕ → ℕ → Type 0
 Walk [] part c n k last cs ns ks = (part ≡ last) × (c ≡ cs) × (n ≡ ns) × (k ≡ ks)
 Walk (First id payload more ∷ q) part c n k last cs ns ks = (part ≡ None) × (id ≡ k % 2 ^ 32) × Walk q (grown None payload more) (c + 1) (n + 1) (k + 1) last cs ns ks
-Walk (Later payload more ∷ q) part c n k last cs ns ks = IsBegun part × Walk q (grown part payload more) c (n + 1) k last cs ns ks
+Walk (Later payload more ∷ q) part c n k last cs ns ks = IsDeliveryBegun part × Walk q (grown part payload more) c (n + 1) k last cs ns ks
 Walk (Told count next ∷ q) part c n k last cs ns ks = (d : ℕ) × (count ≡ d % 2 ^ 32) × (next ≡ n % 2 ^ 32) × (c ≤ d) × Walk q part d n k last cs ns ks
 
 -- The limits that the flows state only rise, up to the endpoint's.

@@ -4,7 +4,7 @@
 //! [`read_body`] lends the fields from the body; [`write_frame`] writes into bytes of the caller. Nothing here
 //! takes memory. `specs/Tables.antt` has the fields of each performative, `specs/Bodies.antt` what a body says,
 //! and `specs/Frames.antt` which frame is written.
-//! The tests stand in `codec_rows`.
+//! The tests stand in `test_codec_rows`.
 #![tactic(auto)]
 
 mod condition;

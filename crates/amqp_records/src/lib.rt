@@ -8,7 +8,7 @@
 //!
 //! A file that many connections share is made of blocks of their records (`blocks`, `specs/Blocks.antt`): [`Blocks`] makes them, [`whole_blocks`]
 //! (`block_file`) says how far a file of them is whole, and [`print_blocks`] (`block_printer`, `specs/BlockPrinting.antt`) prints one.
-//! The tests stand in `records_rows`.
+//! The tests stand in `test_records_rows`.
 #![tactic(auto)]
 
 mod ascii;

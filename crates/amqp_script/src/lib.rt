@@ -2,7 +2,7 @@
 //!
 //! [`replay_script`] reads a script whole and checks each of its lines before it runs the first. `docs/COMMANDS.md` has
 //! the lines' format.
-//! The tests stand in `layer_rows`, `endpoint_tests` and `same_as_before`.
+//! The tests stand in `test_layer_rows`, `test_endpoint` and `test_texts_against_start`.
 #![tactic(auto)]
 
 mod answers;

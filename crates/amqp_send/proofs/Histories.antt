@@ -17,7 +17,7 @@ use Rattle.amqp_send.specs.declared.telling.Telling.{Telling}
 use Rattle.amqp_send.specs.declared.telling.Telling.TheVariants as told
 use Rattle.amqp_send.specs.Flows.{ahead, credit, window, most, opened, begun, limited, drained, transferred}
 use Rattle.amqp_send.specs.Histories.{Piece, Deed, Heard, Wrote, pieces, offers, goes_on, part, wholes, heads, drains, advances, credit_end, flow_of, answer_by, transfer_text, written, moved, waiting}
-use Rattle.amqp_send.specs.Histories.{IsBegun, IsHistory, MayGo, AllMayGo, heard_deeds, event_deeds, next_piece, wrote_deeds, frame_deeds, deeds, after_all, history, IsLawfulEvent, Accepted}
+use Rattle.amqp_send.specs.Histories.{IsMessageBegun, IsHistory, MayGo, AllMayGo, heard_deeds, event_deeds, next_piece, wrote_deeds, frame_deeds, deeds, after_all, history, IsLawfulEvent, Accepted}
 use Rattle.amqp_send.specs.Sendings.{SendTerms, Message, Sending, sending_begins, frame, opening, flow_said, close_said, transfer_said, is_last, share, next_frame, heads_of, left_of, fault_at, fits}
 use Rattle.amqp_send.specs.Sendings.{is_talking, may_go, may_send, can_write, wrote_of, wrote, writes, frames_left, all_written, ended, answered, flowed, heard, heard_in, SendEvent, Acted, Offered}
 use Rattle.amqp_send.specs.Sendings.{CloseWritten, Moved, changed, send_after, SendMay}
@@ -76,7 +76,7 @@ text_is f h m is begun =
 
 -- what its messages are
 messages_more : (os : List (List ℕ)) (ps : List Piece) (f : FlowState) (m : Message) (last : Bool) → is_last f m ≡ last → os ≡ wholes ps ++ waiting (Some m) ps
-    → (os ≡ wholes (next_piece f m ∷ ps) ++ waiting (left_of f m) (next_piece f m ∷ ps)) × IsBegun (left_of f m) (next_piece f m ∷ ps)
+    → (os ≡ wholes (next_piece f m ∷ ps) ++ waiting (left_of f m) (next_piece f m ∷ ps)) × IsMessageBegun (left_of f m) (next_piece f m ∷ ps)
 messages_more os ps f m true e is =
     (rw (e, take-length m.rest) (is ∙ sym (append-nil (wholes ps ++ (part ps ++ m.rest) ∷ []))), rw e refl)
 messages_more os ps f m false e is =
@@ -110,7 +110,7 @@ module _ (laws : Lengths) (null : NullIsLeast) where
       same = ap (λ (x : Option Message). record s { message = x }) (sym e)
 
       begun_is : m.begun ≡ goes_on (pieces h)
-      begun_is = subst (λ (x : Option Message). IsBegun x (pieces h)) e k.is.begun
+      begun_is = subst (λ (x : Option Message). IsMessageBegun x (pieces h)) e k.is.begun
 
       messages_are : offers h ≡ wholes (pieces h) ++ waiting (Some m) (pieces h)
       messages_are = subst (λ (x : Option Message). offers h ≡ wholes (pieces h) ++ waiting x (pieces h)) e k.is.messages
@@ -260,7 +260,7 @@ event_step : (terms : SendTerms) (h : List Deed) (s : Sending) (e : SendEvent) �
 event_step terms h s (Acted u) lawful may k = acted_step terms h s s.talk (told_of u) lawful k
 event_step terms h s (Offered m) lawful may k =
     let none = none_waits s.talk s.message may in
-    let rest : goes_on (pieces h) ≡ false = subst (λ (x : Option Message). IsBegun x (pieces h)) none k.is.begun in
+    let rest : goes_on (pieces h) ≡ false = subst (λ (x : Option Message). IsMessageBegun x (pieces h)) none k.is.begun in
     let before : offers h ≡ wholes (pieces h) ++ [] = subst (λ (x : Option Message). offers h ≡ wholes (pieces h) ++ waiting x (pieces h)) none k.is.messages in record {
       is = record {
         terms_are = k.is.terms_are;

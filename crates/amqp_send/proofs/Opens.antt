@@ -12,7 +12,7 @@ use Rattle.amqp_perform.specs.Outcomes.{outcome_of}
 use Rattle.amqp_perform.specs.Performatives.{type_of, performative_cells, role, flag, span, optional_whole}
 use Rattle.amqp_perform.specs.Tables.{Field, fields_of, open_fields}
 use Rattle.amqp_send.specs.declared.telling.Telling.TheVariants.{Nothing}
-use Rattle.amqp_send.specs.Tellings.{told_by, disposed, IsLawful}
+use Rattle.amqp_send.specs.Tellings.{performative_told, disposed, IsLawful}
 use Rattle.std.specs.Prelude.{unwrap_or, if◌then◌else◌}
 
 passes : (b : Bool) (m : ℕ) → where_so b (Whole m) ≡ Some (Whole m) → b ≡ true
@@ -27,7 +27,7 @@ disposed_lawful true false first last None = tt
 
 module _ (again : (bytes : List ℕ) (p : Performative) (fields : List Field) (payload : List ℕ) → ((i : ℕ) → slice_index bytes i < 256) → Body bytes p payload → fields_of (type_of p) ≡ Some fields →
     AreOfFields fields (written_cells p)) where
-  pub lawful : (bytes : List ℕ) (p : Performative) (payload : List ℕ) → ((i : ℕ) → slice_index bytes i < 256) → Body bytes p payload → IsLawful (told_by (type_of p) (performative_cells p))
+  pub lawful : (bytes : List ℕ) (p : Performative) (payload : List ℕ) → ((i : ℕ) → slice_index bytes i < 256) → Body bytes p payload → IsLawful (performative_told (type_of p) (performative_cells p))
   lawful bytes (performative.Open p) payload octets body =
       let field = (again bytes (performative.Open p) open_fields payload octets body refl).1.1.0 in
       leb-true 512 p.max_frame_size (passes (nat_le 512 p.max_frame_size) p.max_frame_size field.1)

@@ -180,9 +180,9 @@ waiting None ps = []
 waiting (Some m) ps = (part ps ++ m.rest) ∷ []
 
 -- a message that waits is begun where the last delivery goes on, and only then
-abbrev pub IsBegun : Option Message → List Piece → Type 0
-IsBegun None ps = goes_on ps ≡ false
-IsBegun (Some m) ps = m.begun ≡ goes_on ps
+abbrev pub IsMessageBegun : Option Message → List Piece → Type 0
+IsMessageBegun None ps = goes_on ps ≡ false
+IsMessageBegun (Some m) ps = m.begun ≡ goes_on ps
 
 -- the sender is what its history gives
 pub record IsHistory (terms : SendTerms) (h : List Deed) (s : Sending) : Type 0 where
@@ -191,7 +191,7 @@ pub record IsHistory (terms : SendTerms) (h : List Deed) (s : Sending) : Type 0 
   pub flow_is : s.flow ≡ flow_of h
   -- the messages that its frames make whole, and the one that waits, are those that were taken over, in order, each once
   pub messages : offers h ≡ wholes (pieces h) ++ waiting s.message (pieces h)
-  pub begun : IsBegun s.message (pieces h)
+  pub begun : IsMessageBegun s.message (pieces h)
   -- what was moved out and what waits is all that was written
   pub bytes : moved h ++ s.unsent ≡ written terms h
 

@@ -69,21 +69,21 @@ abbrev pub close_told : List Cell → Telling
 close_told (error ∷ rest) = Closed (condition_of (span_in error))
 close_told _ = Nothing
 
-abbrev pub told_by : Descriptor → List Cell → Telling
-told_by of_type.Open cells = open_told cells
-told_by of_type.Begin cells = begin_told cells
-told_by of_type.Flow cells = flow_told cells
-told_by of_type.Disposition cells = disposition_told cells
-told_by of_type.Detach cells = detach_told cells
-told_by of_type.End cells = end_told cells
-told_by of_type.Close cells = close_told cells
-told_by _ cells = Nothing
+abbrev pub performative_told : Descriptor → List Cell → Telling
+performative_told of_type.Open cells = open_told cells
+performative_told of_type.Begin cells = begin_told cells
+performative_told of_type.Flow cells = flow_told cells
+performative_told of_type.Disposition cells = disposition_told cells
+performative_told of_type.Detach cells = detach_told cells
+performative_told of_type.End cells = end_told cells
+performative_told of_type.Close cells = close_told cells
+performative_told _ cells = Nothing
 
 -- What a unit tells. --------------------------------------------------------------------------------------------------
 
 abbrev pub told_read : Option (Descriptor × List Cell × List ℕ) → Telling
 told_read None = Unread
-told_read (Some x) = told_by x.0 x.1
+told_read (Some x) = performative_told x.0 x.1
 
 -- a frame without a body tells nothing [2.4.5]
 abbrev pub told_in : List ℕ → Telling

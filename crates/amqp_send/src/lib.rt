@@ -6,7 +6,7 @@
 //! is to be sent. `specs/Sendings.antt` has its state, the frames that it writes and what each event does to
 //! it; `specs/Tellings.antt` what the receiver's units tell it; `specs/Runs.antt` what holds of every list of
 //! its calls.
-//! The tests stand in `layer_rows`.
+//! The tests stand in `test_layer_rows`.
 #![tactic(auto)]
 
 mod config;

@@ -8,7 +8,7 @@ ghost use Rattle.amqp_send.specs.Sendings.{Message, frame, is_last, next_frame, 
 use crate::flow_state::FlowState;
 use crate::frames::transfer;
 use crate::laws::lengths_of_frames;
-use crate::output::{LATER_HEAD, Output};
+use crate::output::{CONTINUATION_HEAD, Output};
 use std::alloc::{Allocator, Global};
 use std::marker::Model;
 
@@ -110,7 +110,7 @@ fn head_len_of<A: Allocator + Copy>(
 {
     let most = flow.most();
     if message.is_begun() {
-        return LATER_HEAD.len().min(most);
+        return CONTINUATION_HEAD.len().min(most);
     }
     let tag = flow.delivery_id.to_be_bytes();
     let head = transfer(flow.delivery_id, &tag, false, true);
@@ -170,7 +170,7 @@ fn put_part<A: Allocator + Copy>(
     let payload = &message.rest()[..part.len];
     let begun = message.is_begun();
     if begun && !part.last {
-        return output.put_later(payload);
+        return output.put_continuation(payload);
     }
     let tag = flow.delivery_id.to_be_bytes();
     let frame = transfer(flow.delivery_id, &tag, begun, !part.last);

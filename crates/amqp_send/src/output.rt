@@ -17,7 +17,7 @@ use std::marker::Model;
 const PIPE_SIZE: usize = 8192;
 
 /// The frame of a transfer that goes on with a message and that more follow, without its payload.
-pub const LATER_HEAD: [u8; 20] = [
+pub const CONTINUATION_HEAD: [u8; 20] = [
     0, 0, 0, 20, 2, 0, 0, 0, 0, 0x53, 0x14, 0xc0, 7, 6, 0x43, 0x40, 0x40, 0x40, 0x40, 0x41,
 ];
 
@@ -101,17 +101,17 @@ impl<A: Allocator + Copy> Output<A> {
 
     /// [`Output::put`] of a transfer that goes on with a message and that more follow, as most frames of a long
     /// message are.
-    pub fn put_later(&mut self, payload: &[u8]) -> bool
+    pub fn put_continuation(&mut self, payload: &[u8]) -> bool
         requires { length (said_frame 0 (later_said true) payload.now) ≤ 4096 }
         ensures fits { result ≡ fits self.old (said_frame 0 (later_said true) payload.now) }
         ensures new { self.new ≡ spec.put self.old (said_frame 0 (later_said true) payload.now) }
     {
         lengths_of_frames();
-        let size = LATER_HEAD.len() + payload.len();
+        let size = CONTINUATION_HEAD.len() + payload.len();
         if size > PIPE_SIZE - self.pipe.len() {
             return false;
         }
-        self.pipe.fill_from_slice(&later_head(size as u32));
+        self.pipe.fill_from_slice(&continuation_head(size as u32));
         self.pipe.fill_from_slice(payload);
         true
     }
@@ -135,11 +135,11 @@ impl<A: Allocator + Copy> Output<A> {
     }
 }
 
-/// [`LATER_HEAD`] of a frame of so many bytes.
-fn later_head(size: u32) -> [u8; 20]
+/// [`CONTINUATION_HEAD`] of a frame of so many bytes.
+fn continuation_head(size: u32) -> [u8; 20]
     ensures { result ≡ big_bytes 4 size ++ drop 4 (frame (later_said true)) }
 {
-    let mut head = LATER_HEAD;
+    let mut head = CONTINUATION_HEAD;
     head[..4].copy_from_slice(&size.to_be_bytes());
     head
 }

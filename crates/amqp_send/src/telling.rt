@@ -3,7 +3,7 @@ ghost use Rattle.std.specs.Prelude.{◌≡◌, ℕ, ◌≤◌, ◌*◌, IfSome, 
 ghost use Rattle.amqp_frame.specs.Units.{StreamUnit};
 ghost use Rattle.amqp_frame.specs.Splits.{Waits};
 ghost use Rattle.amqp_perform.specs.Performatives.{type_of, performative_cells, flow_cells, disposition_cells};
-ghost use Rattle.amqp_send.specs.Tellings.{told_by, told_in, told_of, disposition_told, flow_told, IsLawful};
+ghost use Rattle.amqp_send.specs.Tellings.{performative_told, told_in, told_of, disposition_told, flow_told, IsLawful};
 
 use amqp_frame::laws::no_unit_begins_another;
 use amqp_frame::{HEADER, Splitter};
@@ -81,8 +81,8 @@ fn told_by_disposition(p: &Disposition<'_>) -> Telling
 
 /// What a performative tells.
 #[tactic(auto, using(crate::proofs::Fields::fields_are))]
-fn told_by(performative: &Performative<'_>) -> Telling
-    ensures { result ≡ told_by (type_of performative.now) (performative_cells performative.now) }
+fn performative_told(performative: &Performative<'_>) -> Telling
+    ensures { result ≡ performative_told (type_of performative.now) (performative_cells performative.now) }
 {
     match performative {
         Performative::Open(p) => Telling::Opened(p.max_frame_size),
@@ -106,7 +106,7 @@ fn told_in(body: &[u8]) -> Telling
         return Telling::Nothing;
     }
     match read_body(body) {
-        Ok((performative, _)) => told_by(&performative),
+        Ok((performative, _)) => performative_told(&performative),
         Err(_) => Telling::Unread,
     }
 }

@@ -7,7 +7,7 @@ use Rattle.amqp_frame.specs.Units.{StreamUnit, HeaderUnit, FrameUnit, FaultUnit,
 use Rattle.amqp_frame.proofs.Fronts.{waits_or_not}
 use Rattle.amqp_link.specs.declared.transfer.LinkFault.{LinkFault}
 use Rattle.amqp_link.specs.declared.transfer.Step.TheVariants as step
-use Rattle.amqp_link.specs.Links.{Delivery, Sent, completes, is_beyond, is_drained}
+use Rattle.amqp_link.specs.Links.{Delivery, Sent, completes, is_beyond_credit, is_drained}
 use Rattle.amqp_link.specs.Histories.{one_if}
 use Rattle.amqp_perform.specs.BodyReading.{body_at}
 use Rattle.amqp_perform.specs.declared.condition.Condition.{Condition}
@@ -118,7 +118,7 @@ came_tells handle t false false aborted more = Loud handle t
 
 flow_tells : (handle : ℕ) (f : Flowing) (y : Slot LiveLink) → Tells (faults.flow_event handle f y) (faults.flow_report handle f y)
 flow_tells handle f Free = Quiet (λ h. refl) tt
-flow_tells handle f (Live l) = by (is_beyond l.link.delivery_count l.link.credit f.delivery_count) (is_drained l.link f.delivery_count)
+flow_tells handle f (Live l) = by (is_beyond_credit l.link.delivery_count l.link.credit f.delivery_count) (is_drained l.link f.delivery_count)
   where
     by : (beyond drained : Bool) → Tells (if beyond then one.LinkFlowEnded handle f.next_outgoing_id else one.LinkFlowCame handle f.next_outgoing_id f.delivery_count)
         (if beyond then report.Failed handle condition.TransferLimitExceeded (length l.link.ready) else (if drained then report.Drained handle else report.Nothing))

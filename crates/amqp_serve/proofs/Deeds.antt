@@ -19,7 +19,7 @@ use Rattle.amqp_serve.specs.declared.steps.Done.{Done}
 use Rattle.amqp_serve.specs.declared.supplies.Topped.{Topped}
 use Rattle.amqp_serve.specs.declared.supplies.Supply.{Supply}
 use Rattle.amqp_serve.specs.declared.supplies.Supply.TheVariants.{WindowOf, CreditOf}
-use Rattle.amqp_serve.specs.Deeds.{takes_of, settles_of, fed_deeds, receipt_deeds, rest_deeds, done_deeds, told_by, takes_by, settles_by, widened_by, granted_by, refused_by, Deeds, most, AreDeeds, with_both, topped_as, topped_deeds, no_deeds, Ends, AreOpen, IsOfEnds, IsMarked, WentOn, WentOff, Went}
+use Rattle.amqp_serve.specs.Deeds.{takes_of, settles_of, fed_deeds, receipt_deeds, rest_deeds, done_deeds, outcomes_by, takes_by, settles_by, widened_by, granted_by, refused_by, Deeds, most, AreDeeds, with_both, topped_as, topped_deeds, no_deeds, Ends, AreOpen, IsOfEnds, IsMarked, WentOn, WentOff, Went}
 use Rattle.amqp_serve.specs.Serving.{Stand, Step, Serves, top_up_by, recorded_by, recorded}
 use Rattle.amqp_serve.proofs.Servings.{served_on, works_on, works_broke, works_none, works_one, works_silent, works_flushed, works_moved, stopped, left_recorded}
 
@@ -41,7 +41,7 @@ lists f xs ys a b both x y is = is ∙ ap (λ (l : List _). l ++ b) x ∙ ap (λ
 -- steps behind others
 pub deeds_on : (d e both : Deeds) (xs ys : List Step) → AreDeeds d xs → AreDeeds e ys → IsBoth d e both → AreDeeds both (xs ++ ys)
 deeds_on d e both xs ys x y is = record {
-  told = lists (λ (s : Step). told_by s.answer) xs ys d.told e.told both.told x.told y.told is.told;
+  told = lists (λ (s : Step). outcomes_by s.answer) xs ys d.told e.told both.told x.told y.told is.told;
   takes = lists (λ (s : Step). takes_by s.call s.answer) xs ys d.takes e.takes both.takes x.takes y.takes is.takes;
   settles = lists (λ (s : Step). settles_by s.call s.answer) xs ys d.settles e.settles both.settles x.settles y.settles is.settles;
   widened = sums (λ (s : Step). widened_by s.call s.answer) xs ys d.topped.widened e.topped.widened both.topped.widened x.widened y.widened is.widened;
@@ -87,10 +87,10 @@ pub none_done : AreDeeds no_deeds []
 none_done = record { told = refl; takes = refl; settles = refl; widened = refl; granted = refl; refused = refl }
 
 -- one step, by its call and its answer
-pub one_done : (d : Deeds) (x : Step) → d.told ≡ told_by x.answer → d.takes ≡ takes_by x.call x.answer → d.settles ≡ settles_by x.call x.answer → d.topped.widened ≡ most (widened_by x.call x.answer)
+pub one_done : (d : Deeds) (x : Step) → d.told ≡ outcomes_by x.answer → d.takes ≡ takes_by x.call x.answer → d.settles ≡ settles_by x.call x.answer → d.topped.widened ≡ most (widened_by x.call x.answer)
     → d.topped.granted ≡ most (granted_by x.call x.answer) → d.topped.refused ≡ most (refused_by x.call x.answer) → AreDeeds d (x ∷ [])
 one_done d x told takes settles widened granted refused = record {
-  told = told ∙ sym (append-nil (told_by x.answer));
+  told = told ∙ sym (append-nil (outcomes_by x.answer));
   takes = takes ∙ sym (append-nil (takes_by x.call x.answer));
   settles = settles ∙ sym (append-nil (settles_by x.call x.answer));
   widened = let one = sum_by-cons (λ (s : Step). widened_by s.call s.answer) x [] in omega (arith, widened, one);

@@ -6,7 +6,7 @@ use Rattle.amqp_frame.proofs.Fronts.{waits_or_not}
 use Rattle.amqp_link.specs.declared.transfer.LinkFault.{LinkFault}
 use Rattle.amqp_link.specs.declared.transfer.Step.{Step as LinkStep}
 use Rattle.amqp_link.specs.declared.transfer.Step.TheVariants as step
-use Rattle.amqp_link.specs.Links.{step_of, is_beyond, is_drained}
+use Rattle.amqp_link.specs.Links.{step_of, is_beyond_credit, is_drained}
 use Rattle.amqp_perform.specs.declared.condition.Condition.{Condition}
 use Rattle.amqp_perform.specs.declared.condition.Condition.TheVariants.{TransferLimitExceeded}
 use Rattle.amqp_session.specs.declared.report.Report.{Report}
@@ -79,7 +79,7 @@ frame_elsewhere u (Flows f) h told k away = by f.handle told
   where
     flowed : (n : ℕ) (x : Slot LiveLink) → about (faults.flow_report n f x) ≡ Some h → IsElsewhere k (happens (faults.flow_event n f x))
     flowed n Free told = no_some h told
-    flowed n (Live l) told = beyond (is_beyond l.link.delivery_count l.link.credit f.delivery_count) (is_drained l.link f.delivery_count) told
+    flowed n (Live l) told = beyond (is_beyond_credit l.link.delivery_count l.link.credit f.delivery_count) (is_drained l.link f.delivery_count) told
       where
         beyond : (b d : Bool) → about (if b then report.Failed n TransferLimitExceeded (length l.link.ready) else (if d then report.Drained n else report.Nothing)) ≡ Some h
             → IsElsewhere k (happens (if b then one.LinkFlowEnded n f.next_outgoing_id else one.LinkFlowCame n f.next_outgoing_id f.delivery_count))

@@ -23,7 +23,7 @@ use Rattle.amqp_endpoint.proofs.Traces.{answer_still}
 use Rattle.amqp_serve.specs.declared.rules.Rule.{Rule}
 use Rattle.amqp_serve.specs.declared.supplies.Supply.{Supply}
 use Rattle.amqp_serve.specs.declared.supplies.Supply.TheVariants.{WindowOf, CreditOf}
-use Rattle.amqp_serve.specs.Deeds.{told_by}
+use Rattle.amqp_serve.specs.Deeds.{outcomes_by}
 use Rattle.amqp_serve.specs.Rooms.{answers_room}
 use Rattle.amqp_serve.specs.Serving.{Stand, ToppingUp, Receiving, Settling, Starved, Over, all_supplies, stand_told, stand_handed, stand_taken, lack, top_up_by, Step, Serves, Rests, MovesOut, Feeds, Takes, Settles, TopsUp, Passes, Finishes, moved}
 
@@ -132,7 +132,7 @@ module _ (units : (s : ConnectionState) (u : StreamUnit) → length s.config.con
     rooms_on (o ∷ os) ps = let e = rooms_on os ps in omega (arith, e)
 
     abbrev tells : List Step → List Outcome
-    tells steps = flat_map (λ x. told_by x.answer) steps
+    tells steps = flat_map (λ x. outcomes_by x.answer) steps
 
     -- where the configuration is this one
     same_supplies : (k : Configured) → k ≡ config → length (all_supplies k) ≡ length (all_supplies config)
@@ -163,7 +163,7 @@ module _ (units : (s : ConnectionState) (u : StreamUnit) → length s.config.con
         length (moved xs) + length t.unsent ≤ length next.unsent + (behind + rooms (tells xs)) → length (moved (x ∷ xs)) + length t.unsent ≤ length s.unsent + (now + rooms (tells (x ∷ xs)))
     before s next t answer xs x n now behind is longer none room rest =
         let quiet = ap (λ (l : List ℕ). length l) (ap (λ (a : Answer). moved_by a) is ∙ none) in
-        omega (arith, quiet, length-append (moved_by x.answer) (moved xs), rooms_on (told_by x.answer) (tells xs), longer.most, room, rest)
+        omega (arith, quiet, length-append (moved_by x.answer) (moved xs), rooms_on (outcomes_by x.answer) (tells xs), longer.most, room, rest)
 
     pub serves_within : {a b : Stand} {s t : EndpointState} {xs : List Step} → Serves r a s xs b t → s.connection.config ≡ config → 8 ≤ s.input.limit →
         length (moved xs) + length t.unsent ≤ length s.unsent + (room_at a + rooms (tells xs))

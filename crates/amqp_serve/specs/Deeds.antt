@@ -29,9 +29,9 @@ abbrev pub most : ℕ → ℕ
 most n = min n (2 ^ 32 - 1)
 
 -- what a feed told
-abbrev pub told_by : Answer → List Outcome
-told_by (Fed used told) = told ∷ []
-told_by _ = []
+abbrev pub outcomes_by : Answer → List Outcome
+outcomes_by (Fed used told) = told ∷ []
+outcomes_by _ = []
 
 abbrev pub received_as : Handed → Received
 received_as d = record { delivery_id = d.delivery_id; len = most (length d.message) }
@@ -72,7 +72,7 @@ pub record Deeds : Type 0 where
 
 -- These steps did that, and nothing else but to move answers out.
 pub record AreDeeds (d : Deeds) (steps : List Step) : Type 0 where
-  pub told : d.told ≡ flat_map (λ x. told_by x.answer) steps
+  pub told : d.told ≡ flat_map (λ x. outcomes_by x.answer) steps
   pub takes : d.takes ≡ flat_map (λ x. takes_by x.call x.answer) steps
   pub settles : d.settles ≡ flat_map (λ x. settles_by x.call x.answer) steps
   pub widened : d.topped.widened ≡ most (sum_by (λ x. widened_by x.call x.answer) steps)

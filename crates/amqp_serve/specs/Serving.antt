@@ -160,7 +160,7 @@ pub record Served (p : Rule) (a b : Stand) (bytes : List ℕ) (old new : Endpoin
   pub recorded : Appends kept keeps (recorded steps)
 
 -- All that was taken is recorded but for the message of the last call, a take, whose record is begun.
-pub record IsBegun (steps : List Step) (noted : List ℕ) : Type 0 where
+pub record IsLastRecordBegun (steps : List Step) (noted : List ℕ) : Type 0 where
   pub before : List Step
   pub channel : ℕ
   pub handle : ℕ
@@ -173,7 +173,7 @@ pub record IsBegun (steps : List Step) (noted : List ℕ) : Type 0 where
 abbrev pub IsLeft : ServeFault → Stand → List Step → List ℕ → List ℕ → Type 0
 IsLeft fault.Read stand steps noted unnoted = (stand ≡ reading) × (unnoted ≡ [])
 IsLeft fault.Write stand steps noted unnoted = unnoted ≡ []
-IsLeft fault.Sink stand steps noted unnoted = (unnoted ≡ []) ⊎ IsBegun steps noted
+IsLeft fault.Sink stand steps noted unnoted = (unnoted ≡ []) ⊎ IsLastRecordBegun steps noted
 IsLeft fault.NoMemory stand steps noted unnoted = (stand ≡ Starved) × (unnoted ≡ [])
 
 -- Serving broke off with this fault: these bytes were fed, all that was moved out was written, and a beginning of the records was recorded. A reader that failed may have put something into the room of the

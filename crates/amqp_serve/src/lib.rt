@@ -3,7 +3,7 @@
 //! [`serve`] reads what a peer sends into an [`amqp_endpoint::Endpoint`], takes each message, writes its record to
 //! the sink and settles it by a [`Policy`], tops up windows and credit, and writes what the endpoint answers. It stands on
 //! the endpoint's public contracts alone, as any application does. `specs/Serving.antt` has what it does step by step, and
-//! `specs/Cuts.antt` what a stream comes to that is served unit by unit. The tests stand in `layer_rows` and `endpoint_tests`.
+//! `specs/Cuts.antt` what a stream comes to that is served unit by unit. The tests stand in `test_layer_rows` and `test_endpoint`.
 #![tactic(auto)]
 
 mod hosting;

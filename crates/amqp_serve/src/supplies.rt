@@ -223,7 +223,7 @@ fn top_up_one<A: Allocator + Copy, W: Write + HoldsBack + Drop, S: Write + Drop>
     ensures went { (rest : List Supply) → Went rule.now topped_deeds (ToppingUp (supply ∷ rest)) (ToppingUp rest) result endpoint.old endpoint.new
         (ends W.contents S.contents writer.old sink.old) (ends W.contents S.contents writer.new sink.new) }
 {
-    let more = missing(endpoint, supply, rule);
+    let more = lack(endpoint, supply, rule);
     if more == 0 {
         return Ok(Topped::NOTHING);
     }
@@ -270,17 +270,17 @@ fn give<A: Allocator + Copy>(
 
 /// What a supply lacks.
 #[inline(always)]
-fn missing<A: Allocator + Copy>(endpoint: &Endpoint<A>, supply: Supply, rule: &Rule) -> u32
+fn lack<A: Allocator + Copy>(endpoint: &Endpoint<A>, supply: Supply, rule: &Rule) -> u32
     ensures { result ≡ lack rule.now endpoint.now.connection supply }
 {
     match supply {
-        Supply::WindowOf { channel } => missing_places(endpoint, channel),
-        Supply::CreditOf { channel, handle } => missing_credit(endpoint, channel, handle, rule),
+        Supply::WindowOf { channel } => window_lack(endpoint, channel),
+        Supply::CreditOf { channel, handle } => credit_lack(endpoint, channel, handle, rule),
     }
 }
 
 /// What the window of the session on a channel lacks.
-fn missing_places<A: Allocator + Copy>(endpoint: &Endpoint<A>, channel: u16) -> u32
+fn window_lack<A: Allocator + Copy>(endpoint: &Endpoint<A>, channel: u16) -> u32
     ensures { result ≡ window_lack endpoint.now.connection.config.window (slot_at endpoint.now.connection channel) }
 {
     let Some(places) = endpoint.window(channel) else {
@@ -295,7 +295,7 @@ fn missing_places<A: Allocator + Copy>(endpoint: &Endpoint<A>, channel: u16) -> 
 }
 
 /// What a link lacks.
-fn missing_credit<A: Allocator + Copy>(
+fn credit_lack<A: Allocator + Copy>(
     endpoint: &Endpoint<A>,
     channel: u16,
     handle: u32,

@@ -10,7 +10,7 @@ use Rattle.amqp_link.specs.declared.transfer.LinkFault.{LinkFault}
 use Rattle.amqp_link.specs.declared.transfer.LinkFault.TheVariants as link_fault
 use Rattle.amqp_link.specs.declared.settlement.Standing.{Standing}
 use Rattle.amqp_link.specs.declared.settlement.Standing.TheVariants.{Absent, Untaken, Told, Awaiting}
-use Rattle.amqp_link.specs.Links.{Sent, Delivery, LinkState, fault_of, is_formed, lacks_credit, is_too_long, is_beyond, first_ready, open_count, ReceiverSettled}
+use Rattle.amqp_link.specs.Links.{Sent, Delivery, LinkState, fault_of, is_formed, lacks_credit, is_too_long, is_beyond_credit, first_ready, open_count, ReceiverSettled}
 use Rattle.amqp_session.specs.declared.fault.SessionFault.TheVariants as session_fault_of
 use Rattle.amqp_session.specs.declared.fault.CallFault.{CallFault}
 use Rattle.amqp_session.specs.declared.fault.CallFault.TheVariants as refused
@@ -127,12 +127,12 @@ transfer_ok s handle t small none Waits here = (moved s (window_handle s handle 
 
 flow_ok : (s : SessionState) (handle : ℕ) (f : Flowing) → handle_fault s handle ≡ None → (x : Slot LiveLink) → slot_at s handle ≡ x → SessionMay s (flow_event handle f x)
 flow_ok s handle f none Free here = absurd (subst (λ (y : Slot LiveLink). IsInUse y) here (in_use s handle none))
-flow_ok s handle f none (Live l) here = by_count (is_beyond l.link.delivery_count l.link.credit f.delivery_count) refl
+flow_ok s handle f none (Live l) here = by_count (is_beyond_credit l.link.delivery_count l.link.credit f.delivery_count) refl
   where
     there : slice_get s.links handle ≡ Some (Live l)
     there = found (slice_get s.links handle) (Live l) here tt
 
-    by_count : (b : Bool) → is_beyond l.link.delivery_count l.link.credit f.delivery_count ≡ b →
+    by_count : (b : Bool) → is_beyond_credit l.link.delivery_count l.link.credit f.delivery_count ≡ b →
         SessionMay s (if b then event.LinkFlowEnded handle f.next_outgoing_id else event.LinkFlowCame handle f.next_outgoing_id f.delivery_count)
     by_count true e = (tt, tt, (Live l, there, tt))
     by_count false e = (tt, tt, (l, there, e))

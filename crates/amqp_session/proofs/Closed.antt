@@ -10,7 +10,7 @@ use Rattle.amqp_link.specs.declared.settlement.Standing.{Standing}
 use Rattle.amqp_link.specs.declared.settlement.Standing.TheVariants.{Untaken, Told, Awaiting}
 use Rattle.amqp_link.specs.Histories.{one_if}
 use Rattle.amqp_link.specs.Laws.{id_count}
-use Rattle.amqp_link.specs.Links.{LinkState, Delivery, ReceiverSettled, has_id, is_first, is_covered, receiver_settles, told_by, link_after, open_set, untaken, standing_at, standing_of}
+use Rattle.amqp_link.specs.Links.{LinkState, Delivery, ReceiverSettled, has_id, is_first, is_covered, receiver_settles, marked_told, link_after, open_set, untaken, standing_at, standing_of}
 use Rattle.amqp_link.proofs.Hints.{no_true, count_append, count_cons as count_both}
 use Rattle.amqp_link.proofs.Ranges.{covers_itself}
 use Rattle.amqp_session.specs.declared.index.Kept.{Kept}
@@ -44,7 +44,7 @@ unfolding closes
 closes_is q id d = refl
 
 abbrev after : ℕ → List Delivery → List Delivery
-after id ds = map (told_by id id) (filter (λ d. not (receiver_settles id id d)) ds)
+after id ds = map (marked_told id id) (filter (λ d. not (receiver_settles id id d)) ds)
 
 -- what it closes and what is left
 settle_list : (q id : ℕ) (ds : List Delivery) → id < 2 ^ 32 → AreSmall ds → count_by (has_id q) (after id ds) + count_by (closes q id) ds ≡ count_by (has_id q) ds
@@ -72,12 +72,12 @@ settle_list q id (d ∷ ds) low small = by (receiver_settles id id d) refl (sett
     by : (b : Bool) → receiver_settles id id d ≡ b → count_by (has_id q) (after id ds) + count_by (closes q id) ds ≡ count_by (has_id q) ds →
         count_by (has_id q) (after id (d ∷ ds)) + count_by (closes q id) (d ∷ ds) ≡ count_by (has_id q) (d ∷ ds)
     by true f rest =
-        let left = ap (λ (b : Bool). count_by (has_id q) (map (told_by id id) (cond (not b) (d ∷ filter (λ x. not (receiver_settles id id x)) ds) (filter (λ x. not (receiver_settles id id x)) ds)))) f in
+        let left = ap (λ (b : Bool). count_by (has_id q) (map (marked_told id id) (cond (not b) (d ∷ filter (λ x. not (receiver_settles id id x)) ds) (filter (λ x. not (receiver_settles id id x)) ds)))) f in
         let gone = count_both (closes q id) d ds ∙ ap (λ (b : Bool). cond b 1 0 + count_by (closes q id) ds) (closed f) in
         omega (arith, rest, left, gone, count_both (has_id q) d ds)
     by false f rest =
-        let left = ap (λ (b : Bool). count_by (has_id q) (map (told_by id id) (cond (not b) (d ∷ filter (λ x. not (receiver_settles id id x)) ds) (filter (λ x. not (receiver_settles id id x)) ds)))) f in
-        let more = count_both (has_id q) (told_by id id d) (after id ds) in
+        let left = ap (λ (b : Bool). count_by (has_id q) (map (marked_told id id) (cond (not b) (d ∷ filter (λ x. not (receiver_settles id id x)) ds) (filter (λ x. not (receiver_settles id id x)) ds)))) f in
+        let more = count_both (has_id q) (marked_told id id d) (after id ds) in
         let none = count_both (closes q id) d ds ∙ ap (λ (b : Bool). cond b 1 0 + count_by (closes q id) ds) (kept f) in
         omega (arith, rest, left, more, none, count_both (has_id q) d ds)
 

@@ -5,7 +5,7 @@ use Rattle.std.specs.List.{list_any, count_by}
 use Rattle.std.proofs.lemmas.Bool.{and_right, or_parts, false_from_ne_true, true≢false}
 use Rattle.amqp_link.specs.declared.settlement.Standing.{Standing}
 use Rattle.amqp_link.specs.declared.settlement.Standing.TheVariants.{Absent, Untaken, Told, Awaiting}
-use Rattle.amqp_link.specs.Links.{Delivery, ReceiverSettled, has_id, is_covered, is_first, receiver_settles, tells, told_by}
+use Rattle.amqp_link.specs.Links.{Delivery, ReceiverSettled, has_id, is_covered, is_first, receiver_settles, tells, marked_told}
 use Rattle.amqp_session.specs.declared.slot.Slot.{Slot}
 use Rattle.amqp_session.specs.declared.slot.Slot.TheVariants.{Free, Live, Waits}
 use Rattle.amqp_session.specs.Calls.{slot_standing, or_later, standing_in}
@@ -50,16 +50,16 @@ or_none true = refl
 or_none false = refl
 
 -- none of these has the id
-kept : (id : ℕ) (ds : List Delivery) → id < 2 ^ 32 → AreSmall ds → count_by (has_id id) ds ≡ 0 → map (told_by id id) (filter (λ d. not (receiver_settles id id d)) ds) ≡ ds
+kept : (id : ℕ) (ds : List Delivery) → id < 2 ^ 32 → AreSmall ds → count_by (has_id id) ds ≡ 0 → map (marked_told id id) (filter (λ d. not (receiver_settles id id d)) ds) ≡ ds
 kept id [] short small none = refl
 kept id (d ∷ ds) short small none =
     let other = or_parts (has_id id d) (list_any (has_id id) ds) (none_has id (d ∷ ds) none) in
     let outside = false_from_ne_true (is_covered id id d) (λ covered. true≢false (sym (covered_id id d.delivery_id short (first_small d ds small) covered) ∙ other.0)) in
     let stays : receiver_settles id id d ≡ false = and_right (is_first d.rcv_settle_mode) (is_covered id id d) outside in
     let untold : tells id id d ≡ false = and_right (not (is_first d.rcv_settle_mode)) (is_covered id id d) outside in
-    let same : told_by id id d ≡ d = ap (λ (b : Bool). record d { told = d.told || b }) untold ∙ ap (λ (b : Bool). record d { told = b }) (or_none d.told) in
+    let same : marked_told id id d ≡ d = ap (λ (b : Bool). record d { told = d.told || b }) untold ∙ ap (λ (b : Bool). record d { told = b }) (or_none d.told) in
     let rest = kept id ds short (rest_small d ds small) (omega (arith, none, count_cons id d ds)) in
-    rw stays (ap (λ (e : Delivery). e ∷ map (told_by id id) (filter (λ d. not (receiver_settles id id d)) ds)) same ∙ ap (λ (es : List Delivery). d ∷ es) rest)
+    rw stays (ap (λ (e : Delivery). e ∷ map (marked_told id id) (filter (λ d. not (receiver_settles id id d)) ds)) same ∙ ap (λ (es : List Delivery). d ∷ es) rest)
 
 -- a place where no open delivery has the id, and all ids have 32 bits
 kept_slot : (id : ℕ) (s : Slot LiveLink) → id < 2 ^ 32 → ((n : ℕ) → 2 ^ 32 ≤ n → slot_count n s ≡ 0) → slot_count id s ≡ 0 → slot_called (ReceiverSettled id id) s ≡ s

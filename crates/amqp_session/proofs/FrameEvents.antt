@@ -1,7 +1,7 @@
 -- Which events frames are: those that use a place of the window, and those that state an id.
 use Rattle.std.proofs.Common.{arith, ◌≡◌, ℕ, Bool, true, false, refl, ap, ◌∙◌, Option, Some, None}
 use Rattle.std.specs.Prelude.{nat_eq, is_none, if◌then◌else◌}
-use Rattle.amqp_link.specs.Links.{Sent, is_beyond}
+use Rattle.amqp_link.specs.Links.{Sent, is_beyond_credit}
 use Rattle.amqp_session.specs.declared.fault.SessionFault.TheVariants as fault
 use Rattle.amqp_session.specs.declared.slot.Slot.{Slot}
 use Rattle.amqp_session.specs.declared.slot.Slot.TheVariants.{Free, Live, Waits}
@@ -54,7 +54,7 @@ module _ {A : Type 0} (p : SessionEvent → A) (x : A) where
       by_slot Free = each.ignored
       by_slot (Live l) =
           either p x (event.LinkFlowEnded handle f.next_outgoing_id) (event.LinkFlowCame handle f.next_outgoing_id f.delivery_count) (each.ended handle f.next_outgoing_id)
-          (each.of_link handle f.next_outgoing_id f.delivery_count) (is_beyond l.link.delivery_count l.link.credit f.delivery_count)
+          (each.of_link handle f.next_outgoing_id f.delivery_count) (is_beyond_credit l.link.delivery_count l.link.credit f.delivery_count)
       by_slot Waits = each.ignored
 
   -- and of that of any frame
@@ -93,7 +93,7 @@ pub link_flow_states : (s : SessionState) (f : Flowing) (handle : ℕ) (l : Live
 link_flow_states s f handle l named live =
     ap (λ (x : Option ℕ). stated_by (named_event s f x)) named ∙ ap (λ (x : Slot LiveLink). stated_by (flow_event handle f x)) live
     ∙ either stated_by (Some f.next_outgoing_id) (event.LinkFlowEnded handle f.next_outgoing_id) (event.LinkFlowCame handle f.next_outgoing_id f.delivery_count) refl refl
-    (is_beyond l.link.delivery_count l.link.credit f.delivery_count)
+    (is_beyond_credit l.link.delivery_count l.link.credit f.delivery_count)
 
 -- one for a link that waits says nothing
 pub late_flow_ignored : (s : SessionState) (f : Flowing) (handle : ℕ) → f.handle ≡ Some handle → slot_at s handle ≡ Waits → event_of s (Flows f) ≡ event.Ignored

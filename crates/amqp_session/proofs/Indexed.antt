@@ -5,7 +5,7 @@ use Rattle.std.specs.List.{count_by, list_any}
 use Rattle.std.proofs.lemmas.Bool.{eqb-true, and_parts}
 use Rattle.amqp_link.specs.Histories.{one_if}
 use Rattle.amqp_link.specs.Laws.{id_count}
-use Rattle.amqp_link.specs.Links.{LinkState, LinkEvent, Delivery, deliveries, has_id, link_after, first_ready, left_open, HandedUp, FlowStated, is_beyond, is_drained}
+use Rattle.amqp_link.specs.Links.{LinkState, LinkEvent, Delivery, deliveries, has_id, link_after, first_ready, left_open, HandedUp, FlowStated, is_beyond_credit, is_drained}
 use Rattle.amqp_session.specs.declared.index.Kept.{Kept}
 use Rattle.amqp_session.specs.declared.slot.Slot.{Slot}
 use Rattle.amqp_session.specs.declared.slot.Slot.TheVariants.{Free, Live, Waits}
@@ -375,7 +375,7 @@ flow_indexed entries entries' s new f told ended is tells end left was =
     by_slot : (h : ℕ) (x : Slot LiveLink) → new ≡ session_after s (flow_event h f x) → IsEnded s (flow_report h f x) ended →
         ((id : ℕ) → id < 2 ^ 32 → found entries' id ≡ told_of (flow_report h f x) ended id (found entries id)) → IsIndexed entries' new.links
     by_slot h Free is end same = unmoved event.Ignored refl is same
-    by_slot h (Live l) is end same = by_beyond h (length l.link.ready) (is_drained l.link f.delivery_count) (is_beyond l.link.delivery_count l.link.credit f.delivery_count) is end same
+    by_slot h (Live l) is end same = by_beyond h (length l.link.ready) (is_drained l.link f.delivery_count) (is_beyond_credit l.link.delivery_count l.link.credit f.delivery_count) is end same
     by_slot h Waits is end same = unmoved event.Ignored refl is same
 
     by_handle : (o : Option ℕ) → new ≡ session_after s (named_event s f o) → IsEnded s (named_report s f o) ended →

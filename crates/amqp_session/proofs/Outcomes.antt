@@ -11,7 +11,7 @@ use Rattle.amqp_link.specs.declared.settlement.Standing.{Standing}
 use Rattle.amqp_link.specs.declared.settlement.Standing.TheVariants.{Absent, Untaken, Told, Awaiting}
 use Rattle.amqp_link.specs.Histories as link
 use Rattle.amqp_link.specs.Laws.{id_count}
-use Rattle.amqp_link.specs.Links.{Delivery, LinkState, ReceiverSettled, link_after, open_set, untaken, has_id, covers, is_covered, is_first, receiver_settles, told_by, tells, standing_at}
+use Rattle.amqp_link.specs.Links.{Delivery, LinkState, ReceiverSettled, link_after, open_set, untaken, has_id, covers, is_covered, is_first, receiver_settles, marked_told, tells, standing_at}
 use Rattle.amqp_session.specs.declared.slot.Slot.{Slot}
 use Rattle.amqp_session.specs.declared.slot.Slot.TheVariants.{Free, Live, Waits}
 use Rattle.amqp_session.specs.Places.{AllGoOn, slot_map, places_from}
@@ -24,7 +24,7 @@ use Rattle.amqp_session.proofs.Standings.{count_cons, parts_count, none_has, abs
 
 -- the deliveries that were handed up, after a settle of the id
 abbrev left : ℕ → List Delivery → List Delivery
-left id ds = map (told_by id id) (filter (λ d. not (receiver_settles id id d)) ds)
+left id ds = map (marked_told id id) (filter (λ d. not (receiver_settles id id d)) ds)
 
 -- One delivery. --------------------------------------------------------------------------------------------------------------
 
@@ -53,7 +53,7 @@ left_count : (id : ℕ) (ds : List Delivery) → count_by (has_id id) (left id d
 left_count id [] = omega arith
 left_count id (d ∷ ds) = elim (cases_Bool (receiver_settles id id d)) [
   | inl e ↦ rw e (omega (arith, count_cons id d ds, left_count id ds))
-  | inr e ↦ rw e (omega (arith, count_cons id d ds, count_cons id (told_by id id d) (left id ds), left_count id ds))
+  | inr e ↦ rw e (omega (arith, count_cons id d ds, count_cons id (marked_told id id d) (left id ds), left_count id ds))
 ]
 
 -- the one in mode first is gone
@@ -71,7 +71,7 @@ left_none id l (d ∷ ds) few e = elim (cases_Bool (has_id id d)) [
       let none : link.one_if (has_id id d) ≡ 0 = ap link.one_if other in
       elim (cases_Bool (receiver_settles id id d)) [
         | inl e ↦ rw e rest
-        | inr e ↦ rw e (omega (arith, count_cons id (told_by id id d) (left id ds), none, rest))
+        | inr e ↦ rw e (omega (arith, count_cons id (marked_told id id d) (left id ds), none, rest))
       ]
       )
 ]
@@ -88,7 +88,7 @@ left_told id l (d ∷ ds) e = elim (cases_Bool (has_id id d)) [
       let second = not_from_false (is_first d.rcv_settle_mode) mode in
       let tells_it : tells id id d ≡ true = and_from (not (is_first d.rcv_settle_mode)) (is_covered id id d) second (covers_itself id d.delivery_id l here) in
       let stays : receiver_settles id id d ≡ false = and_left (is_first d.rcv_settle_mode) (is_covered id id d) mode in
-      rw (stays, here) (told_standing (told_by id id d) (or_right d.told (tells id id d) tells_it))
+      rw (stays, here) (told_standing (marked_told id id d) (or_right d.told (tells id id d) tells_it))
       )
   | inr other ↦ (
       let rest = left_told id l ds (found_later id d ds (Awaiting Second) other e) in

@@ -6,7 +6,7 @@ use Rattle.std.proofs.lemmas.Bool.{le-ltb}
 use Rattle.std.proofs.lemmas.List.{length-set}
 use Rattle.amqp_perform.specs.declared.condition.Condition.{Condition}
 use Rattle.amqp_perform.specs.Performatives.{is_receiver}
-use Rattle.amqp_link.specs.Links.{LinkState, FlowStated, SenderSettled, is_beyond}
+use Rattle.amqp_link.specs.Links.{LinkState, FlowStated, SenderSettled, is_beyond_credit}
 use Rattle.amqp_session.specs.declared.fault.SessionFault.TheVariants as fault
 use Rattle.amqp_session.specs.declared.report.Report.{Report}
 use Rattle.amqp_session.specs.declared.report.Report.TheVariants as told
@@ -115,7 +115,7 @@ module _ (terms : SessionTerms) (w n : ℕ) (slots : List (Slot LiveLink)) (s : 
     where
       by_slot : (x : Slot LiveLink) → x ≡ get_or slots h x → is_live x ≡ true → session_of terms w f.next_outgoing_id (slice_set slots h (slot_flowed f x)) ≡ session_after s (flow_event h f x)
       by_slot Free at live = absurd (grind (arith, live))
-      by_slot (Live l0) at live = by_test (is_beyond l0.link.delivery_count l0.link.credit f.delivery_count)
+      by_slot (Live l0) at live = by_test (is_beyond_credit l0.link.delivery_count l0.link.credit f.delivery_count)
         where
           by_test : (b : Bool) → session_of terms w f.next_outgoing_id (slice_set slots h (if b then Waits else Live (live_after l0 (FlowStated f.delivery_count)))) ≡ session_after s
               (if b then event.LinkFlowEnded h f.next_outgoing_id else event.LinkFlowCame h f.next_outgoing_id f.delivery_count)

@@ -7,7 +7,7 @@ use Rattle.amqp_link.specs.declared.transfer.LinkFault.{LinkFault}
 use Rattle.amqp_link.specs.declared.transfer.LinkFault.TheVariants as link_fault
 use Rattle.amqp_link.specs.declared.transfer.Step.{Step}
 use Rattle.amqp_link.specs.declared.transfer.Step.TheVariants as step
-use Rattle.amqp_link.specs.Links.{Sent, LinkState, fault_of, step_of, is_beyond, is_drained, newly_settled, open_set, may_grow}
+use Rattle.amqp_link.specs.Links.{Sent, LinkState, fault_of, step_of, is_beyond_credit, is_drained, newly_settled, open_set, may_grow}
 use Rattle.amqp_session.specs.declared.fault.SessionFault.{SessionFault}
 use Rattle.amqp_session.specs.declared.fault.SessionFault.TheVariants as fault
 use Rattle.amqp_session.specs.declared.report.Report.{Report}
@@ -113,7 +113,7 @@ transfer_event s handle t Waits = event.TransferDropped handle
 -- a delivery-count ahead by more than the credit ends the link: amqp:link:transfer-limit-exceeded [2.6.7]
 abbrev pub flow_event : ℕ → Flowing → Slot LiveLink → SessionEvent
 flow_event handle f Free = event.Ignored  -- a session fault
-flow_event handle f (Live l) = if is_beyond l.link.delivery_count l.link.credit f.delivery_count then event.LinkFlowEnded handle f.next_outgoing_id else event.LinkFlowCame handle f.next_outgoing_id
+flow_event handle f (Live l) = if is_beyond_credit l.link.delivery_count l.link.credit f.delivery_count then event.LinkFlowEnded handle f.next_outgoing_id else event.LinkFlowCame handle f.next_outgoing_id
     f.delivery_count
 flow_event handle f Waits = event.Ignored
 
@@ -160,7 +160,7 @@ transfer_report s handle t Waits = report.Nothing
 abbrev pub flow_report : ℕ → Flowing → Slot LiveLink → Report
 flow_report handle f Free = report.Nothing
 flow_report handle f (Live l) =
-    if is_beyond l.link.delivery_count l.link.credit f.delivery_count then report.Failed handle condition.TransferLimitExceeded (length l.link.ready)
+    if is_beyond_credit l.link.delivery_count l.link.credit f.delivery_count then report.Failed handle condition.TransferLimitExceeded (length l.link.ready)
     else (if is_drained l.link f.delivery_count then report.Drained handle else report.Nothing)
 flow_report handle f Waits = report.Nothing
 

@@ -2,7 +2,7 @@
 use Rattle.std.specs.Prelude.{◌≡◌, ℕ, zero, suc, ◌+◌, ◌<◌, ◌≤◌, Bool, true, false, if◌then◌else◌, List, [], ◌∷◌, length, Option, Some, None, unwrap_or, IsSomeAnd, slice_get}
 use Rattle.amqp_link.specs.declared.link.Taken.{Taken}
 use Rattle.amqp_link.specs.HandedUps.{IsHandedUp}
-use Rattle.amqp_link.specs.Links.{LinkState, LinkEvent, FlowStated, is_beyond, first_ready, open_count}
+use Rattle.amqp_link.specs.Links.{LinkState, LinkEvent, FlowStated, is_beyond_credit, first_ready, open_count}
 use Rattle.amqp_session.specs.declared.report.Report.{Report}
 use Rattle.amqp_session.specs.declared.slot.Slot.{Slot}
 use Rattle.amqp_session.specs.declared.slot.Slot.TheVariants.{Free, Live, Waits}
@@ -53,7 +53,7 @@ at_place slots place = unwrap_or (slice_get slots place) Free
 -- what a flow leaves there
 abbrev pub slot_flowed : Flowing → Slot LiveLink → Slot LiveLink
 slot_flowed f Free = Free
-slot_flowed f (Live l) = if is_beyond l.link.delivery_count l.link.credit f.delivery_count then Waits else Live (live_after l (FlowStated f.delivery_count))
+slot_flowed f (Live l) = if is_beyond_credit l.link.delivery_count l.link.credit f.delivery_count then Waits else Live (live_after l (FlowStated f.delivery_count))
 slot_flowed f Waits = Waits
 
 -- what is told of it: nothing where it is dropped

@@ -5,7 +5,7 @@
 //! [`Session::settle`], [`Session::settle_range`] and [`Session::detach`]. `specs/Sessions.antt` has the state and
 //! what each event does to it, `specs/Faults.antt` and `specs/Calls.antt` which event a frame and a call are, or why
 //! they are refused.
-//! The tests stand in `layer_rows`.
+//! The tests stand in `test_layer_rows`.
 #![tactic(auto)]
 
 mod done;

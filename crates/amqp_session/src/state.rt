@@ -16,7 +16,7 @@ ghost use Rattle.amqp_session.specs.Sessions.{SessionState, session_begins, sess
 ghost use Rattle.amqp_session.specs.Places.{live_in};
 ghost use Rattle.amqp_session.specs.Slots.{IsViewAt, is_live, at_place, padded, IsView, slot_flowed, stated_of, IsStated, IsFlowTold};
 ghost use Rattle.amqp_session.specs.Indexes.{IsOnceAt, IsEnded, IsEndedAt};
-ghost use Rattle.amqp_link.specs.Links.{FlowStated, open_count, is_drained, is_beyond};
+ghost use Rattle.amqp_link.specs.Links.{FlowStated, open_count, is_drained, is_beyond_credit};
 ghost use Rattle.amqp_session.specs.Lending.{LendsLink, LendsPlace};
 ghost use Rattle.amqp_session.specs.declared.slot.Slot.{Slot};
 
@@ -645,9 +645,9 @@ impl<A: Allocator + Copy> KeptLink<A> {
     /// up as it was asked to.
     fn sender_count(&mut self, stated: Option<u32>) -> Result<bool, LinkFault>
         ensures new { OnOk result (self.new ≡ live_after self.old (FlowStated stated)) }
-        ensures within { OnOk result (is_beyond self.old.link.delivery_count self.old.link.credit stated ≡ false) }
+        ensures within { OnOk result (is_beyond_credit self.old.link.delivery_count self.old.link.credit stated ≡ false) }
         ensures drained { IfOk result (λ drained. drained ≡ is_drained self.old.link stated) }
-        ensures beyond { OnErr result (is_beyond self.old.link.delivery_count self.old.link.credit stated ≡ true) }
+        ensures beyond { OnErr result (is_beyond_credit self.old.link.delivery_count self.old.link.credit stated ≡ true) }
         ensures err { OnErr result (self.new ≡ self.old) }
     {
         laws::absent_count_is_the_known_one();
@@ -656,7 +656,7 @@ impl<A: Allocator + Copy> KeptLink<A> {
     }
 
     /// Whether credit and open deliveries would be more than the link allows with `n` places of credit more.
-    fn lacks_room(&self, n: u32) -> bool
+    fn exceeds_allowed(&self, n: u32) -> bool
         ensures { result ≡ nat_lt self.now.link.terms.bounds.allowed (self.now.link.credit + open_count self.now.link + n) }
     {
         n > self.record.link.room()
@@ -840,7 +840,7 @@ fn grant_fault<A: Allocator + Copy>(slot: &Slot<KeptLink<A>>, n: u32) -> Option<
     ensures { result ≡ at_link slot.now (λ l. where_so (nat_lt l.terms.bounds.allowed (l.credit + open_count l + n)) CallFault.TooMuchCredit) }
 {
     match slot {
-        Slot::Live(kept) if kept.lacks_room(n) => Some(CallFault::TooMuchCredit),
+        Slot::Live(kept) if kept.exceeds_allowed(n) => Some(CallFault::TooMuchCredit),
         _ => link_fault(slot),
     }
 }

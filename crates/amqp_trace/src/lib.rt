@@ -7,7 +7,7 @@
 //! (`sentences`, by `words`, with the names of links that `links` keeps and the peer's own errors that `peer_error` reads), and the
 //! frames that answer it. A `line` lets nothing through but printable ASCII. `outlets` write the lines, with the connection's number and
 //! its age in milliseconds, which a [`Host`] says. There are no sockets here, and no clock.
-//! `specs/Lines.antt` has what a line is. The tests stand in `trace_rows`.
+//! `specs/Lines.antt` has what a line is. The tests stand in `test_trace_rows`.
 #![tactic(auto)]
 
 mod answers;

@@ -66,15 +66,15 @@ IsOutermost t text peek.Other = IsOther t
 IsOutermost t text scalar = IsScalarOf t scalar
 
 -- the case was found
-abbrev pub IsFound : Tree → List ℕ → Result Peek ReadFault → Type 0
-IsFound t text (Ok found) = IsOutermost t text found
-IsFound t text (Err fault) = ⊥
+abbrev pub IsCaseFound : Tree → List ℕ → Result Peek ReadFault → Type 0
+IsCaseFound t text (Ok found) = IsOutermost t text found
+IsCaseFound t text (Err fault) = ⊥
 
 -- the case was found of each value whose constructor stands in front of these bytes
 abbrev pub IsFoundBehind : Constructor → List ℕ → Result Peek ReadFault → Type 0
 IsFoundBehind c bytes result =
     (t : Tree) (code : ℕ) (data_ rest : List ℕ) → find_code code ≡ Some c → Spells t (code ∷ data_) → bytes ≡ data_ ++ rest
-    → IsFound t (code ∷ data_) result
+    → IsCaseFound t (code ∷ data_) result
 
 -- so many bytes at the front of a buffer are now the text, and the others are as they were
 abbrev pub IsPut : List ℕ → List ℕ → List ℕ → ℕ → Type 0

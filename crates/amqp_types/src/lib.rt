@@ -8,7 +8,7 @@
 //! spelling is, by cases on the value, and `specs/Misreading.antt` what is wrong where there is none;
 //! `specs/Canonical.antt` which one is written; `specs/Reading.antt` is the reading function, faults and all;
 //! `specs/Peeks.antt` says what the outermost cases are.
-//! The tests stand in `codec_rows`.
+//! The tests stand in `test_codec_rows`.
 #![tactic(auto)]
 
 mod block;

@@ -2,7 +2,7 @@
 
 ghost use Rattle.std.specs.Prelude.{◌≡◌, ℕ, ◌≤◌, List, ◌∷◌, ◌++◌, length};
 ghost use Rattle.amqp_types.specs.Codes.{FitsItsKind};
-ghost use Rattle.amqp_types.specs.Peeks.{BeginsWithValue, IsOutermost, IsFound, IsFoundBehind};
+ghost use Rattle.amqp_types.specs.Peeks.{BeginsWithValue, IsOutermost, IsCaseFound, IsFoundBehind};
 ghost use Rattle.amqp_types.specs.Spelling.{Spells};
 ghost use Rattle.amqp_types.specs.Trees.{Tree, Described};
 
@@ -64,7 +64,7 @@ fn list_case(w: Window, size: SizeWidth, bytes: &[u8]) -> Result<Peek<'_>, ReadF
 /// A descriptor and what it describes. Neither is deeper than it is long.
 fn described_case(bytes: &[u8]) -> Result<Peek<'_>, ReadFault>
     ensures { (d t : Tree) (first second rest : List ℕ) → Spells d first → Spells t second
-        → bytes.now ≡ first ++ (second ++ rest) → IsFound (Described d t) (0 ∷ (first ++ second)) result }
+        → bytes.now ≡ first ++ (second ++ rest) → IsCaseFound (Described d t) (0 ∷ (first ++ second)) result }
 {
     let (descriptor, rest) = bytes.split_at(skip(bytes, bytes.len())?);
     let len = skip(rest, rest.len())?;
@@ -89,7 +89,7 @@ fn item_case(constructor: Constructor, w: Window, bytes: &[u8]) -> Result<Peek<'
 /// The case of the value at the front.
 fn case_at(w: Window, bytes: &[u8]) -> Result<Peek<'_>, ReadFault>
     requires { length bytes.now ≤ w.end }
-    ensures { (t : Tree) (text rest : List ℕ) → Spells t text → bytes.now ≡ text ++ rest → IsFound t text result }
+    ensures { (t : Tree) (text rest : List ℕ) → Spells t text → bytes.now ≡ text ++ rest → IsCaseFound t text result }
 {
     let Some((code, rest)) = bytes.split_first() else {
         return Err(w.short);

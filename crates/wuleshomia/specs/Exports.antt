@@ -7,7 +7,7 @@ use Rattle.amqp_session.specs.declared.slot.Slot.TheVariants.{Free, Live, Waits}
 use Rattle.amqp_session.specs.declared.view.LinkView.{LinkView}
 use Rattle.amqp_session.specs.Calls.{Take}
 use Rattle.amqp_session.specs.Sessions.{LiveLink}
-use Rattle.amqp_endpoint.specs.Configs.{Configured, IsAsked, time_out}
+use Rattle.amqp_endpoint.specs.Configs.{Configured, MayBeConfigured, time_out}
 use Rattle.amqp_endpoint.specs.Limits.{Limit, IsTable, IsFault}
 use Rattle.amqp_endpoint.specs.Runs.{Call, InSession, Output, Answer, HandedUp, Refused, MovedOut, IsStart, Does}
 use Rattle.wuleshomia.specs.declared.codes.OpenFault.{OpenFault}
@@ -76,7 +76,7 @@ configured s name rows = record {
 -- the container-id is text, and each setting is within its range
 pub record AreSettings (s : Settings) (name : List ℕ) : Type 0 where
   pub text : IsUtf8 name
-  pub ranges : IsAsked name s.max_frame s.channel_max s.handle_max s.allowed s.max_message s.window
+  pub ranges : MayBeConfigured name s.max_frame s.channel_max s.handle_max s.allowed s.max_message s.window
 
 -- a new endpoint with these settings, and nothing else
 pub record IsNew (s : Settings) (name : List ℕ) (rows : List Limit) (held : Held) : Type 0 where

@@ -22,8 +22,8 @@ put-requires g c =
     let within : length (next_frame f m) ≤ most f = frame_within c.lengths_of_frames.ensures.lengths c.lengths_of_frames.ensures.null f m c.requires.least in
     subst (λ (x : List ℕ). length x ≤ 4096) (sym is) (omega (arith, within, most_is f c.requires.least))
 
-pub put_later-requires : goal.put_later-requires
-put_later-requires g c =
+pub put_continuation-requires : goal.put_continuation-requires
+put_continuation-requires g c =
     let f = c.args.flow in
     let m = c.args.message.now in
     let is =

@@ -1,0 +1,104 @@
+//! A connection as its own bytes alone give it.
+
+use crate::lists::Came;
+use crate::rows::RULE;
+use amqp_endpoint::{Config, End, Endpoint};
+use amqp_frame::{Device, Direct};
+use amqp_hub::TurnAnswer;
+use amqp_serve::{ServeFault, Server};
+use std::alloc::Global;
+use test_row_files::{Heap, Miss};
+
+/// The close of this side [2.7.9].
+const CLOSE: &[u8] = b"\x00\x00\x00\x0c\x02\x00\x00\x00\x00S\x18E";
+
+/// What the turns of a list say of a connection.
+#[derive(Drop)]
+pub struct Life {
+    /// The bytes that its peer sends, how many were taken, and how many of them were served.
+    stream: Vec<u8>,
+    taken: usize,
+    served: usize,
+    told: Vec<u8>,
+    recorded: Vec<u8>,
+    end: Option<End>,
+    closed: bool,
+}
+
+impl Life {
+    pub fn new(alloc: Global, stream: Vec<u8>) -> Life {
+        Life {
+            stream,
+            taken: 0,
+            served: 0,
+            told: Vec::new(alloc),
+            recorded: Vec::new(alloc),
+            end: None,
+            closed: false,
+        }
+    }
+
+    /// The bytes that are to come.
+    pub fn rest(&self) -> &[u8] {
+        self.stream.get(self.taken..).unwrap_or(&[])
+    }
+
+    /// Notes an answer, and says whether the connection is still there.
+    pub fn goes_on(&mut self, answer: TurnAnswer<Heap<'_>>, came: &mut Came) -> Result<bool, Miss> {
+        match answer {
+            TurnAnswer::Heard { stepped, noted, .. } => {
+                self.taken = self.taken.saturating_add(stepped.used);
+                match stepped.done {
+                    Ok(_) => self.served = self.taken,
+                    Err(ServeFault::NoMemory) => came.starved = came.starved.saturating_add(1),
+                    Err(_) => return Ok(false),
+                }
+                self.recorded.extend_from_slice(&noted)?;
+            }
+            TurnAnswer::Handed(bytes) => self.told.extend_from_slice(&bytes)?,
+            TurnAnswer::Ended(end) => self.end = Some(end),
+            TurnAnswer::Closed => self.closed = true,
+            _ => {}
+        }
+        Ok(true)
+    }
+
+    /// Why it is not what its own bytes give, if it isn't.
+    pub fn difference(&self, alloc: Global) -> Result<Option<&'static str>, Miss> {
+        let name = String::from_str(alloc, "r")?;
+        let config = Config::checked(name, 512, 0, 1, 4, 100, 100).ok_or("no settings")?;
+        let mut server = Server::new(Endpoint::new(alloc, config)?, RULE);
+        let mut writer = Device::new(Direct::new(Vec::new(alloc)));
+        let mut sink = Device::new(Vec::new(alloc));
+        let mut rest = self.stream.get(..self.served).ok_or("too few bytes")?;
+        for _ in 0..self.served {
+            if writer.failed() || sink.failed() {
+                return Err(Miss::NoMemory);
+            }
+            let stepped = server.step(rest, &mut writer, &mut sink);
+            if stepped.done.is_err() {
+                return Err(Miss::NoMemory);
+            }
+            rest = rest.get(stepped.used..).unwrap_or(&[]);
+            if rest.is_empty() {
+                break;
+            }
+        }
+        let mut told = writer.into_inner().into_inner();
+        if self.closed {
+            told.extend_from_slice(CLOSE)?;
+        }
+        let end = server.finish();
+        Ok(if !rest.is_empty() {
+            Some("more was taken")
+        } else if self.told != told {
+            Some("other bytes are told")
+        } else if self.recorded != sink.into_inner() {
+            Some("other records")
+        } else if self.end.is_some_and(|how| how != end) {
+            Some("another end")
+        } else {
+            None
+        })
+    }
+}

@@ -1,0 +1,131 @@
+//! Turns as rows.
+//!
+//! `open`, `hear KEY HEX`, `hand KEY ROOM`, `heartbeat KEY`, `finish KEY`, `close KEY`, `remove KEY`, `held` and `count` are turns of a
+//! hub of three connections at most. Shown is what was recorded of the last one.
+
+use amqp_endpoint::Config;
+use amqp_hub::{Hub, Turn, TurnAnswer};
+use amqp_perform::Outcome;
+use amqp_serve::Rule;
+use std::alloc::Global;
+use test_row_files::words::{bytes_of, hex_of, name_of, number};
+use test_row_files::{Heap, Miss, Subject};
+
+/// The rule of all connections: one place of credit for each link at a time.
+pub const RULE: Rule = Rule {
+    credit: 1,
+    mark: 0,
+    outcome: Outcome::Accepted,
+};
+
+/// How many connections there may be.
+pub const LIMIT: usize = 3;
+
+/// The settings of each: frames of 512 bytes, channel 0, the handles 0 and 1, four deliveries of 100 bytes for a link, and a window
+/// of 100 places.
+pub fn settings(heap: Heap<'_>) -> Result<Config<Heap<'_>>, Miss> {
+    let name = String::from_str(heap, "r")?;
+    Ok(Config::checked(name, 512, 0, 1, 4, 100, 100).ok_or("no settings")?)
+}
+
+/// A hub, and what was recorded by its last turn.
+#[derive(Drop)]
+pub struct Rows<'a> {
+    heap: Heap<'a>,
+    hub: Hub<Heap<'a>>,
+    recorded: Option<Vec<u8>>,
+}
+
+impl<'a> Rows<'a> {
+    pub fn new(heap: Heap<'a>) -> Rows<'a> {
+        Rows {
+            heap,
+            hub: Hub::new(heap, LIMIT),
+            recorded: None,
+        }
+    }
+
+    /// Makes a turn, and answers it as it stands in a row.
+    fn make(&mut self, alloc: Global, turn: &Turn<'_>) -> Result<String, Miss> {
+        let answer = made(&mut self.hub, self.heap, turn)?;
+        let text = text_of(alloc, &answer)?;
+        if let TurnAnswer::Heard { noted, .. } = &answer {
+            let mut recorded = Vec::new(alloc);
+            recorded.extend_from_slice(noted)?;
+            self.recorded = Some(recorded);
+        }
+        Ok(text)
+    }
+}
+
+/// Makes a turn of a hub.
+fn made<'a>(
+    hub: &mut Hub<Heap<'a>>,
+    heap: Heap<'a>,
+    turn: &Turn<'_>,
+) -> Result<TurnAnswer<Heap<'a>>, Miss> {
+    let config = settings(heap)?;
+    Ok(hub.make(&config, RULE, turn))
+}
+
+impl Subject for Rows<'_> {
+    fn begin(&mut self) {
+        *self = Rows::new(self.heap);
+    }
+
+    fn call(&mut self, alloc: Global, words: &str) -> Result<String, Miss> {
+        let (name, rest) = name_of(words);
+        let (key, rest) = name_of(rest);
+        let key = match key {
+            "" => 0,
+            word => number(word)? as usize,
+        };
+        match name {
+            "open" => self.make(alloc, &Turn::Open),
+            "hear" => {
+                let piece = bytes_of(alloc, rest)?;
+                self.make(alloc, &Turn::Hear { key, piece: &piece })
+            }
+            "hand" => {
+                let room = number(rest)? as usize;
+                self.make(alloc, &Turn::Hand { key, room })
+            }
+            "heartbeat" => self.make(alloc, &Turn::Heartbeat { key }),
+            "finish" => self.make(alloc, &Turn::Finish { key }),
+            "close" => self.make(alloc, &Turn::Close { key }),
+            "remove" => self.make(alloc, &Turn::Remove { key }),
+            "held" => self.make(alloc, &Turn::Held),
+            "count" => self.make(alloc, &Turn::Count),
+            _ => Err(Miss::Unread("no such turn")),
+        }
+    }
+
+    fn shown(&self, alloc: Global) -> Result<String, Miss> {
+        let recorded = match &self.recorded {
+            Some(recorded) => hex_of(alloc, recorded)?,
+            None => String::new(alloc),
+        };
+        Ok(format!(in alloc; "recorded={recorded}")?)
+    }
+}
+
+/// An answer as it stands in a row.
+pub fn text_of(alloc: Global, answer: &TurnAnswer<Heap<'_>>) -> Result<String, Miss> {
+    Ok(match answer {
+        TurnAnswer::Opened(key) => format!(in alloc; "Ok({key})")?,
+        TurnAnswer::Heard { stepped, .. } => format!(in alloc; "Ok({})", stepped.used)?,
+        TurnAnswer::Handed(bytes) => {
+            let bytes = hex_of(alloc, bytes)?;
+            format!(in alloc; "Ok({bytes})")?
+        }
+        TurnAnswer::Beat(frame) => {
+            let frame = hex_of(alloc, frame)?;
+            format!(in alloc; "Ok({frame})")?
+        }
+        TurnAnswer::Ended(end) => format!(in alloc; "Ok({end:?})")?,
+        TurnAnswer::Closed | TurnAnswer::Removed => String::from_str(alloc, "Ok(())")?,
+        TurnAnswer::Holds(held) => format!(in alloc; "{held}")?,
+        TurnAnswer::Counts(count) => format!(in alloc; "{count}")?,
+        TurnAnswer::Refused(fault) => format!(in alloc; "Err({fault:?})")?,
+    })
+}
