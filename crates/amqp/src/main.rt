@@ -1,4 +1,4 @@
-//! The program `amqp`, whose commands are those of `amqp_commands`.
+//! The program `amqp`. Its commands are in `amqp_commands`; begin reading at `amqp_commands::run`.
 #![tactic(auto)]
 
 use std::process::ExitCode;

@@ -4,13 +4,13 @@ use amqp_records::Output;
 use clap::{Arg, ArgAction, ArgMatches, Command, value_parser};
 use std::alloc::{AllocError, Global};
 
-/// What `amqp --version` names.
+/// The version that `amqp --version` prints.
 const VERSION: &str = "0.1.0";
 
 /// What a command line asks for.
 #[derive(Clone, Copy, Debug, PartialEq, Eq)]
 pub enum Order<'a> {
-    /// To print the frames of this file, or of standard input where it is `-`.
+    /// To print the frames of this file, or of standard input if it is `-`.
     Dump {
         file: &'a str,
     },
@@ -32,12 +32,12 @@ pub enum Order<'a> {
         settings: GatewaySettings,
         files: GatewayFiles<'a>,
     },
-    /// To print the records of this file, or of standard input where it is `-`.
+    /// To print the records of this file, or of standard input if it is `-`.
     Records {
         file: &'a str,
         output: Output,
         max_message: u32,
-        /// Whether they stand in blocks.
+        /// Whether the records are in blocks.
         blocks: bool,
     },
     /// To send this file as one message to the listener at this address.
@@ -47,12 +47,12 @@ pub enum Order<'a> {
     },
 }
 
-/// The files that are told of what is served, if there are any; `-` is standard error.
+/// The files to which lines about what is served go, if there are any; `-` is standard error.
 #[derive(Clone, Copy, Debug, PartialEq, Eq)]
 pub struct ToldTo<'a> {
-    /// Of the frames, and what they came to.
+    /// Lines about frames, and what they resulted in.
     pub trace: Option<&'a str>,
-    /// Of sessions, links and messages alone.
+    /// Lines about sessions, links and messages alone.
     pub events: Option<&'a str>,
 }
 
@@ -60,7 +60,7 @@ pub struct ToldTo<'a> {
 #[derive(Clone, Copy, Debug, PartialEq, Eq)]
 pub struct RecvSettings {
     pub connections: u32,
-    /// In seconds; 0 is without end.
+    /// In seconds; 0 means without end.
     pub idle: u32,
     pub max_frame: u32,
     pub allowed: u32,
@@ -72,7 +72,7 @@ pub struct RecvSettings {
 #[derive(Clone, Copy, Debug, PartialEq, Eq)]
 pub struct GatewaySettings {
     pub open: u32,
-    /// 0 is without end.
+    /// 0 means without end.
     pub connections: u32,
     pub idle: u32,
     pub slow: u32,
@@ -93,11 +93,11 @@ pub struct GatewayFiles<'a> {
     pub records: Option<&'a str>,
     /// The limits for links.
     pub limits: Option<&'a str>,
-    /// What is counted.
+    /// Where the counts go.
     pub metrics: Option<&'a str>,
 }
 
-/// An option that takes a number between these two.
+/// Makes an option that takes a number between these two.
 fn number<'a>(alloc: Global, name: &'a str, least: i64, most: i64, default: &'a str) -> Arg<'a> {
     Arg::new(alloc, name)
         .long(name)
@@ -106,7 +106,7 @@ fn number<'a>(alloc: Global, name: &'a str, least: i64, most: i64, default: &'a 
         .default_value(default)
 }
 
-/// The command that serves connections.
+/// Makes the command that serves connections.
 fn recv_line<'a>(alloc: Global) -> Result<Command<'a>, AllocError> {
     let address = Arg::new(alloc, "ADDR")
         .long("listen")
@@ -126,7 +126,7 @@ fn recv_line<'a>(alloc: Global) -> Result<Command<'a>, AllocError> {
     with_told(alloc, with_bounds(alloc, recv)?)
 }
 
-/// The same command, with the files that are told of what is served.
+/// Adds the files to which lines about what is served go.
 fn with_told<'a>(alloc: Global, recv: Command<'a>) -> Result<Command<'a>, AllocError> {
     let trace = Arg::new(alloc, "trace")
         .long("trace")
@@ -139,7 +139,7 @@ fn with_told<'a>(alloc: Global, recv: Command<'a>) -> Result<Command<'a>, AllocE
     recv.arg(trace)?.arg(events)
 }
 
-/// The same command, with the limits of what its peers may send.
+/// Adds the limits of what its peers may send.
 fn with_bounds<'a>(alloc: Global, recv: Command<'a>) -> Result<Command<'a>, AllocError> {
     let max_frame = number(alloc, "max-frame", 512, 1048576, "65536").help(
         "The longest frame that is accepted, in bytes",
@@ -166,7 +166,7 @@ fn with_bounds<'a>(alloc: Global, recv: Command<'a>) -> Result<Command<'a>, Allo
         .arg(limits)
 }
 
-/// The command that serves many peers at a time.
+/// Makes the command that serves many peers at a time.
 fn gateway_line<'a>(alloc: Global) -> Result<Command<'a>, AllocError> {
     let address = Arg::new(alloc, "ADDR")
         .long("listen")
@@ -191,7 +191,7 @@ fn gateway_line<'a>(alloc: Global) -> Result<Command<'a>, AllocError> {
     with_gateway_bounds(alloc, with_files(alloc, with_times(alloc, gateway)?)?)
 }
 
-/// The same command, with its time-outs.
+/// Adds the time-outs.
 fn with_times<'a>(alloc: Global, gateway: Command<'a>) -> Result<Command<'a>, AllocError> {
     let idle = number(alloc, "idle", 1, 86400, "60").help(
         "A peer that says nothing for so many seconds is closed",
@@ -208,7 +208,7 @@ fn with_times<'a>(alloc: Global, gateway: Command<'a>) -> Result<Command<'a>, Al
     gateway.arg(idle)?.arg(slow)?.arg(grace)?.arg(every)
 }
 
-/// The same command, with its files.
+/// Adds the files.
 fn with_files<'a>(alloc: Global, gateway: Command<'a>) -> Result<Command<'a>, AllocError> {
     let records = Arg::new(alloc, "records")
         .long("records")
@@ -226,7 +226,7 @@ fn with_files<'a>(alloc: Global, gateway: Command<'a>) -> Result<Command<'a>, Al
     gateway.arg(records)?.arg(sync)?.arg(metrics)
 }
 
-/// The same command, with the limits of what its peers may send.
+/// Adds the limits of what its peers may send.
 fn with_gateway_bounds<'a>(alloc: Global, gateway: Command<'a>) -> Result<Command<'a>, AllocError> {
     let max_frame = number(alloc, "max-frame", 512, 1048576, "16384").help(
         "The longest frame that is accepted, in bytes",
@@ -254,7 +254,7 @@ fn with_gateway_bounds<'a>(alloc: Global, gateway: Command<'a>) -> Result<Comman
         .arg(limits)
 }
 
-/// The settings of a command line that was read as one of [`gateway_line`].
+/// Returns the settings of a command line that was read as one of [`gateway_line`].
 fn gateway_settings(gateway: &ArgMatches<'_>) -> Option<GatewaySettings> {
     Some(GatewaySettings {
         open: gateway.get_one("open")?,
@@ -272,7 +272,7 @@ fn gateway_settings(gateway: &ArgMatches<'_>) -> Option<GatewaySettings> {
     })
 }
 
-/// The files of a command line that was read as one [`with_told`].
+/// Returns the files of a command line that was read as one [`with_told`].
 fn told_to<'a>(line: &ArgMatches<'a>) -> ToldTo<'a> {
     ToldTo {
         trace: line.get_str("trace"),
@@ -280,7 +280,7 @@ fn told_to<'a>(line: &ArgMatches<'a>) -> ToldTo<'a> {
     }
 }
 
-/// The settings of a command line that was read as one of [`recv_line`].
+/// Returns the settings of a command line that was read as one of [`recv_line`].
 fn recv_settings(recv: &ArgMatches<'_>) -> Option<RecvSettings> {
     Some(RecvSettings {
         connections: recv.get_one("connections")?,
@@ -292,7 +292,7 @@ fn recv_settings(recv: &ArgMatches<'_>) -> Option<RecvSettings> {
     })
 }
 
-/// The command that prints records.
+/// Makes the command that prints records.
 fn records_line<'a>(alloc: Global) -> Result<Command<'a>, AllocError> {
     let file = Arg::new(alloc, "FILE")
         .required(true)
@@ -323,7 +323,7 @@ fn records_line<'a>(alloc: Global) -> Result<Command<'a>, AllocError> {
         .arg(max_message)
 }
 
-/// The output that a command line asks for that was read as one of [`records_line`].
+/// Returns the output that a command line asks for. It was read as one of [`records_line`].
 fn records_output(records: &ArgMatches<'_>) -> Output {
     match records.get_one("only") {
         Some(number) => Output::Only(number),
@@ -332,7 +332,7 @@ fn records_output(records: &ArgMatches<'_>) -> Output {
     }
 }
 
-/// The command that runs a script.
+/// Makes the command that runs a script.
 fn replay_line<'a>(alloc: Global) -> Result<Command<'a>, AllocError> {
     let script = Arg::new(alloc, "SCRIPT")
         .required(true)
@@ -342,7 +342,7 @@ fn replay_line<'a>(alloc: Global) -> Result<Command<'a>, AllocError> {
         .arg(script)
 }
 
-/// The command that sends a file.
+/// Makes the command that sends a file.
 fn send_line<'a>(alloc: Global) -> Result<Command<'a>, AllocError> {
     let message = Arg::new(alloc, "FILE").required(true).help("The message");
     let address = Arg::new(alloc, "ADDR")
@@ -355,7 +355,7 @@ fn send_line<'a>(alloc: Global) -> Result<Command<'a>, AllocError> {
         .arg(message)
 }
 
-/// The command line that `amqp` takes.
+/// Returns the command line that `amqp` takes, or `AllocError` if memory is refused.
 pub fn command_line<'a>(alloc: Global) -> Result<Command<'a>, AllocError> {
     let file = Arg::new(alloc, "FILE").required(true).help(
         "The bytes of one direction of a connection; - is standard input",
@@ -376,7 +376,8 @@ pub fn command_line<'a>(alloc: Global) -> Result<Command<'a>, AllocError> {
         .subcommand(send_line(alloc)?)
 }
 
-/// What a command line asks for that was read as one of [`command_line`]. None where it names no command.
+/// Returns what a command line asks for, or `None` if it names no command. It was read as one of
+/// [`command_line`].
 pub fn order_of<'a>(matches: &ArgMatches<'a>) -> Option<Order<'a>> {
     if let Some(send) = matches.subcommand_matches("send") {
         let address = send.get_str("ADDR")?;

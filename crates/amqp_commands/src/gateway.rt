@@ -12,13 +12,14 @@ use std::net::{Net, ToSocketAddrs};
 use std::rt::Files;
 use std::time::{Clock, Instant};
 
-/// A turn waits for no longer, in milliseconds.
+/// How long a turn waits at most, in milliseconds.
 const WAIT: u64 = 250;
 
-/// How much of standard input is read at once.
+/// How many bytes of standard input are read at once.
 const INPUT: usize = 4096;
 
-/// A listener that does not block, at the first of the addresses of a name, as `recv` reads it, where one can be had.
+/// Makes a listener that does not block, at the first address of a name at which one can be had. The name is read
+/// as `recv` reads it.
 pub fn listen<R: Net>(rt: &R, address: &str) -> io::Result<TcpListener> {
     let mut refused = io::Error::from(ErrorKind::InvalidInput);
     for address in address.to_socket_addrs(rt)? {
@@ -36,13 +37,14 @@ pub struct Plan<'a> {
     pub listener: TcpListener,
     pub config: Config,
     pub settings: GatewaySettings,
-    /// What a link keeps at most.
+    /// How many bytes a link keeps at most.
     pub link: u64,
     /// The file of metrics, if there is one.
     pub metrics: Option<&'a str>,
 }
 
-/// Serves peers by a plan, with the records to a sink, until it has ended. The watcher is told of what passes.
+/// Serves peers by a plan, with the records to a sink, until it has ended. The watcher gets a report of what
+/// passes.
 pub fn serve_to<R, S, W>(rt: &R, plan: Plan<'_>, sink: S, watcher: W) -> Result<(), GatewayFault>
 where
     R: Eprint + Input + Files + Net + Clock + AllocGlobal,
@@ -114,7 +116,7 @@ where
     Ok(())
 }
 
-/// How the peers end that are left at a fault.
+/// Returns how the peers end that are left at a fault.
 fn ending_by(fault: GatewayFault) -> Ending {
     match fault {
         GatewayFault::Sink => Ending::Sink,
@@ -123,7 +125,7 @@ fn ending_by(fault: GatewayFault) -> Ending {
     }
 }
 
-/// When the file of metrics is due, and what is told there besides what the gateway counts.
+/// When the file of metrics is due, and what it has besides what the gateway counts.
 #[derive(Clone, Copy)]
 struct Watched<'a> {
     every: u64,
@@ -134,7 +136,7 @@ struct Watched<'a> {
 }
 
 impl Watched<'_> {
-    /// Writes the file, if there is one, at this moment. The longest turn begins anew.
+    /// Writes the file, if there is one, at this moment. The longest turn is counted anew.
     fn tell<R, S, W>(&mut self, rt: &R, now: u64, gateway: &Gateway<S, W>)
     where
         R: Eprint + Files + AllocGlobal,
@@ -154,7 +156,7 @@ impl Watched<'_> {
     }
 }
 
-/// Writes what is told to the file of metrics, if there is one.
+/// Writes these metrics to the file, if there is one.
 fn tell<R: Eprint + Files + AllocGlobal>(rt: &R, path: Option<&str>, told: &Metrics) {
     if let Some(path) = path {
         if told.write(rt, rt.alloc(), path).is_err() {
@@ -163,7 +165,7 @@ fn tell<R: Eprint + Files + AllocGlobal>(rt: &R, path: Option<&str>, told: &Metr
     }
 }
 
-/// The settings of the loop.
+/// Returns the settings of the loop.
 fn times(settings: &GatewaySettings) -> Settings {
     Settings {
         peers: settings.open as usize,
@@ -175,7 +177,7 @@ fn times(settings: &GatewaySettings) -> Settings {
     }
 }
 
-/// What a link of any name keeps at most by these settings, which have this table of limits.
+/// Returns how many bytes a link of any name keeps at most by these settings, which have this table of limits.
 pub fn most_of_links(config: &Config, table: &str) -> u64 {
     let mut most = link_most(config.bounds());
     for row in table.split('\n') {
@@ -186,7 +188,7 @@ pub fn most_of_links(config: &Config, table: &str) -> u64 {
     most
 }
 
-/// Whether standard input has ended. It waits where that has nothing to tell.
+/// Returns whether standard input has ended. It may wait if that has nothing to read.
 fn has_ended<R: Input>(rt: &R) -> bool {
     let mut room = [0; INPUT];
     match rt.reader().read(&mut room) {
@@ -196,7 +198,7 @@ fn has_ended<R: Input>(rt: &R) -> bool {
     }
 }
 
-/// A clock in milliseconds since it was made. Where the system's fails it stands still.
+/// A clock in milliseconds since it was made. If the system's clock fails, it stands still.
 #[derive(Drop)]
 struct Watch {
     began: Option<Instant>,

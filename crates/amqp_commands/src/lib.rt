@@ -1,8 +1,10 @@
-//! What the program `amqp` does: `command` reads the command line, `run` does what it asks for: `dump` by `amqp_dump`, `records` by
-//! `amqp_records`, `replay` by `amqp_script`, `recv` by `amqp_serve` over sockets (`recv`), told by `amqp_trace` (`told`), `gateway` by
-//! `amqp_gateway` (`gateway`), with its records in a file (`store`) and what it counts (`metrics`), `send` by `amqp_send` (`send_file`,
-//! `send`).
-//! The tests stand in `test_amqp`.
+//! What the program `amqp` does.
+//!
+//! Begin reading at [`run`], which does what the command line asks for; `command` reads that. `dump` is done by
+//! `amqp_dump`, `records` by `amqp_records`, and `replay` by `amqp_script`. `recv` is done by `amqp_serve` over
+//! sockets (`recv`), and `amqp_trace` shows what passes (`told`). `gateway` is done by `amqp_gateway` (`gateway`),
+//! with its records in a file (`store`) and its counts in another (`metrics`). `send` is done by `amqp_send`
+//! (`send_file`, `send`). The tests are in `test_amqp`.
 #![tactic(auto)]
 
 mod command;

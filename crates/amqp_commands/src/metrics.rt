@@ -6,21 +6,21 @@ use std::fs;
 use std::io::{self, Write};
 use std::rt::Files;
 
-/// What is told.
+/// What the file of metrics has.
 #[derive(Clone, Copy, Debug)]
 pub struct Metrics {
     pub counts: Counts,
     /// How many peers there are.
     pub open: u64,
-    /// The bytes that they hold, and those that they may.
+    /// How many bytes they hold, and how many they may.
     pub held: u64,
     pub bound: u64,
-    /// The longest turn since they were told last, in milliseconds.
+    /// The longest turn since the file was written last, in milliseconds.
     pub longest: u64,
 }
 
 impl Metrics {
-    /// Their text.
+    /// Returns their text.
     pub fn text(&self, alloc: Global) -> Result<String, AllocError> {
         let mut text = String::new(alloc);
         put(
@@ -95,7 +95,8 @@ impl Metrics {
         Ok(text)
     }
 
-    /// Writes them beside a file, and puts that in its place, so that who reads it finds all or those before.
+    /// Writes them to a new file beside this one and puts that in its place, so that a reader finds all of
+    /// them or all those before.
     pub fn write<R: Files>(&self, rt: &R, alloc: Global, path: &str) -> io::Result<()> {
         let text = self.text(alloc)?;
         let beside = format!(in alloc; "{path}.new")?;
@@ -106,7 +107,7 @@ impl Metrics {
     }
 }
 
-/// Puts what a number is.
+/// Puts a number's name, kind and help.
 fn put_head(text: &mut String, name: &str, kind: &str, help: &str) -> Result<(), AllocError> {
     text.push_str("# HELP amqp_gateway_")?;
     text.push_str(name)?;

@@ -13,8 +13,8 @@ use std::io::{self, BufReader, BufWriter, ErrorKind, Read, Write};
 use std::net::{OpenListener, OpenStream, SocketAddr};
 use std::time::Duration;
 
-/// How many bytes are read from a socket at once, but for the rest of a longer frame, and how many are written to one, or of
-/// records to standard output.
+/// How many bytes are read from a socket at once, except the rest of a longer frame. As many are written at once
+/// to a socket, or of records to standard output.
 pub const BUFFER: usize = 65_536;
 
 /// How a connection was served.
@@ -26,7 +26,7 @@ enum Ending {
     Failed,
     /// The input ended between two frames.
     Between,
-    /// It ended within one.
+    /// The input ended inside a frame.
     Inside,
     /// It could not be accepted, or not be read.
     Read,
@@ -56,7 +56,7 @@ impl Display for Ending {
     }
 }
 
-/// How a connection was served, by the answer of `serve`, and whether its socket was waited for in vain.
+/// Returns how a connection was served, by the answer of `serve` and whether its socket was waited for in vain.
 fn ending_of(served: Result<End, ServeFault>, is_idle: bool) -> Ending
     ensures { (result ≡ Ending.Sink) ↔ (served ≡ Err ServeFault.Sink) }
 {
@@ -73,10 +73,11 @@ fn ending_of(served: Result<End, ServeFault>, is_idle: bool) -> Ending
     }
 }
 
-/// Accepts so many connections, one after the other, and serves each by an endpoint of its own that is set up with
-/// `config`. The records of messages go to `sink`, and a line for each connection to `log`, whose failures are passed over:
-/// `connection K: ` and how it was served. A peer whose socket gives or takes nothing for `idle` is left, if that is said. What passes is
-/// told to a trace, if there is one. Behind a failure of the sink no more is accepted. True where each of them was closed by its peer.
+/// Accepts `connections` connections, one after the other, and serves each by a new endpoint with the settings
+/// `config`. The records of messages go to `sink`. A line for each connection goes to `log`, whose failures are
+/// ignored: `connection K: ` and how it was served. If `idle` is given, a peer is left when its socket gives or
+/// takes nothing for that long. What passes is reported to a trace, if there is one. After a failure of the sink
+/// no more is accepted. Returns whether each connection was closed by its peer.
 pub fn recv_on<L: OpenListener, S: Write + Drop, W: Write + Drop, H: Host + Drop>(
     alloc: Global,
     listener: &L,
@@ -118,7 +119,7 @@ where
     all_closed
 }
 
-/// For how long the socket of a peer is waited for, if not for ever, and whether one was waited for in vain.
+/// How long the socket of a peer is waited for, if not for ever, and whether one was waited for in vain.
 #[derive(Drop)]
 struct Patience {
     limit: Option<Duration>,
@@ -137,7 +138,7 @@ impl Patience {
         self.is_over.get()
     }
 
-    /// Notes an answer of the socket.
+    /// Notes a result of the socket.
     fn note(&self, answer: &io::Result<usize>) {
         if let Err(error) = answer {
             let is_late = matches!(error.kind(), ErrorKind::WouldBlock | ErrorKind::TimedOut);
@@ -146,7 +147,7 @@ impl Patience {
     }
 }
 
-/// The socket of a peer, which is waited for with patience.
+/// The socket of a peer, which is waited for as long as the patience says.
 #[derive(Drop)]
 struct Awaited<'p, C: Drop> {
     stream: C,
@@ -219,13 +220,13 @@ where
     Ok((accepted, peer))
 }
 
-/// Has the socket wait for no longer.
+/// Lets the socket wait at most this long.
 fn limit_waits<C: OpenStream>(stream: &C, limit: Option<Duration>) -> io::Result<()> {
     stream.set_read_timeout(limit)?;
     stream.set_write_timeout(limit)
 }
 
-/// Accepts a connection, and serves it. A trace hears of what passes, if there is one.
+/// Accepts a connection, and serves it. What passes is reported to a trace, if there is one.
 fn serve_next<L: OpenListener, S: Write + Drop, W: Write + Drop, H: Host + Drop>(
     alloc: Global,
     listener: &L,

@@ -43,7 +43,7 @@ enum Fault {
     NoMemory,
     #[error(transparent)]
     Dump(DumpFault),
-    /// There is no record of the number that is asked for.
+    /// There is no record of the number that was requested.
     #[error("Absent")]
     Absent,
     #[error(transparent)]
@@ -66,8 +66,8 @@ impl From<AllocError> for Fault {
     }
 }
 
-/// Runs the program. The exit status is 0 for success, 1 for a fault and 2 for a command line that asks for
-/// no command; what went wrong stands on standard error, but for the fault in a dumped stream.
+/// Runs the program. The exit status is 0 for success, 1 for a fault, and 2 for a command line that asks for no
+/// command. What went wrong is on standard error, except the fault in a dumped stream.
 pub fn run<R: Print + Eprint + Input + Env + Files + Net + Clock + AllocGlobal>(rt: &R) -> ExitCode
 where
     R::File: Exclusive,
@@ -127,12 +127,12 @@ where
     }
 }
 
-/// The words of the command line.
+/// Returns the words of the command line.
 fn words<R: Env + AllocGlobal>(rt: &R) -> io::Result<Vec<String>> {
     Ok(env::args(rt)?.collect(rt.alloc())?)
 }
 
-/// Says that the words of the command line could not be had.
+/// Reports that the words of the command line could not be had.
 fn refuse_words(rt: &impl Eprint, error: &io::Error) -> Result<ExitCode, Fault> {
     if error.kind() == io::ErrorKind::OutOfMemory {
         return Err(Fault::NoMemory);
@@ -199,7 +199,8 @@ fn records_file<R: Print + Input + Files + AllocGlobal>(
     }
 }
 
-/// Prints the records that a reader gives to standard output, as they come. What was printed goes out whatever the end is.
+/// Prints the records that a reader gives to standard output, as they come. What was printed goes out, however it
+/// ends.
 fn records_from<R: Print + AllocGlobal, I: Read + Drop>(
     rt: &R,
     input: I,
@@ -226,7 +227,7 @@ fn records_from<R: Print + AllocGlobal, I: Read + Drop>(
     }
 }
 
-/// How many records were printed.
+/// Returns how many records were printed.
 fn records_printed(printed: Result<u64, RecordsFault>) -> Result<u64, Fault> {
     match printed {
         Ok(count) => Ok(count),
@@ -234,7 +235,7 @@ fn records_printed(printed: Result<u64, RecordsFault>) -> Result<u64, Fault> {
     }
 }
 
-/// How many records of blocks were printed.
+/// Returns how many records of blocks were printed.
 fn blocks_printed(printed: Result<u64, BlocksFault>) -> Result<u64, Fault> {
     match printed {
         Ok(count) => Ok(count),
@@ -242,7 +243,8 @@ fn blocks_printed(printed: Result<u64, BlocksFault>) -> Result<u64, Fault> {
     }
 }
 
-/// Runs a script, with its answers on standard output. They go out many at a time, and all of them at the end, whatever it is.
+/// Runs a script, with its answers on standard output. They go out many at a time, and all of them at the end,
+/// however it ends.
 fn replay_file<R: Print + Files + AllocGlobal>(rt: &R, path: &str) -> Result<ExitCode, Fault> {
     let file = match fs::open(rt, path) {
         Ok(file) => file,
@@ -326,7 +328,7 @@ fn recv<R: Print + Eprint + Files + Net + Clock + AllocGlobal>(
     })
 }
 
-/// So many seconds; none where that is 0.
+/// Returns this many seconds, or `None` for 0.
 fn seconds(count: u32) -> Option<Duration> {
     if count > 0 {
         Some(Duration::from_secs(u64::from(count)))
@@ -338,8 +340,8 @@ fn seconds(count: u32) -> Option<Duration> {
 /// The highest channel and handle that a gateway offers: two sessions of two links each.
 const GATEWAY_MOST: u32 = 1;
 
-/// Serves many peers at a time, with the records in blocks on standard output or behind those of a file. The file is gone through
-/// once it is listened, so that a second program at one address touches nothing.
+/// Serves many peers at a time, with the records in blocks on standard output or at the end of a file. The file is
+/// checked after the listener is had, so that a second program at the same address touches nothing.
 fn serve_many<R: Print + Eprint + Input + Files + Net + Clock + AllocGlobal>(
     rt: &R,
     address: &str,
@@ -383,7 +385,7 @@ where
     }
 }
 
-/// The settings with the limits of a file, and what a link of any name keeps at most by them.
+/// Returns the settings with the limits of a file, and how many bytes a link of any name keeps at most by them.
 fn gateway_limits<R: Files + AllocGlobal>(
     rt: &R,
     config: Config,
@@ -408,7 +410,8 @@ fn gateway_limits<R: Files + AllocGlobal>(
     }
 }
 
-/// The file of records at a path, gone through, and without a block that was not written to its end, which is set aside.
+/// Returns the file of records at a path, checked. A last block that was not written to its end is set aside and
+/// cut off.
 fn stored<R: Eprint + Files + AllocGlobal>(rt: &R, path: &str) -> Result<Store<R::File>, Fault>
 where
     R::File: Exclusive,
@@ -429,7 +432,7 @@ where
     }
 }
 
-/// The settings of a gateway's endpoints; none where one is outside its range.
+/// Returns the settings of a gateway's endpoints, or `None` if one is outside its range.
 fn gateway_config(alloc: Global, settings: GatewaySettings) -> Result<Option<Config>, AllocError> {
     let name = String::from_str(alloc, GATEWAY)?;
     let Some(config) = Config::checked(
@@ -446,7 +449,7 @@ fn gateway_config(alloc: Global, settings: GatewaySettings) -> Result<Option<Con
     Ok(Some(announced(config, settings.idle)))
 }
 
-/// The trace that is asked for, if one is.
+/// Returns the trace that was requested, if one was.
 fn traced<'a, R: Eprint + Files + Clock + AllocGlobal>(
     rt: &'a R,
     told: ToldTo<'_>,
@@ -461,7 +464,7 @@ fn traced<'a, R: Eprint + Files + Clock + AllocGlobal>(
     Ok(Some(trace))
 }
 
-/// The file of lines at a path, if one is named.
+/// Returns the file of lines at a path, if one is named.
 fn opened<'a, R: Eprint + Files>(
     rt: &'a R,
     path: Option<&str>,
@@ -478,15 +481,15 @@ fn opened<'a, R: Eprint + Files>(
 /// The largest block, in bytes, by which the C library raises its threshold, less what it needs of it itself.
 const LARGEST_BLOCK: usize = 33_554_432 - 8_192;
 
-/// Takes a block of twice the longest message and gives it back. From then on the C library keeps up to twice the block of what is
-/// freed, and would else return memory to the system behind each long message and fetch it anew (`M_MMAP_THRESHOLD` of
-/// `mallopt(3)`). Where the block is refused nothing changes.
+/// Takes a block of twice the longest message and gives it back. From then on the C library keeps up to twice the
+/// block of what is freed. Otherwise it would return memory to the system after each long message and fetch it
+/// anew (`M_MMAP_THRESHOLD` of `mallopt(3)`). If the block is refused, nothing changes.
 fn keep_freed(alloc: Global, max_message: u32) {
     let block = (max_message as usize).saturating_mul(2);
     drop(Vec::<u8>::with_capacity(alloc, block.min(LARGEST_BLOCK)));
 }
 
-/// The settings of a receiver's endpoints; none where one is outside its range.
+/// Returns the settings of a receiver's endpoints, or `None` if one is outside its range.
 fn configured(alloc: Global, settings: RecvSettings) -> Result<Option<Config>, AllocError> {
     let RecvSettings {
         idle,
@@ -511,12 +514,13 @@ fn configured(alloc: Global, settings: RecvSettings) -> Result<Option<Config>, A
     Ok(Some(announced(config, idle)))
 }
 
-/// The same settings, by which the open announces half of the time after which a silent peer is left, if it is [2.4.5].
+/// Returns these settings with an idle time-out for the open: half of the time after which a silent peer is left,
+/// if it is [2.4.5].
 fn announced(config: Config, idle: u32) -> Config {
     config.with_idle_time_out(idle.saturating_mul(1000) / 2)
 }
 
-/// The same settings with the limits of a file.
+/// Returns these settings with the limits of a file.
 fn limited<R: Files + AllocGlobal>(rt: &R, config: Config, path: &str) -> Result<Config, Fault> {
     let file = match fs::open(rt, path) {
         Ok(file) => file,

@@ -24,7 +24,7 @@ pub enum Fate {
     Modified,
     /// The receiver settled it without an outcome.
     Settled,
-    /// The sender or the input ended before the receiver told it.
+    /// The sender or the input ended before the receiver said what became of it.
     Ended,
 }
 
@@ -41,7 +41,7 @@ impl Display for Fate {
     }
 }
 
-/// The fate of the message, told by a piece of which these bytes are not fed yet.
+/// The fate of the message, and the part of the piece that told it which is not fed yet.
 #[derive(Clone, Copy)]
 struct Met {
     fate: Fate,
@@ -60,13 +60,14 @@ pub enum SendFault {
     Write,
 }
 
-/// Sends a message by a new sender: offers it, feeds what it reads and writes all output in turn, until the
-/// receiver tells what became of the delivery with the id 0, or the sender or the input ends. Once it is told
-/// the connection is closed, and the input read until the receiver's close or its end. Takes no memory.
+/// Sends a message by a new sender, and returns what became of it. It offers the message, feeds what it reads and
+/// writes all output in turn. That ends when the receiver says what became of the delivery with the id 0, or when
+/// the sender or the input ends. If the receiver said it, the connection is closed, and the input is read until
+/// the receiver's close or its end. Takes no memory.
 ///
 /// # Errors
 ///
-/// `Read` and `Write` where that device has failed.
+/// `Read` and `Write` if that device has failed.
 pub fn send_all<A: Allocator + Copy, R: Read + Drop, W: Write + Drop>(
     sender: &mut Sender<A>,
     reader: &mut Device<R>,
@@ -123,7 +124,7 @@ fn write_piece<W: Write + Drop>(writer: &mut Device<W>, piece: &[u8]) -> Result<
     }
 }
 
-/// Feeds what is read, and writes what is answered, until the fate of the message is told or the input ends.
+/// Feeds what is read, and writes what is answered, until the fate of the message is known or the input ends.
 fn await_fate<A: Allocator + Copy, R: Read + Drop, W: Write + Drop>(
     sender: &mut Sender<A>,
     reader: &mut Device<R>,
@@ -155,8 +156,8 @@ fn await_fate<A: Allocator + Copy, R: Read + Drop, W: Write + Drop>(
     })
 }
 
-/// Feeds a piece, and writes what is answered, until it is used up or tells the fate of the message. The fate, and how
-/// many bytes were fed.
+/// Feeds a piece, and writes what is answered, until it is used up or has the fate of the message. Returns that
+/// fate, if it came, and how many bytes were fed.
 fn fate_in<A: Allocator + Copy, W: Write + Drop>(
     sender: &mut Sender<A>,
     writer: &mut Device<W>,
@@ -182,7 +183,7 @@ fn fate_in<A: Allocator + Copy, W: Write + Drop>(
     Ok(None)
 }
 
-/// The fate of the delivery with the id 0 that news tell.
+/// Returns the fate of the delivery with the id 0, if the news has it.
 fn fate_by(news: Option<News>) -> Option<Fate> {
     match news? {
         News::Ended(_) => Some(Fate::Ended),
@@ -233,7 +234,7 @@ fn await_close<A: Allocator + Copy, R: Read + Drop>(
     Ok(())
 }
 
-/// Feeds a piece after the close, and answers whether the receiver's close is in it.
+/// Feeds a piece after the close, and returns whether the receiver's close is in it.
 fn is_closed_by<A: Allocator + Copy>(sender: &mut Sender<A>, piece: &[u8]) -> bool {
     let mut at = 0;
     'units: while at < piece.len() {

@@ -28,7 +28,12 @@ pub enum FileFault {
     Send(SendFault),
 }
 
-/// Sends a file as one message to the listener at `address`, and answers what became of it.
+/// Sends a file as one message to the listener at `address`, and returns what became of it.
+///
+/// # Errors
+///
+/// `Open` if the file or the connection can't be opened, `Read` if the file can't be read,
+/// `NoMemory` if memory is refused, and `Send` if a device has failed.
 pub fn send_file<R: Net + Files + AllocGlobal>(
     rt: &R,
     address: &str,
@@ -55,7 +60,7 @@ pub fn send_file<R: Net + Files + AllocGlobal>(
     }
 }
 
-/// All bytes of a file.
+/// Returns all bytes of a file.
 fn read_file<R: Files + AllocGlobal>(rt: &R, path: &str) -> Result<Vec<u8>, FileFault> {
     let Ok(mut file) = fs::open(rt, path) else {
         return Err(FileFault::Open);
@@ -68,7 +73,7 @@ fn read_file<R: Files + AllocGlobal>(rt: &R, path: &str) -> Result<Vec<u8>, File
     }
 }
 
-/// The sender of the program.
+/// Returns the sender of the program.
 fn new_sender(alloc: Global) -> Result<Sender, AllocError> {
     Sender::new(
         alloc,

@@ -8,15 +8,15 @@ use std::fs::{self, File, OpenFile, OpenOptions};
 use std::io::{self, Read, Seek, SeekFrom, Write};
 use std::rt::Files;
 
-/// The longest message that a file may have: the longest of any setting.
+/// The longest message that a file may have, in bytes: the longest of any setting.
 const MAX_MESSAGE: u32 = 1 << 30;
 
-/// How much of a block that is cut off is set aside at once.
+/// How many bytes of a block that is cut off are set aside at once.
 const PIECE: usize = 4096;
 
-/// A file that one process can have for itself, as long as it runs.
+/// A file that one process can have for itself as long as it runs.
 pub trait Exclusive {
-    /// Whether it could be had.
+    /// Takes it for this process, and returns whether it could be had.
     fn hold(&self) -> bool;
 }
 
@@ -33,7 +33,8 @@ pub struct Store<F: Drop> {
 }
 
 impl<F: Read + Write + Seek + OpenFile + Exclusive + Drop> Store<F> {
-    /// The file at a path, which no other process writes to as a store; a new one where there is none.
+    /// Opens the file at a path, or a new one if there is none. It fails with `WouldBlock` if another process has
+    /// the file as a store.
     pub fn open<R: Files<File = F>>(rt: &R, path: &str) -> io::Result<Store<F>> {
         let mut options = OpenOptions::new();
         options.read(true).append(true).create(true);
@@ -45,12 +46,12 @@ impl<F: Read + Write + Seek + OpenFile + Exclusive + Drop> Store<F> {
         }
     }
 
-    /// The same, gone through, and without a last block that was not written to its end; how many bytes of one were cut off. They are
-    /// set aside first, in a new file of this name.
+    /// Checks the file, and sets aside and cuts off a last block that was not written to its end. Returns the
+    /// store, and how many bytes were cut off. They are set aside first, in a new file named `aside`.
     ///
     /// # Errors
     ///
-    /// That of [`whole_blocks`], or `Write` where they can't be set aside or cut off; the file stands as it was then.
+    /// That of [`whole_blocks`], or `Write` if they can't be set aside or cut off. The file is then as it was.
     pub fn checked<R: Files<File = F>>(
         self,
         rt: &R,
@@ -71,7 +72,7 @@ impl<F: Read + Write + Seek + OpenFile + Exclusive + Drop> Store<F> {
     }
 }
 
-/// Copies what stands in a file from there on into a new one, and brings it to the disk.
+/// Copies what a file has from `from` on into a new one, and syncs that to the disk.
 fn set_aside<R: Files>(rt: &R, file: &mut R::File, from: u64, aside: &str) -> io::Result<()> {
     let mut copy = fs::create(rt, aside)?;
     file.seek(SeekFrom::Start(from))?;

@@ -1,4 +1,5 @@
-//! Who is told of what `recv` serves: files or standard error, and the clock of the lines.
+//! Where the lines about what `recv` serves go: files or standard error, and the clock of the
+//! lines.
 
 use amqp_trace::{Host, TraceFault, View};
 use std::io::{self, ErrorKind, Write};
@@ -17,7 +18,7 @@ pub enum Told<'a, R: Files> {
 }
 
 impl<'a, R: Files> Told<'a, R> {
-    /// A new file, or standard error.
+    /// Opens a new file, or standard error for `-`.
     pub fn open(rt: &'a R, path: &str) -> io::Result<Self> {
         if path == STDERR {
             return Ok(Told::Stderr(rt));
@@ -65,7 +66,7 @@ impl<'a, R: Clock> Desk<'a, R> {
 }
 
 impl<R: Clock + Eprint> Host for Desk<'_, R> {
-    /// 0 where the clock fails.
+    /// Returns the milliseconds since it was made, or 0 if the clock fails.
     fn millis(&self) -> u64 {
         let Some(began) = self.began else {
             return 0;

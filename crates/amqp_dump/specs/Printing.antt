@@ -14,19 +14,19 @@ abbrev pub AreLines : List Entry → List ℕ → Type 0
 AreLines [] bytes = bytes ≡ []
 AreLines (entry ∷ entries) bytes = (line others : List ℕ) × IsLineOf entry line × AreLines entries others × (bytes ≡ line ++ others)
 
--- a line was put behind what waited, of which some was written
+-- a line was put after what waited, and some of that was written
 pub record Puts (line : List ℕ) (held now : Option (List ℕ)) (waited waits : List ℕ) : Type 0 where
   pub written : List ℕ
   pub went : Appends held now written
   pub joined : written ++ waits ≡ waited ++ line
 
--- the line of an entry was put so
+-- the line of an entry was put after what waited, and some of that was written
 pub record Prints (entry : Entry) (held now : Option (List ℕ)) (waited waits : List ℕ) : Type 0 where
   pub line : List ℕ
   pub is : IsLineOf entry line
   pub put : Puts line held now waited waits
 
--- What was printed while these bytes came, on top of what the writer held: each whole unit's line, but for what waits.
+-- What was printed while these bytes came, after what the writer held: each whole unit's line, except for what waits.
 pub record HasPrinted (held now : Option (List ℕ)) (waiting : List ℕ) (s : Scanner) (bytes : List ℕ) : Type 0 where
   pub entries : List Entry
   pub written : List ℕ
@@ -34,7 +34,7 @@ pub record HasPrinted (held now : Option (List ℕ)) (waiting : List ℕ) (s : S
   pub went : Appends held now written
   pub lines : AreLines entries (written ++ waiting)
 
--- The dump of a stream that begins with these bytes, and, where they are all, that ends with them. It is clean where no entry is a fault.
+-- The dump of a stream that begins with these bytes and, if they are all, ends with them. It is clean if no entry is a fault.
 pub record IsDump (held now : Option (List ℕ)) (bytes : List ℕ) (all clean : Bool) : Type 0 where
   pub entries : List Entry
   pub written : List ℕ
@@ -43,7 +43,7 @@ pub record IsDump (held now : Option (List ℕ)) (bytes : List ℕ) (all clean :
   pub lines : AreLines entries written
   pub answer : clean ≡ not (list_any is_fault entries)
 
--- the beginning of the dump of each stream that begins with these bytes, and, where they are all, that ends with them
+-- the beginning of the dump of each stream that begins with these bytes and, if they are all, ends with them
 pub record BeginsDump (held now : Option (List ℕ)) (bytes : List ℕ) (all : Bool) : Type 0 where
   pub entries : List Entry
   pub written : List ℕ
@@ -61,7 +61,7 @@ pub record ShowsUnits (held now : Option (List ℕ)) (bytes : List ℕ) : Type 0
   pub went : Appends held now written
   pub lines : AreLines (whole_entries 0 units) written
 
--- of the bytes that a reader gave, a dump; the beginning of one; the lines of their whole units
+-- of the bytes that a reader gave: a dump; the beginning of one; the lines of their whole units
 abbrev pub Dumps : (left rest held now : Option (List ℕ)) (all clean : Bool) → Type 0
 Dumps left rest held now all clean = (bytes : List ℕ) × Consumes left rest bytes × IsDump held now bytes all clean
 

@@ -1,4 +1,4 @@
--- What was told of a stream while its bytes come.
+-- What was reported of a stream while its bytes come.
 use Rattle.std.specs.Prelude.{◌≡◌, ℕ, ◌+◌, Bool, true, false, List, [], ◌∷◌, ◌++◌, length, take, Option, Some, None}
 use Rattle.std.specs.List.{flat_map, list_any}
 use Rattle.amqp_frame.specs.Units.{StreamUnit, bytes_of}
@@ -9,7 +9,7 @@ use Rattle.amqp_dump.specs.declared.scanned.Scanned.{Scanned}
 use Rattle.amqp_dump.specs.Pages.{Page, PutsLine}
 use Rattle.amqp_dump.specs.Entries.{Entry, entry_of, is_fault, unit_entry, whole_entries, Tells}
 
--- this is told of the unit that waits
+-- this is reported of the unit that waits
 pub record TellsWaiting (place : ℕ) (s : SplitterState) (item : Scanned) : Type 0 where
   pub unit : StreamUnit
   pub waits : Waits s unit
@@ -24,14 +24,14 @@ IsWaiting place s (Some item) = TellsWaiting place s item
 abbrev pub taken_by : Scanner → ℕ
 taken_by s = s.place + length s.splitter.filled
 
--- less than a unit came of what is due
+-- of the unit that is due, less than all came
 pub record IsReady (s : Scanner) : Type 0 where
   pub limit : s.splitter.limit ≡ MAX_FRAME
   pub held : IsHeld s.splitter.limit s.splitter.stage s.splitter.filled
   pub due : IsOver s.splitter.stage → ⊥
   pub none : (u : StreamUnit) → Waits s.splitter u → ⊥
 
--- these bytes came, and each whole unit among them was told of, of which none is a fault
+-- these bytes came, and each whole unit among them was reported; none of them is a fault
 pub record HasTold (s : Scanner) (bytes : List ℕ) (entries : List Entry) : Type 0 where
   pub units : List StreamUnit
   pub went : WentBy s.splitter units bytes
@@ -40,23 +40,23 @@ pub record HasTold (s : Scanner) (bytes : List ℕ) (entries : List Entry) : Typ
   pub told : entries ≡ whole_entries 0 units
   pub clean : list_any is_fault entries ≡ false
 
--- what is told of the bytes of a piece up to an end, where these bytes and entries came before: nothing once the piece is taken
+-- what is reported of the bytes of a piece up to `end`, if these bytes and entries came before: nothing once the piece is taken
 abbrev pub GoesOn : List ℕ → ℕ → Scanner → List ℕ → List Entry → Option Entry → Type 0
 GoesOn piece end s before entries None = HasTold s (before ++ piece) entries
 GoesOn piece end s before entries (Some entry) =
     (is_fault entry ≡ false → HasTold s (before ++ take end piece) (entries ++ entry ∷ []))
     × (is_fault entry ≡ true → Tells (before ++ piece) (entries ++ entry ∷ []))
 
--- the same of whatever came before the piece
+-- what is reported of the bytes of a piece up to `end`, whatever came before the piece
 abbrev pub Goes : (old : Scanner) (piece : List ℕ) (at end : ℕ) (s : Scanner) → Option Entry → Type 0
 Goes old piece at end s entry = (before : List ℕ) (entries : List Entry) → HasTold old (before ++ take at piece) entries → GoesOn piece end s before entries entry
 
--- the line of the unit that came to its end in a piece was put, and it is known whether that is a fault; nothing was put where none did
+-- the line of the unit that ends in a piece was put, and it is known whether that is a fault; nothing was put if none ends there
 abbrev pub PutsNext : (old : Scanner) (piece : List ℕ) (at end : ℕ) (s : Scanner) (waited waits : Page) → Option Bool → Type 0
 PutsNext old piece at end s waited waits None = Goes old piece at end s None × (waits ≡ waited)
 PutsNext old piece at end s waited waits (Some fault) = (entry : Entry) × (is_fault entry ≡ fault) × PutsLine entry waited waits × Goes old piece at end s (Some entry)
 
--- behind what is no fault the scanner is ready again
+-- after what is no fault the scanner is ready again
 abbrev pub IsReadyBehind : Scanner → Option Bool → Type 0
 IsReadyBehind s None = IsReady s
 IsReadyBehind s (Some fault) = fault ≡ false → IsReady s

@@ -1,4 +1,4 @@
-//! Numbers and bytes, as `dump` prints them. Lines that wait stay as they are.
+//! Numbers and bytes, as `dump` prints them. Whole lines that wait are unchanged.
 
 ghost use Rattle.std.specs.Prelude.{◌≡◌, ◌≤◌, length};
 
@@ -8,7 +8,7 @@ use uuid::Uuid;
 /// The most bytes of a binary whose digits are put four bytes at a time.
 const FEW: usize = 16;
 
-/// How many bytes of a longer one are turned into digits at a time.
+/// How many bytes of a longer binary are turned into digits at a time.
 const RUN: usize = 64;
 
 /// The digit zero in each of eight bytes.
@@ -21,10 +21,10 @@ const SPACES: u64 = 0x2020_2020_2020_2020;
 
 const HIGH_BITS: u64 = 0x8080_8080_8080_8080;
 
-/// The numbers below it have eight digits at most.
+/// Numbers below this have at most eight digits.
 const EIGHT_DIGITS: u64 = 100_000_000;
 
-/// The numbers below it have sixteen digits at most.
+/// Numbers below this have at most sixteen digits.
 const SIXTEEN_DIGITS: u64 = 10_000_000_000_000_000;
 
 /// Appends a number in decimal digits.
@@ -41,7 +41,7 @@ pub fn put_number(out: &mut Page, number: u64)
     }
 }
 
-/// The same, for numbers of at most eight digits and not 0.
+/// Appends a number of at most eight digits, other than 0, in decimal digits.
 fn put_eight(out: &mut Page, number: u64)
     ensures { out.new.whole ≡ out.old.whole }
 {
@@ -51,7 +51,7 @@ fn put_eight(out: &mut Page, number: u64)
     out.put_front(&text.to_le_bytes(), (8 - zeros) as usize);
 }
 
-/// The same, for longer ones: sixteen digits at most, or more in front of sixteen.
+/// Appends a longer number in decimal digits: of at most sixteen, or of more before the last sixteen.
 fn put_digits(out: &mut Page, number: u64)
     ensures { out.new.whole ≡ out.old.whole }
 {
@@ -67,7 +67,7 @@ fn put_digits(out: &mut Page, number: u64)
     );
 }
 
-/// The text of sixteen digits, its first byte the lowest, behind so many zeros that are left out.
+/// Returns the text of sixteen digits, its first byte the lowest, without the first `zeros` of them.
 fn sixteen_of(number: u64, zeros: u32) -> u128
     requires { zeros ≤ 7 }
 {
@@ -76,9 +76,9 @@ fn sixteen_of(number: u64, zeros: u32) -> u128
     (u128::from(front) | u128::from(last) << 64) >> (8 * zeros)
 }
 
-/// The eight digits of a number below [`EIGHT_DIGITS`], one a byte, the first in the lowest: the number is cut
-/// into halves, both halves at once into pairs, and all pairs into digits. `10_486 >> 20` and `103 >> 10` stand for
-/// a hundredth and a tenth.
+/// Returns the eight digits of a number below [`EIGHT_DIGITS`], one a byte, the first in the lowest. The number is
+/// cut into halves, both halves at once into pairs, and all pairs into digits. `10_486 >> 20` and `103 >> 10` stand
+/// for a hundredth and a tenth.
 fn digits_of(number: u64) -> u64 {
     let halves = number / 10_000 | (number % 10_000) << 32;
     let hundreds = (halves.wrapping_mul(10_486) >> 20) & 0x0000_007f_0000_007f;
@@ -87,7 +87,7 @@ fn digits_of(number: u64) -> u64 {
     tens | pairs.wrapping_sub(tens.wrapping_mul(10)) << 8
 }
 
-/// Appends a number of so many bytes in two's complement.
+/// Appends a number of `width` bytes in two's complement.
 pub fn put_signed(out: &mut Page, width: usize, number: u64)
     ensures { out.new.whole ≡ out.old.whole }
 {
@@ -158,7 +158,7 @@ fn put_run(out: &mut Page, bytes: &[u8])
     }
 }
 
-/// Appends the hyphenated form of a uuid's 16 bytes, and nothing of any other number of bytes.
+/// Appends the hyphenated form of a uuid's 16 bytes; nothing for any other number of bytes.
 pub fn put_uuid(out: &mut Page, bytes: &[u8])
     ensures { out.new.whole ≡ out.old.whole }
 {
@@ -184,7 +184,7 @@ pub fn put_quoted(out: &mut Page, bytes: &[u8])
     out.put_byte(b'"');
 }
 
-/// Appends bytes of which the first `plain` stand for themselves, by runs of such and of others.
+/// Appends bytes of which the first `plain` stand for themselves, in runs of such bytes and of others.
 #[inline(never)]
 fn put_escaped(out: &mut Page, bytes: &[u8], plain: usize)
     requires { plain ≤ length bytes.now }
@@ -202,7 +202,7 @@ fn put_escaped(out: &mut Page, bytes: &[u8], plain: usize)
 }
 
 /// Appends the first `len` bytes, which stand for themselves.
-// Without the mark `texts` takes 1.6 in 100 more instructions.
+// Without `inline`, `texts` takes 1.6 in 100 more instructions.
 #[inline(always)]
 fn put_plain(out: &mut Page, bytes: &[u8], len: usize)
     requires { len ≤ length bytes.now }
@@ -215,7 +215,7 @@ fn put_plain(out: &mut Page, bytes: &[u8], len: usize)
     }
 }
 
-/// Appends the bytes in front that don't stand for themselves, the first of which is one. Answers how many these are.
+/// Appends the bytes at the front that don't stand for themselves, the first included, and returns how many these are.
 fn put_escapes(out: &mut Page, bytes: &[u8]) -> usize
     ensures within { result ≤ length bytes.now }
     ensures some { 1 ≤ length bytes.now → 1 ≤ result }
@@ -230,7 +230,7 @@ fn put_escapes(out: &mut Page, bytes: &[u8]) -> usize
     bytes.len()
 }
 
-/// How many bytes in front stand for themselves.
+/// Returns how many bytes at the front stand for themselves.
 fn plain_len(bytes: &[u8]) -> usize
     ensures { result ≤ length bytes.now }
 {
@@ -254,15 +254,15 @@ fn is_plain(byte: u8) -> bool {
     flags_of(u64::from(byte) | SPACES << 8) == 0
 }
 
-/// A byte that doesn't.
+/// Returns the escape of a byte that doesn't stand for itself.
 fn escaped(byte: u8) -> [u8; 4] {
     let [high, low, ..] = hex_of([byte, 0, 0, 0]);
     [b'\\', b'x', high, low]
 }
 
-/// Which of eight bytes don't stand for themselves: those that are no printable ASCII, a quote and a backslash. 0 where all do. The
-/// lowest bit is the high bit of the first such byte; those above it may tell others too, since what is taken from one byte is
-/// borrowed from the next.
+/// Returns which of eight bytes don't stand for themselves: those that are no printable ASCII, a quote and a backslash. It is 0
+/// if all do. The lowest bit set is the high bit of the first such byte. Those above it may flag others too, since what is taken
+/// from one byte is borrowed from the next.
 fn flags_of(word: u64) -> u64 {
     let controls = word.wrapping_sub(SPACES);
     let delete = word.wrapping_add(ONES);
@@ -271,7 +271,7 @@ fn flags_of(word: u64) -> u64 {
     (controls | delete | quotes | backslashes | word) & HIGH_BITS
 }
 
-/// The eight hex digits of four bytes: their halves, the first in the lowest byte, of which those above 9 become letters.
+/// Returns the eight hex digits of four bytes: their halves, the first in the lowest byte; those above 9 become letters.
 fn hex_of(bytes: [u8; 4]) -> [u8; 8] {
     let word = u32::from_le_bytes(bytes) as u64;
     let pairs = (word | word << 16) & 0x0000_ffff_0000_ffff;
@@ -284,7 +284,7 @@ fn hex_of(bytes: [u8; 4]) -> [u8; 8] {
         .to_le_bytes()
 }
 
-/// The number in the bytes, big-endian; of more than eight the last ones count.
+/// Returns the number in the bytes, big-endian; of more than eight bytes the last ones count.
 pub fn number_in(bytes: &[u8]) -> u64 {
     match *bytes {
         [a] => u64::from(a),

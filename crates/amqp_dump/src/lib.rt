@@ -1,10 +1,10 @@
 //! The dump of one direction of a connection: a line for its header, for each of its frames, and for the first
 //! fault.
 //!
-//! [`dump`] (`printer`) reads a piece from a `Device`, has `scan` cut it into units and tell of each (`scanned`), prints
-//! their lines into one buffer (`lines`, values by `text`, into a `page`), writes them from there, and reads again.
-//! `specs/Entries.antt` has what is told of a stream, `specs/Printing.antt` what is printed of it.
-//! The tests stand in `test_codec_rows`, `test_amqp` and `test_texts_against_start`.
+//! Begin with [`dump`] (`printer`). It reads a piece from a `Device`, and `scan` cuts it into units and reports each
+//! (`scanned`). It prints their lines into one buffer (`lines`, values by `text`, into a `page`), writes them from
+//! there, and reads again. `specs/Entries.antt` defines what is reported of a stream, and `specs/Printing.antt` what is
+//! printed of it. The tests are in `test_codec_rows`, `test_amqp` and `test_texts_against_start`.
 #![tactic(auto)]
 
 mod digits;

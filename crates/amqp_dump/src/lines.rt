@@ -12,7 +12,7 @@ use crate::text::put_value;
 use amqp_perform::Descriptor;
 use std::alloc::AllocError;
 
-/// Appends the line of a unit or a fault, with its newline.
+/// Appends the line of a unit or a fault, with its newline. An error says that memory was refused.
 pub fn put_line(out: &mut Page, item: &Scanned<'_>) -> Result<(), AllocError>
     requires { out.old.begun ≡ [] }
     ensures { OnOk result (PutsLine (entry_of item.now) out.old out.new) }
@@ -21,7 +21,7 @@ pub fn put_line(out: &mut Page, item: &Scanned<'_>) -> Result<(), AllocError>
     out.end_line()
 }
 
-/// Appends what is told of a unit or a fault, without an end of the line.
+/// Appends what is reported of a unit or a fault, without the end of the line.
 pub fn put_item(out: &mut Page, item: &Scanned<'_>)
     ensures { out.new.whole ≡ out.old.whole }
 {
@@ -48,8 +48,8 @@ fn put_frame(out: &mut Page, frame: &ScannedFrame<'_>)
     }
 }
 
-/// Appends the value at the front of a body and the length of what follows it: a performative as its name and
-/// its list, with ` invalid` at the end where a field is, any other value behind `value`.
+/// Appends the value at the front of a body and the length of what follows it. A performative is its name and
+/// its list, with ` invalid` at the end if a field is invalid; any other value comes after `value`.
 fn put_body(out: &mut Page, frame: &ScannedFrame<'_>)
     ensures { out.new.whole ≡ out.old.whole }
 {
@@ -83,14 +83,14 @@ fn put_fault(out: &mut Page, place: usize, fault: StreamFault)
     out.put(name_of(fault).as_bytes());
 }
 
-/// The name of the performative that describes the list that a body begins with, as `dump` prints it. Of the list no more than its
-/// first byte is looked at. [2.7]
+/// Returns the name of the performative that describes the list at the front of a body, as `dump` prints it. Only the first
+/// byte of the list is looked at. [2.7]
 pub fn performative_name(body: &[u8]) -> Option<&'static str> {
     Some(named_list(body)?.0)
 }
 
-/// The name of the performative that describes the value at the front, and the bytes from its list on; none where
-/// it is no list, or is not described as a performative. [2.7]
+/// Returns the name of the performative that describes the value at the front, and the bytes from its list on; `None`
+/// if it is no list, or is not described as a performative. [2.7]
 fn named_list(body: &[u8]) -> Option<(&'static str, &[u8])> {
     let (0, described) = body.split_first()? else {
         return None;
@@ -102,7 +102,7 @@ fn named_list(body: &[u8]) -> Option<(&'static str, &[u8])> {
     }
 }
 
-/// The descriptor at the front, where it is one of the standard's, and the bytes behind it. [1.2; 2.7]
+/// Returns the descriptor at the front, if it is one of the standard's, and the bytes after it. [1.2; 2.7]
 fn descriptor_at(bytes: &[u8]) -> Option<(Descriptor, &[u8])> {
     let (code, rest) = bytes.split_first()?;
     match *code {
@@ -115,7 +115,7 @@ fn descriptor_at(bytes: &[u8]) -> Option<(Descriptor, &[u8])> {
     }
 }
 
-/// The descriptor of a number of that width.
+/// Reads the descriptor that is a number of `width` bytes.
 fn coded_at(width: usize, bytes: &[u8]) -> Option<(Descriptor, &[u8])> {
     if bytes.len() < width {
         return None;
@@ -124,7 +124,7 @@ fn coded_at(width: usize, bytes: &[u8]) -> Option<(Descriptor, &[u8])> {
     Some((Descriptor::of_code(number_in(code))?, rest))
 }
 
-/// The descriptor of a symbol, whose size has that width.
+/// Reads the descriptor that is a symbol with a size of `width` bytes.
 fn named_at(width: usize, bytes: &[u8]) -> Option<(Descriptor, &[u8])> {
     if bytes.len() < width {
         return None;
@@ -138,7 +138,7 @@ fn named_at(width: usize, bytes: &[u8]) -> Option<(Descriptor, &[u8])> {
     Some((Descriptor::of_symbol(symbol)?, rest))
 }
 
-/// The name of a fault, as it is printed.
+/// Returns the name of a fault, as it is printed.
 fn name_of(fault: StreamFault) -> &'static str {
     match fault {
         StreamFault::Header => "Header",

@@ -5,18 +5,18 @@ ghost use Rattle.std.specs.Prelude.{◌≡◌, ◌≤◌, ◌+◌, ◌++◌, ℕ
 use std::alloc::{AllocError, Global};
 use std::marker::Model;
 
-/// How many bytes the buffer is lengthened by at least.
+/// The buffer is lengthened by at least this many bytes.
 const STEP: usize = 4096;
 
-/// Lines that wait to be written, and the beginning of the next one behind them. What is put into a line answers nothing: where
-/// memory was refused for some of it the line gets no end.
+/// Lines that wait to be written, and the beginning of the next one after them. Putting bytes into a line returns nothing: if
+/// memory was refused for some of them, the line gets no end.
 #[derive(Drop)]
 pub struct Page {
-    /// What is put stands at its front, and zeros or old bytes behind it.
+    /// What was put is at its front; zeros or old bytes are after it.
     bytes: Vec<u8>,
     /// Where the last thing that was put ends.
     len: usize,
-    /// Where the line begins that has no end yet.
+    /// Where the line that has no end yet begins.
     end: usize,
     /// Memory was refused for something that was put into that line.
     lacks: bool,
@@ -38,7 +38,7 @@ impl Model for Page {
 impl Page {
     ghost use Rattle.std.specs.Prelude.{◌≡◌, [], ◌∷◌, ◌++◌, length, take, false, IfOk, OnOk};
 
-    /// An empty page with room for so many bytes.
+    /// Makes an empty page with room for `capacity` bytes. An error says that memory was refused.
     pub fn with_capacity(alloc: Global, capacity: usize) -> Result<Page, AllocError>
         ensures whole { IfOk result (λ page. page.whole ≡ []) }
         ensures begun { IfOk result (λ page. page.begun ≡ []) }
@@ -52,7 +52,7 @@ impl Page {
         })
     }
 
-    /// An empty page that takes so many bytes and no more: what finds no room lacks, as if memory had been refused for it.
+    /// Makes an empty page that takes at most `capacity` bytes: what finds no room lacks, as if memory had been refused for it.
     pub fn fixed(alloc: Global, capacity: usize) -> Result<Page, AllocError>
         ensures whole { IfOk result (λ page. page.whole ≡ []) }
         ensures begun { IfOk result (λ page. page.begun ≡ []) }
@@ -70,10 +70,11 @@ impl Page {
         self.put_front(text, text.len());
     }
 
-    /// Puts the first `len` bytes of a text into the line, or all where they are fewer. The others are copied too, and written
-    /// over: a text whose length the compiler knows is then copied without a loop and a call. Where memory was refused for
-    /// something before, it is not asked for again.
-    // Without the mark `dump` takes 0.9 in 100 more instructions.
+    /// Puts the first `len` bytes of a text into the line, or all if there are fewer.
+    ///
+    /// The others are copied too, and written over: so a text whose length the compiler knows is copied without a loop and a
+    /// call. If memory was refused for something in the line before, it is not requested again.
+    // Without `inline`, `dump` takes 0.9 in 100 more instructions.
     #[inline(always)]
     pub fn put_front(&mut self, text: &[u8], len: usize)
         ensures whole { self.new.whole ≡ self.old.whole }
@@ -100,14 +101,15 @@ impl Page {
         self.put(&[byte]);
     }
 
-    /// Whether memory was refused for something of the line. What is put behind that comes to nothing.
+    /// Returns whether memory was refused for something of the line. The line then gets no end, whatever else is put into it.
     pub fn lacks(&self) -> bool
         ensures { result ≡ self.now.lacks }
     {
         self.lacks
     }
 
-    /// Puts a newline, which ends the line. An error where the line lacks something, or memory is refused for the newline.
+    /// Puts a newline, which ends the line. An error says that the line lacks something, or that memory was refused for the
+    /// newline.
     pub fn end_line(&mut self) -> Result<(), AllocError>
         ensures all { OnOk result (self.old.lacks ≡ false) }
         ensures whole { OnOk result (self.new.whole ≡ self.old.whole ++ (self.old.begun ++ 10 ∷ [])) }
@@ -122,26 +124,26 @@ impl Page {
         Ok(())
     }
 
-    /// How many bytes wait, those of a line without an end among them.
+    /// Returns how many bytes wait, including those of a line without an end.
     pub fn len(&self) -> usize {
         self.len
     }
 
-    /// The whole lines.
+    /// Returns the whole lines.
     pub fn as_bytes(&self) -> &[u8]
         ensures { result.now ≡ self.now.whole }
     {
         &self.bytes[..self.end]
     }
 
-    /// What was put into the line that has no end yet.
+    /// Returns what was put into the line that has no end yet.
     pub fn begun(&self) -> &[u8]
         ensures { result.now ≡ self.now.begun }
     {
         &self.bytes[self.end..self.len]
     }
 
-    /// Drops all of it.
+    /// Drops everything that was put.
     pub fn clear(&mut self)
         ensures whole { self.new.whole ≡ [] }
         ensures begun { self.new.begun ≡ [] }
@@ -153,9 +155,9 @@ impl Page {
     }
 }
 
-/// Whether there is room for so many bytes behind the first `len`, which is made where it is lacking, unless it was refused
+/// Returns whether there is room for `more` bytes after the first `len`. Room that is lacking is made, unless it was refused
 /// before.
-// Without the mark `dump` takes 1.9 in 100 more instructions.
+// Without `inline`, `dump` takes 1.9 in 100 more instructions.
 #[inline(always)]
 fn has_room(bytes: &mut Vec<u8>, len: usize, more: usize, refused: bool) -> bool
     requires { len ≤ length bytes.old.items }
@@ -166,7 +168,7 @@ fn has_room(bytes: &mut Vec<u8>, len: usize, more: usize, refused: bool) -> bool
     more <= bytes.len() - len || !refused && lengthen(bytes, len, more)
 }
 
-/// Makes room for so many bytes behind the first `len`, and for some more. False where memory was refused.
+/// Makes room for `more` bytes after the first `len`, and for some more. Returns false if memory was refused.
 #[cold]
 #[inline(never)]
 fn lengthen(bytes: &mut Vec<u8>, len: usize, more: usize) -> bool

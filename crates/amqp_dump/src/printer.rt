@@ -43,15 +43,16 @@ impl From<AllocError> for DumpFault {
     }
 }
 
-/// Prints a line for the header, for each frame and for the first fault, which is the last line. Before each
-/// read the lines of all frames that came are written. Behind a fault nothing is read. True where no fault was
-/// printed. Neither device has failed before.
+/// Prints a line for the header, for each frame and for the first fault, which is the last line.
+///
+/// Returns true if no fault was printed. Before each read the lines of all frames that came are written. After a
+/// fault nothing is read. Neither device may have failed before.
 ///
 /// # Errors
 ///
-/// `Read` and `Write` where that device has failed, `TooLong` where the reader gives 2^64 - 1 bytes or more, and
-/// `NoMemory`. What was written is then a beginning of the dump; after `Read` it is the lines of all frames that
-/// came.
+/// `Read` and `Write` if that device has failed, `TooLong` if the reader gives 2^64 - 1 bytes or more, and
+/// `NoMemory` if memory was refused. What was written is then a beginning of the dump; after `Read` it is the
+/// lines of the header and of all frames that came.
 pub fn dump<R: Read + Drop, W: Write + Drop>(
     alloc: Global,
     reader: &mut Device<R>,
@@ -63,13 +64,14 @@ pub fn dump<R: Read + Drop, W: Write + Drop>(
     ensures write { (result ≡ Err DumpFault.Write) ↔ IsTrue (has_failed writer.new) }
     ensures ended { result ≡ Ok true → IsTrue (has_ended reader.new) }
 
-    // What is written is of the bytes that came, and holds whatever would follow them.
+    // What is written is the dump of the bytes that came, or its beginning, and holds whatever would follow
+    // them.
     ensures dumped { IfOk result (Dumps (R.remaining (device_inner reader.old)) (R.remaining (device_inner reader.new)) (W.contents (device_inner writer.old)) (W.contents (device_inner writer.new)) (has_ended reader.new)) }
     ensures begun { OnErr result (BreaksOff (R.remaining (device_inner reader.old)) (R.remaining (device_inner reader.new)) (W.contents (device_inner writer.old)) (W.contents (device_inner writer.new)) (has_ended reader.new)) }
     ensures shown { result ≡ Err DumpFault.Read → Shows (R.remaining (device_inner reader.old)) (R.remaining (device_inner reader.new)) (W.contents (device_inner writer.old)) (W.contents (device_inner writer.new)) }
     ensures long { result ≡ Err DumpFault.TooLong → (bytes : List ℕ) × Consumes (R.remaining (device_inner reader.old)) (R.remaining (device_inner reader.new)) bytes × (2 ^ 64 - 1 ≤ length bytes) }
 
-    // A reader that was not yet asked gave all that it had, or what it had left changes nothing.
+    // A reader that was not read from before gave all that it had, or what it had left changes nothing.
     ensures end { has_ended reader.old ≡ false → reads_left reader.old ≡ 2 ^ 64 - 1 → result ≡ Ok true → IsAtEnd (R.remaining (device_inner reader.new)) }
     ensures whole { has_ended reader.old ≡ false → reads_left reader.old ≡ 2 ^ 64 - 1 → IfOk result (λ clean. IfSome (R.remaining (device_inner reader.old)) (λ stream. IsDump (W.contents (device_inner writer.old)) (W.contents (device_inner writer.new)) stream true clean)) }
 {
@@ -79,8 +81,8 @@ pub fn dump<R: Read + Drop, W: Write + Drop>(
     print_all(alloc, reader, &mut scanner, &mut piece, &mut lines, writer)
 }
 
-/// Reads into `piece` until the reader ends or a fault was printed, and prints what comes. True where no fault
-/// was printed.
+/// Reads into `piece` until the reader ends or a fault was printed, and prints what comes. Returns true if no
+/// fault was printed.
 fn print_all<R: Read + Drop, W: Write + Drop>(
     alloc: Global,
     reader: &mut Device<R>,
@@ -99,13 +101,14 @@ fn print_all<R: Read + Drop, W: Write + Drop>(
     ensures write { (result ≡ Err DumpFault.Write) ↔ IsTrue (has_failed writer.new) }
     ensures ended { result ≡ Ok true → IsTrue (has_ended reader.new) }
 
-    // What is written is of the bytes that came, and holds whatever would follow them.
+    // What is written is the dump of the bytes that came, or its beginning, and holds whatever would follow
+    // them.
     ensures dumped { IfOk result (Dumps (R.remaining (device_inner reader.old)) (R.remaining (device_inner reader.new)) (W.contents (device_inner writer.old)) (W.contents (device_inner writer.new)) (has_ended reader.new)) }
     ensures begun { OnErr result (BreaksOff (R.remaining (device_inner reader.old)) (R.remaining (device_inner reader.new)) (W.contents (device_inner writer.old)) (W.contents (device_inner writer.new)) (has_ended reader.new)) }
     ensures shown { result ≡ Err DumpFault.Read → Shows (R.remaining (device_inner reader.old)) (R.remaining (device_inner reader.new)) (W.contents (device_inner writer.old)) (W.contents (device_inner writer.new)) }
     ensures long { result ≡ Err DumpFault.TooLong → (bytes : List ℕ) × Consumes (R.remaining (device_inner reader.old)) (R.remaining (device_inner reader.new)) bytes × (2 ^ 64 - 1 ≤ length bytes) }
 
-    // A reader that was not yet asked gave all that it had, or what it had left changes nothing.
+    // A reader that was not read from before gave all that it had, or what it had left changes nothing.
     ensures end { has_ended reader.old ≡ false → reads_left reader.old ≡ 2 ^ 64 - 1 → result ≡ Ok true → IsAtEnd (R.remaining (device_inner reader.new)) }
     ensures whole { has_ended reader.old ≡ false → reads_left reader.old ≡ 2 ^ 64 - 1 → IfOk result (λ clean. IfSome (R.remaining (device_inner reader.old)) (λ stream. IsDump (W.contents (device_inner writer.old)) (W.contents (device_inner writer.new)) stream true clean)) }
 {
@@ -122,7 +125,7 @@ fn print_all<R: Read + Drop, W: Write + Drop>(
     print_end(scanner, lines, writer)
 }
 
-/// Reads into the front of `piece`, and answers how many bytes came. So many were taken before.
+/// Reads into the front of `piece`, and returns how many bytes came. `taken` bytes were taken before.
 fn read_piece<R: Read + Drop>(
     reader: &mut Device<R>,
     piece: &mut [u8],
@@ -153,7 +156,8 @@ fn read_piece<R: Read + Drop>(
     }
 }
 
-/// Prints the units that end in `piece`, and says whether the last one is a fault. No line waits.
+/// Prints the units that end in `piece`, and returns whether the last one is a fault. No line waits before, nor
+/// after success.
 fn print_piece<W: Write + Drop>(
     alloc: Global,
     scanner: &mut Scanner,
@@ -190,7 +194,7 @@ fn print_piece<W: Write + Drop>(
     Ok(false)
 }
 
-/// Prints what is told of a stream that ends here, and says whether it is no fault. No line waits.
+/// Prints what is reported of a stream that ends here, and returns whether it is no fault. No line waits.
 fn print_end<W: Write + Drop>(
     scanner: &Scanner,
     lines: &mut Page,
@@ -218,7 +222,7 @@ fn print_end<W: Write + Drop>(
     }
 }
 
-/// Writes the lines that wait, where they are many or the last one is among them.
+/// Writes the lines that wait, if they are many or the last one is among them.
 fn write_many<W: Write + Drop>(
     is_last: bool,
     lines: &mut Page,

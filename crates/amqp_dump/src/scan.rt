@@ -1,5 +1,5 @@
 //! The units of a stream: its header and its frames, each with its place and the value that its body
-//! begins with. Nothing of a unit's line is put before its fault is known.
+//! begins with. Nothing of a unit's line is put before it is known whether the unit has a fault.
 
 ghost use Rattle.std.specs.Prelude.{◌≡◌, ◌≢◌, ℕ, ◌+◌, ◌-◌, ◌^◌, ◌<◌, ◌≤◌, true, List, [], ◌++◌, length, is_some, IfOk, OnOk, IfSome};
 ghost use Rattle.amqp_frame.specs.Splits.{IsOver};
@@ -25,7 +25,7 @@ pub const LIMITS: Limits = Limits {
     nodes: 65536,
 };
 
-/// Tells of the units of a stream, however its bytes come: frames of at most [`MAX_FRAME`] bytes, and values
+/// Reports the units of a stream, however its bytes come: frames of at most [`MAX_FRAME`] bytes, and values
 /// within [`LIMITS`], 32 levels of depth and 65536 nodes.
 #[derive(Drop)]
 pub struct Scanner {
@@ -35,7 +35,8 @@ pub struct Scanner {
 }
 
 impl Scanner {
-    /// A scanner at the start of a stream. It takes memory for the largest frame, and none for frames after that.
+    /// Makes a scanner at the start of a stream. It takes memory for the largest frame, and none for frames after
+    /// that.
     pub fn new(alloc: Global) -> Result<Self, AllocError>
         ensures { IfOk result (λ s. HasTold s [] []) }
     {
@@ -45,7 +46,7 @@ impl Scanner {
         })
     }
 
-    /// How many bytes were taken.
+    /// Returns how many bytes were taken.
     pub fn taken(&self) -> usize
         requires { taken_by self.now < 2 ^ 64 }
         ensures { result ≡ taken_by self.now }
@@ -54,13 +55,15 @@ impl Scanner {
     }
 
     /// Takes bytes of `piece` from `at` on, to the end of the unit that is due, puts the line of that unit into
-    /// `lines`, and says whether it is a fault. `at` goes to that end. None where the bytes end first, all of them
-    /// taken. It is not called behind a fault.
+    /// `lines`, and returns whether it is a fault.
+    ///
+    /// `at` moves to that end. Returns `None` if the bytes end first; all of them are then taken. It may not be
+    /// called after a fault.
     ///
     /// # Errors
     ///
-    /// Memory was refused, for reading a value or for the line, of which a beginning may stand in `lines`. The
-    /// scanner may then not be used again.
+    /// Memory was refused, for reading a value or for the line; `lines` may then hold a beginning of the line. The
+    /// scanner may not be used again.
     pub fn next(
         &mut self,
         alloc: Global,
@@ -91,7 +94,7 @@ impl Scanner {
         Ok(Some(is_fault))
     }
 
-    /// What is told of a stream that ends here: a fault, or nothing where it ends behind a unit.
+    /// Returns what is reported of a stream that ends here: a fault, or nothing if it ends after a unit.
     pub fn end(&self) -> Option<Scanned<'_>>
         requires ready { IsReady self.now }
         ensures fault { IfSome result (λ item. is_fault (entry_of item) ≡ true) }
@@ -107,7 +110,7 @@ impl Scanner {
     }
 }
 
-/// The unit that waits in the splitter.
+/// Returns the unit that waits in the splitter, if one does.
 fn waiting_unit(
     alloc: Global,
     splitter: &Splitter,
@@ -127,7 +130,7 @@ fn waiting_unit(
     }
 }
 
-/// The eight bytes in the header's place.
+/// Reports the eight bytes in the header's place.
 fn told_header<'a>(place: usize, header: &[u8]) -> Scanned<'a>
     ensures { entry_of result ≡ header_entry place header.now }
 {
@@ -138,7 +141,7 @@ fn told_header<'a>(place: usize, header: &[u8]) -> Scanned<'a>
     }
 }
 
-/// A frame of `size` bytes, with the value at the front of its body, or the fault there.
+/// Reports a frame of `size` bytes, with the value at the front of its body, or the fault there.
 fn told_frame(
     alloc: Global,
     place: usize,
@@ -184,7 +187,7 @@ fn says_performative(body: &[u8]) -> bool
     is_performative(body)
 }
 
-/// The place of a fault, in bytes from the first one of the body.
+/// Returns the place of a fault, in bytes from the first one of the body; an error if memory was refused.
 fn place_in_body(fault: ReadFault) -> Result<usize, AllocError>
     ensures place { IfOk result (λ place. place ≡ place_of fault) }
     ensures memory { OnOk result (fault ≢ ReadFault.NoMemory) }

@@ -1,4 +1,4 @@
-//! What is told of a stream.
+//! What is reported of a stream.
 
 ghost use Rattle.std.specs.Prelude.{◌≡◌};
 ghost use Rattle.amqp_dump.specs.Entries.{entry_of, is_fault};
@@ -32,14 +32,14 @@ pub struct ScannedFrame<'a> {
     pub payload: usize,
 }
 
-/// Why a stream is not read on.
+/// Why a stream is read no further.
 #[derive(Clone, Copy, Debug, PartialEq, Eq)]
 pub enum StreamFault {
     /// The first eight bytes are not the header of AMQP 1.0, or there are fewer.
     Header,
     /// The stream ends inside a frame.
     Cut,
-    /// A frame that is none.
+    /// The bytes at a frame's place are no frame.
     Frame(FrameFault),
     /// A body whose front spells no value, or none within the limits. The place in the fault counts from
     /// the first byte of the body.
@@ -47,7 +47,7 @@ pub enum StreamFault {
 }
 
 impl Scanned<'_> {
-    /// Whether the stream is not read on behind this.
+    /// Returns whether the stream is read no further after this.
     pub fn is_fault(&self) -> bool
         ensures { result ≡ is_fault (entry_of self.now) }
     {

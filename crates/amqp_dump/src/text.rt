@@ -1,8 +1,8 @@
 //! The text of values, as `dump` prints it.
 //!
-//! A value is printed from its bytes, which are known to spell one: of other bytes nothing is said. What a call
-//! answers are the bytes behind what it printed. Lines that wait stay as they are. Where memory was refused for some of
-//! the line, the parts of a value that are left are not gone through.
+//! A value is printed from its bytes, which are known to spell one; nothing is promised for other bytes. Each call
+//! returns the bytes after what it printed. Whole lines that wait are unchanged. If memory was refused for some of
+//! the line, the parts of a value that are left are not visited.
 
 ghost use Rattle.std.specs.Prelude.{◌≡◌, ◌≤◌, length};
 
@@ -13,7 +13,7 @@ use crate::page::Page;
 ///
 /// A value that holds no others is the name of its kind, a colon and its content: numbers are decimal,
 /// floats, decimals and binaries are lower-case hex, a char is eight hex digits, a uuid has its hyphenated
-/// form, and strings and symbols stand in quotes. Null, true and false have no name. A list is `[a, b]`, a
+/// form, and strings and symbols are in quotes. Null, true and false have no name. A list is `[a, b]`, a
 /// map `{k=v, k=v}`, an array `array:KIND[a, b]` with `@D ` before KIND for each descriptor D, outermost
 /// first, and a described value `@D(V)`.
 #[cycle(text)]
@@ -46,7 +46,7 @@ fn put_described<'a>(out: &mut Page, depth: usize, bytes: &'a [u8]) -> &'a [u8]
     rest
 }
 
-/// Appends the text of the value whose data stand behind the code. [1.6]
+/// Appends the text of the value whose data come after the code. [1.6]
 #[cycle(text)]
 fn put_data<'a>(out: &mut Page, depth: usize, code: u8, bytes: &'a [u8]) -> &'a [u8]
     ensures { out.new.whole ≡ out.old.whole }
@@ -57,7 +57,7 @@ fn put_data<'a>(out: &mut Page, depth: usize, code: u8, bytes: &'a [u8]) -> &'a 
     }
 }
 
-/// The same of a value that holds no others.
+/// Appends the text of a value that holds no others; its data come after the code.
 fn put_plain<'a>(out: &mut Page, code: u8, bytes: &'a [u8]) -> &'a [u8]
     ensures { out.new.whole ≡ out.old.whole }
 {
@@ -71,7 +71,7 @@ fn put_plain<'a>(out: &mut Page, code: u8, bytes: &'a [u8]) -> &'a [u8]
     }
 }
 
-/// How wide the data behind a code are, or their size where it differs. [1.2]
+/// Returns how many bytes the data after a code have, or their size field if that differs. [1.2]
 fn width_of(code: u8) -> usize {
     match code >> 4 {
         6 => 2,
@@ -82,7 +82,7 @@ fn width_of(code: u8) -> usize {
     }
 }
 
-/// Appends the text of a list, a map or an array, whose size and count have that width.
+/// Appends the text of a list, a map or an array, whose size and count have `width` bytes each.
 #[cycle(text)]
 fn put_parts<'a>(out: &mut Page, depth: usize, code: u8, width: usize, bytes: &'a [u8]) -> &'a [u8]
     ensures { out.new.whole ≡ out.old.whole }
@@ -136,7 +136,7 @@ fn put_array<'a>(out: &mut Page, depth: usize, count: usize, bytes: &'a [u8]) ->
     put_items(out, depth, Some(*code), count, items)
 }
 
-/// Appends `@D ` for each descriptor in front of an element constructor.
+/// Appends `@D ` for each descriptor before an element constructor.
 #[cycle(text)]
 fn put_descriptors<'a>(out: &mut Page, depth: usize, bytes: &'a [u8]) -> &'a [u8]
     ensures { out.new.whole ≡ out.old.whole }
@@ -153,7 +153,7 @@ fn put_descriptors<'a>(out: &mut Page, depth: usize, bytes: &'a [u8]) -> &'a [u8
     rest
 }
 
-/// Appends `[a, b]`. The items of an array have no codes of their own, but one for all.
+/// Appends `[a, b]`. The items of an array have no codes of their own: they share one.
 #[cycle(text)]
 fn put_items<'a>(
     out: &mut Page,
@@ -207,7 +207,7 @@ fn put_boolean<'a>(out: &mut Page, bytes: &'a [u8]) -> &'a [u8]
     rest
 }
 
-/// Appends the name of a value's kind, a colon and its content. Behind the code stand the data, or their size.
+/// Appends the name of a value's kind, a colon and its content. After the code come the data, or their size.
 #[inline(always)]
 fn put_scalar<'a>(out: &mut Page, code: u8, bytes: &'a [u8]) -> &'a [u8]
     ensures { out.new.whole ≡ out.old.whole }
@@ -250,7 +250,7 @@ fn put_kind(out: &mut Page, code: u8)
     out.put_front(name, len);
 }
 
-/// The name of the kind that a code makes, with a colon behind it, and how many bytes the name has. [1.6]
+/// Returns the name of the kind that a code makes, with a colon after it, and how many bytes the name has. [1.6]
 fn kind_of(code: u8) -> (&'static [u8; 16], usize) {
     match code {
         0x40 => (b"null:           ", 4),
@@ -281,7 +281,7 @@ fn kind_of(code: u8) -> (&'static [u8; 16], usize) {
     }
 }
 
-/// So many bytes at the front, or all where there are fewer, and those behind them.
+/// Returns the first `n` bytes, or all if there are fewer, and the bytes after them.
 fn front(bytes: &[u8], n: usize) -> (&[u8], &[u8])
     ensures { length result.0.now ≤ n }
 {

@@ -1,4 +1,4 @@
--- What becomes of a unit that is acted upon, line by line.
+-- What a unit that is acted upon results in, line by line.
 use Rattle.std.specs.Prelude.{◌≡◌, ℕ, Bool, true, false, nat_lt, List, [], ◌∷◌, ◌++◌, Option, Some, None, Result, Ok, Err}
 use Rattle.amqp_perform.specs.declared.condition.Condition.{Condition}
 use Rattle.amqp_perform.specs.declared.performative.Performative.{Performative}
@@ -24,13 +24,13 @@ use Rattle.amqp_perform.specs.Conditions.{condition_span}
 use Rattle.amqp_endpoint.specs.Lines.{Line, event_on, told_on, may_grow_on}
 use Rattle.amqp_endpoint.specs.Replies.{reply_on, joined, on_channel, end_said}
 
--- the connection, its output and what is told are those of this line
+-- the connection, its output and the event are those of this line
 pub record IsDone (old new : ConnectionState) (before after : List ℕ) (line : Line) (event : Option Event) : Type 0 where
   pub connection : new ≡ connection_after old (event_on old line)
   pub unsent : after ≡ before ++ reply_on old line
   pub told : event ≡ told_on old line
 
--- memory was refused where this line may want it, and nothing has changed
+-- memory was refused, which this line may need, and nothing has changed
 pub record IsWithout (old new : ConnectionState) (before after : List ℕ) (line : Line) : Type 0 where
   pub connection : new ≡ old
   pub unsent : after ≡ before
@@ -42,13 +42,13 @@ HasDone old new before after line (Err e) = IsWithout old new before after line
 
 -- Frames of sessions. -------------------------------------------------------------------------------------------------
 
--- the session there may be given the performative
+-- a session is live there, and the performative may be passed to it
 abbrev pub TakesIn : Slot SessionState → Performative → Type 0
 TakesIn Free p = ⊥
 TakesIn (Live s) p = IsWithin s.terms.handle_max p
 TakesIn Waits p = ⊥
 
--- a session lives there
+-- a session is live there
 abbrev pub IsLive : Slot SessionState → Type 0
 IsLive Free = ⊥
 IsLive (Live s) = Unit {0}
@@ -64,7 +64,7 @@ abbrev pub is_above_handle_max : Slot SessionState → Performative → Bool
 is_above_handle_max (Live s) (performative.Attach p) = nat_lt s.terms.handle_max p.handle
 is_above_handle_max _ p = false
 
--- What is written for the answer to a performative that its session has taken: an attach that is accepted is answered by an attach, one that is refused by an attach and a detach. [2.6.3]
+-- What is written for the answer to a performative that its session has taken: for an accepted attach an attach, for a refused one an attach and a detach. [2.6.3]
 abbrev pub attach_answered : Attaching → Answer → List Said
 attach_answered a answer.Attach = attach_said a.bounds.max_message_size a ∷ []
 attach_answered a (answer.Refusal d) = refusal_said a ∷ said (performative.Detach d) ∷ []
@@ -74,7 +74,7 @@ abbrev pub replied : Configured → Performative → Answer → List Said
 replied config (performative.Attach p) x = attach_answered (attaching p (bounds_for config p.name.now)) x
 replied config p x = said_by x
 
--- the condition with which a session ends that refuses a frame; none where it was refused memory, which ends nothing
+-- the condition with which a session ends that refuses a frame; None if memory was refused, which ends nothing
 abbrev pub ending : SessionFault → Option Condition
 ending fault.NoMemory = None
 ending e = Some (session_condition e)
@@ -86,7 +86,7 @@ pub record IsFramed (old new : ConnectionState) (channel : ℕ) (s : SessionStat
   pub report : done.report ≡ report_of s f
   pub answer : answer_of s f ≡ answer_said s.terms f done.answer
 
--- or refused it, and nothing has changed
+-- the session refused a frame, and nothing has changed
 pub record IsUnframed (old new : ConnectionState) (s : SessionState) (f : Frame) (e : SessionFault) : Type 0 where
   pub refused : IsRefusal s f e
   pub same : new ≡ old
@@ -95,7 +95,7 @@ abbrev pub FrameDone : ConnectionState → ConnectionState → ℕ → SessionSt
 FrameDone old new channel s f (Ok done) = IsFramed old new channel s f done
 FrameDone old new channel s f (Err e) = IsUnframed old new s f e
 
--- a frame that the session on a channel refused ends it, or memory was refused and nothing has changed
+-- a frame that the session refused ended it, or memory was refused and nothing has changed
 abbrev pub IsRefused : {E : Type 0} → ConnectionState → ConnectionState → List ℕ → List ℕ → ℕ → SessionFault → Result (Option Event) E → Type 0
 IsRefused old new before after channel e (Err x) = (ending e ≡ None) × (new ≡ old) × (after ≡ before)
 IsRefused old new before after channel e (Ok told) =

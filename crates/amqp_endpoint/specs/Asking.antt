@@ -1,4 +1,4 @@
--- What becomes of a call for a session, seen from the session, from its place, and from the connection with its output.
+-- What a call for a session results in, seen from the session, from its place, and from the connection with its output.
 use Rattle.std.specs.Prelude.{◌≡◌, ℕ, List, [], ◌∷◌, ◌++◌, Some, None, Result, Ok, Err}
 use Rattle.amqp_link.specs.declared.link.Taken.{Taken}
 use Rattle.amqp_session.specs.declared.fault.CallFault as session_fault
@@ -26,19 +26,20 @@ asked_of (request.Drain handle) = session.Drain handle
 asked_of (request.Settle first last outcome) = session.SettleRange first last outcome
 asked_of (request.Detach handle) = session.Detach handle
 
--- the number that an answer gives, if it gives one
+-- the number that an answer has, if it has one
 abbrev pub IsCounted : Answer → ℕ → Type 0
 IsCounted (Dropped n) count = count ≡ n
 IsCounted (Named n) count = count ≡ n
 IsCounted answer count = Unit {0}
 
--- The answer of a session to a call, with what is said for it.
+-- The answer of a session to a call, with what is written for it.
 abbrev pub SessionAsked : SessionState → SessionState → session.Call → Result Asked session_fault.CallFault → Type 0
 SessionAsked old new c (Ok x) =
     (session.call_fault old c ≡ None) × (new ≡ session_after old (session.call_event old c)) × (session.call_answer old c ≡ said_of x.saying ∷ []) × IsCounted (session_answer old c) x.count
 SessionAsked old new c (Err e) = (session.call_fault old c ≡ Some e) × (new ≡ old)
 
--- The answer to a call for the session on a channel, with what was and is unsent. A refused call changes nothing.
+-- The answer to a call for the session on a channel, with the bytes that waited before and after it. A refused call
+-- changes nothing.
 abbrev pub CallAnswered : {X : Type 0} → ConnectionState → ConnectionState → List ℕ → List ℕ → ℕ → session.Call → Result X CallFault → Type 0
 CallAnswered old new before after channel c (Ok x) =
     (call_fault old before channel c ≡ None) × (new ≡ connection_after old (call_event old channel c)) × (after ≡ before ++ joined (call_spoken old channel c))

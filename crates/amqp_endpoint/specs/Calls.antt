@@ -1,4 +1,4 @@
--- What a connection does with a call of its application: why it is refused, or the event that it is, and what it writes.
+-- What a connection does with a call of its application: why it is refused, or which event it is, and what it writes.
 use Rattle.std.specs.Prelude.{ℕ, ◌+◌, Bool, true, false, not, ◌||◌, nat_lt, if◌then◌else◌, List, [], ◌∷◌, length, Option, Some, None}
 use Rattle.amqp_session.specs.declared.fault.CallFault as session_fault
 use Rattle.amqp_session.specs.declared.fault.CallFault.TheVariants as of_session
@@ -14,14 +14,14 @@ use Rattle.amqp_endpoint.specs.Connections as event
 use Rattle.amqp_endpoint.specs.Connections.{ConnectionState, ConnectionEvent, slot_at, is_unopened, is_closing, is_dead}
 use Rattle.amqp_endpoint.specs.Replies.{Spoken, on_channel, aloud, close_said}
 
--- how many bytes the output holds at most, and how many have to be free before something is written
+-- the most bytes that the output holds, and how many have to be free before something is written
 abbrev pub output_size : ℕ
 output_size = 8192
 
 abbrev pub reply_room : ℕ
 reply_room = 2560
 
--- there is room for what is written next
+-- the output has room for what is written next
 abbrev pub has_room : List ℕ → Bool
 has_room unsent = not (nat_lt output_size (length unsent + reply_room))
 
@@ -51,13 +51,13 @@ abbrev pub of_option : Option session_fault.CallFault → Option CallFault
 of_option None = None
 of_option (Some fault) = Some (fault_of_session fault)
 
--- the fault of a call for the session on a channel, where one is live there
+-- the fault of a call for the session on a channel; NoSession if none is live there
 abbrev pub at_session : Slot SessionState → session.Call → Option CallFault
 at_session Free call = Some refused.NoSession
 at_session (Live s) call = of_option (session.call_fault s call)
 at_session Waits call = Some refused.NoSession
 
--- a take writes nothing, so it is never refused for want of room
+-- a take writes nothing, so it is never refused for lack of room
 abbrev pub writes : session.Call → Bool
 writes (Take handle) = false
 writes _ = true

@@ -1,4 +1,4 @@
--- What an endpoint is set up with, and within which ranges.
+-- What an endpoint is set up with, and the ranges of that.
 use Rattle.std.specs.Prelude.{ℕ, ◌^◌, ◌<◌, ◌≤◌, ◌==◌, if◌then◌else◌, List, length, Option, Some, None}
 use Rattle.amqp_link.specs.Bounds.{Bounds, IsBounded}
 use Rattle.amqp_endpoint.specs.Limits.{Limit, longest, bounds_in}
@@ -8,12 +8,12 @@ pub record Configured : Type 0 where
   pub max_frame : ℕ  -- the longest frame that is accepted, in bytes
   pub channel_max : ℕ  -- the highest channel that is offered
   pub handle_max : ℕ  -- the highest handle that is offered [2.7.2]
-  pub bounds : Bounds  -- what each link may keep whose name begins with no prefix of the limits
-  pub limits : List Limit  -- and what others may
+  pub bounds : Bounds  -- what each link whose name begins with no prefix of the limits may hold
+  pub limits : List Limit  -- what other links may hold
   pub window : ℕ  -- the places of a session's incoming window at its begin [2.5.6]
   pub idle_time_out : Option ℕ  -- the idle-time-out that the open announces, in milliseconds [2.4.5]
 
--- the ranges that are not those of a type
+-- the ranges that the types do not give
 pub record IsConfigured (container_id : List ℕ) (max_frame window : ℕ) : Type 0 where
   pub some_name : 1 ≤ length container_id
   pub most_name : length container_id ≤ 255
@@ -25,11 +25,11 @@ pub record IsConfigured (container_id : List ℕ) (max_frame window : ℕ) : Typ
 abbrev pub time_out : ℕ → Option ℕ
 time_out milliseconds = if milliseconds == 0 then None else Some milliseconds
 
--- what a link of this name may keep
+-- what a link of this name may hold
 abbrev pub bounds_for : Configured → List ℕ → Bounds
 bounds_for config name = bounds_in config.bounds (longest name config.limits)
 
--- what can be asked for
+-- what can be requested
 pub record MayBeConfigured (container_id : List ℕ) (max_frame channel_max handle_max allowed max_message window : ℕ) : Type 0 where
   pub configured : IsConfigured container_id max_frame window
   pub channels : channel_max ≤ 255

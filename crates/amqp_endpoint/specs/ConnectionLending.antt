@@ -1,4 +1,4 @@
--- What a connection ends as, once the session that it lent has ended.
+-- What a connection is once the loan of a session has ended.
 use Rattle.std.specs.Prelude.{ℕ, Option, slice_set}
 use Rattle.std.specs.declared.alloc.Allocator.{Ghosts}
 use Rattle.std.specs.Borrow.{LendsIf, MutBor, Fml, RattleType}

@@ -9,15 +9,15 @@ use Rattle.amqp_endpoint.specs.declared.phase.Phase.{Phase}
 use Rattle.amqp_endpoint.specs.declared.phase.Phase.TheVariants as phase
 use Rattle.amqp_endpoint.specs.Configs.{Configured, bounds_for}
 
--- A connection. Its sessions stand in the order of their channels, from 0 to the highest that is offered.
+-- A connection. Its sessions are in the order of their channels, from 0 to the highest that is offered.
 pub record ConnectionState : Type 0 where
   pub config : Configured
   pub phase : Phase
-  pub failed : Bool  -- this side ended it with an error, or refused its header
+  pub failed : Bool  -- this side ended the connection with an error, or refused its header
   pub closed : Bool  -- the peer's close came
   pub sessions : List (Slot SessionState)
 
--- the number of its channels
+-- the number of channels of a connection
 abbrev pub channels : Configured → ℕ
 channels config = suc config.channel_max
 
@@ -25,14 +25,14 @@ channels config = suc config.channel_max
 abbrev pub connection_begins : Configured → ConnectionState
 connection_begins config = record { config = config; phase = phase.Unopened; failed = false; closed = false; sessions = tabulate 0 (channels config) (λ k. Free) }
 
--- what stands at a channel; nothing at one above the highest
+-- what is at a channel; Free above the highest
 abbrev pub slot_at : ConnectionState → ℕ → Slot SessionState
 slot_at s channel = unwrap_or (slice_get s.sessions channel) Free
 
 abbrev pub lesser : ℕ → ℕ → ℕ
 lesser a b = if nat_le a b then a else b
 
--- the highest channel on which frames are taken: that of the open, before it only 0 [2.4.1]
+-- the highest channel on which frames are taken: the one that the opens fix, and 0 before and after [2.4.1]
 abbrev pub channel_limit : Phase → ℕ
 channel_limit phase.Unopened = 0
 channel_limit (phase.Open max_frame_size channel_max) = channel_max
@@ -57,7 +57,7 @@ is_dead _ = false
 
 -- Numbers of all sessions. --------------------------------------------------------------------------------------------
 
--- 64 for a session that waits for the peer's end; else what it holds
+-- 64 for a session that waits for the peer's end; for a live one what it holds
 abbrev pub channel_bytes : Slot SessionState → ℕ
 channel_bytes Free = 0
 channel_bytes (Live s) = session_bytes s
@@ -66,7 +66,7 @@ channel_bytes Waits = 64
 abbrev pub connection_bytes : ConnectionState → ℕ
 connection_bytes s = sum_by channel_bytes s.sessions
 
--- whole deliveries that are dropped with a session: those that are ready
+-- how many whole deliveries are dropped with a session: those that are ready
 abbrev pub channel_ready : Slot SessionState → ℕ
 channel_ready Free = 0
 channel_ready (Live s) = session_ready s
@@ -79,21 +79,21 @@ connection_ready s = sum_by channel_ready s.sessions
 
 pub data ConnectionEvent : Type 0 where
   HeaderCame : ConnectionEvent  -- the acceptable header
-  HeaderRefused : ConnectionEvent  -- another
-  Opened : ℕ → ℕ → ConnectionEvent  -- the peer opened it, with this max-frame-size; the highest channel is this
-  Broken : ConnectionEvent  -- a frame that is none, which this side answers by closing with an error
-  Failed : ConnectionEvent  -- this side closed it with an error
-  CloseAsked : ConnectionEvent  -- the application closed it
+  HeaderRefused : ConnectionEvent  -- another header
+  Opened : ℕ → ℕ → ConnectionEvent  -- the peer opened the connection, with this max-frame-size; the highest channel is this
+  Broken : ConnectionEvent  -- a malformed frame, which this side answers by a close with an error
+  Failed : ConnectionEvent  -- this side closed the connection with an error
+  CloseAsked : ConnectionEvent  -- the application closed the connection
   PeerClosed : ConnectionEvent  -- the peer's close, first or in answer
-  Lost : ConnectionEvent  -- a frame that is none, while the peer's close was awaited
+  Lost : ConnectionEvent  -- a malformed frame, while the peer's close was awaited
   Begun : ℕ → SessionTerms → ConnectionEvent  -- a session began on this channel
   InSession : ℕ → SessionEvent → ConnectionEvent  -- something happened to the session on this channel
-  SessionFailed : ℕ → ConnectionEvent  -- this side ended it with an error
-  SessionEnded : ℕ → ConnectionEvent  -- the peer's end of it, first or in answer
-  Ignored : ConnectionEvent  -- a frame that says nothing here
+  SessionFailed : ℕ → ConnectionEvent  -- this side ended the session on this channel with an error
+  SessionEnded : ℕ → ConnectionEvent  -- the peer's end of the session on this channel, first or in answer
+  Ignored : ConnectionEvent  -- a frame that changes nothing
   Finished : ConnectionEvent  -- the input ended
 
--- what of it happens at the channels
+-- what happens at the channels with an event
 abbrev pub happens : ConnectionEvent → Happens SessionTerms SessionEvent
 happens (Begun channel terms) = Begins channel terms
 happens (InSession channel e) = GoesOn channel e
@@ -108,7 +108,7 @@ happens Lost = AllGone
 happens Finished = AllGone
 happens e = Nothing
 
--- it ends the connection for good [2.4.6]
+-- the event ends the connection for good [2.4.6]
 abbrev pub is_end : ConnectionEvent → Bool
 is_end HeaderRefused = true
 is_end Broken = true
@@ -123,7 +123,7 @@ is_own_close Failed = true
 is_own_close CloseAsked = true
 is_own_close e = false
 
--- it ends the connection with an error of this side, or at its header
+-- the event ends the connection with an error of this side, or at its header
 abbrev pub is_failure : ConnectionEvent → Bool
 is_failure HeaderRefused = true
 is_failure Broken = true
@@ -159,7 +159,7 @@ pub record MayBeginWith (config : Configured) (terms : SessionTerms) : Type 0 wh
   pub first : terms.next_outgoing_id < 2 ^ 32
   pub handles : terms.handle_max ≤ config.handle_max
 
--- in which phase it may come
+-- in which phase an event may come
 abbrev pub IsTimely : Phase → ConnectionEvent → Type 0
 IsTimely p HeaderCame = is_dead p ≡ false
 IsTimely p HeaderRefused = is_dead p ≡ false
@@ -181,7 +181,7 @@ abbrev pub IsOffered : Configured → ConnectionEvent → Type 0
 IsOffered config (Opened max_frame_size channel_max) = channel_max ≤ config.channel_max
 IsOffered config e = Unit {0}
 
--- a link begins with what one of its name may keep [2.6.3]
+-- a link begins with the bounds of its name [2.6.3]
 abbrev pub HasBounds : Configured → Attached → Type 0
 HasBounds config a = a.terms.bounds ≡ bounds_for config a.name
 
@@ -189,7 +189,7 @@ abbrev pub IsLimited : Configured → SessionEvent → Type 0
 IsLimited config (LinkAttached handle a) = HasBounds config a
 IsLimited config e = Unit {0}
 
--- it may happen to a session of this connection
+-- the event may happen to a session of this connection
 abbrev pub MayIn : Configured → SessionState → SessionEvent → Type 0
 MayIn config s e = SessionMay s e × IsLimited config e
 

@@ -7,7 +7,7 @@ use Rattle.amqp_endpoint.specs.Connections.{ConnectionState, ConnectionEvent, In
 use Rattle.amqp_endpoint.specs.Runs.{Happened, Called}
 use Rattle.amqp_endpoint.specs.Takings.{attaches_on, link_at}
 
--- the credit of the link at a handle of the session on a channel; none where no link lives there
+-- the credit of the link at a handle of the session on a channel; 0 if no link is live there
 abbrev pub credit_on : ConnectionState → ℕ → ℕ → ℕ
 credit_on s channel handle = credit_in (link_at s channel handle)
 
@@ -16,7 +16,7 @@ abbrev pub granted_by : ℕ → session.Call → ℕ
 granted_by handle (Grant place n) = if nat_eq place handle then n else 0
 granted_by handle c = 0
 
--- what an entry of the history grants there: an accepted grant alone does
+-- what an entry of the history grants there: only an accepted grant grants credit
 abbrev pub granted_to : ℕ → ℕ → Happened → ℕ
 granted_to channel handle (Called place c) = if nat_eq place channel then granted_by handle c else 0
 granted_to channel handle x = 0

@@ -1,4 +1,4 @@
--- What is kept true of an endpoint, what is shown of it, and which call and answer of a run a call and an answer in hand are.
+-- What always holds for an endpoint, what is shown of it, and which call and answer of `specs/Runs.antt` a call and an answer of the code are.
 use Rattle.std.specs.Prelude.{◌≡◌, ℕ, ◌≤◌, true, false, List, [], Option, None, Result, Ok, Err}
 use Rattle.amqp_frame.specs.Splits.{SplitterState, Waits, IsHeld, IsOver}
 use Rattle.amqp_frame.specs.Units.{StreamUnit}
@@ -25,9 +25,9 @@ use Rattle.amqp_endpoint.specs.Lines.{line_of, may_grow_on}
 use Rattle.amqp_endpoint.specs.Runs.{Call, Feed, InSession, Close, Heartbeat, Output, Held, Finish, Answer, Fed, Accepted, Dropped, Named, Handed, HandedUp, Refused, MovedOut, Holds, Ended, Run, IsStart}
 use Rattle.amqp_endpoint.specs.Steps.{EndpointState, room_for}
 
--- What is kept true. --------------------------------------------------------------------------------------------------
+-- What always holds. --------------------------------------------------------------------------------------------------
 
--- before its header nothing was written, and no session has begun
+-- before the header nothing was written, and no session has begun
 pub record IsFresh (unsent : List ℕ) (s : ConnectionState) : Type 0 where
   pub none : unsent ≡ []
   pub shut : is_open s.phase ≡ false
@@ -39,7 +39,7 @@ pub record IsEndpoint (input : SplitterState) (unsent : List ℕ) (s : Connectio
   pub least : 8 ≤ input.limit
   pub most : input.limit ≤ 1048576
   pub held : IsHeld input.limit input.stage input.filled
-  -- the connection is over once a unit that ends the stream went by
+  -- the connection is over once a unit that ends the stream was acted upon
   pub over : IsOver input.stage → is_dead s.phase ≡ true
   pub fresh : input.stage ≡ due.Header → IsFresh unsent s
 
@@ -58,7 +58,7 @@ HasActed input old new before after acted.NoMemory = (u : StreamUnit) × Waits i
 
 -- What is shown. ------------------------------------------------------------------------------------------------------
 
--- the link at a handle of the session on a channel; none where no session is live there
+-- a view of the link at a handle of the session on a channel; None if no session is live there
 abbrev pub IsLinkAt : Slot SessionState → ℕ → Option LinkView → Type 0
 IsLinkAt Free handle view = view ≡ None
 IsLinkAt (Live s) handle view = IsViewAt (session.slot_at s handle) view
@@ -102,7 +102,8 @@ answer_of (answer.MovedOut bytes) = MovedOut bytes.items
 answer_of (answer.Holds n) = Holds n
 answer_of (answer.Ended end) = Ended end
 
--- the answer of a call that gives nothing, of one that gives how many ready deliveries were dropped, of one that gives how many it named, and of a take
+-- The answer to a call that returns nothing, to one that returns how many ready deliveries were dropped, to one that returns how many it named, and to
+-- a take.
 abbrev pub accepted_by : {X : Type 0} → Result X CallFault → Answer
 accepted_by (Ok x) = Accepted
 accepted_by (Err fault) = Refused fault

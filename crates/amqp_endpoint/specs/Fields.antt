@@ -16,7 +16,7 @@ use Rattle.amqp_perform.specs.Cells.{Cell, Bytes, number_in, whole_in, flag_in, 
 use Rattle.amqp_session.specs.Frames.{Frame, Attaches, Flows, Transfers, Disposes, Detaches, frame_of}
 use Rattle.amqp_endpoint.specs.Configs.{Configured, bounds_for}
 
--- What stands in a field. --------------------------------------------------------------------------------------------
+-- What is in a field. ------------------------------------------------------------------------------------------------
 
 -- the bytes of a binary or a text, or none
 abbrev pub octets_in : Cell → Option (List ℕ)
@@ -41,7 +41,8 @@ receiver_mode_in (Some n) = Some (receiver_mode_of n)
 
 -- What the connection reads. -----------------------------------------------------------------------------------------
 
--- An open of the peer. Its idle-time-out is ignored, as are its hostname, locales, capabilities and properties: no time is promised. [2.7.1]
+-- An open of the peer. Its idle-time-out is ignored, since no time is promised; so are its hostname, locales, capabilities and properties.
+-- [2.7.1]
 pub record Opening : Type 0 where
   pub max_frame_size : ℕ
   pub channel_max : ℕ
@@ -72,7 +73,7 @@ begin_in _ = Other
 
 -- What a session reads. ----------------------------------------------------------------------------------------------
 
--- an attach, with what its link may keep
+-- an attach, with what its link may hold
 abbrev pub attach_in : Configured → List Cell → Read
 attach_in config (name ∷ handle ∷ role ∷ snd_settle_mode ∷ rcv_settle_mode ∷ source ∷ target ∷ unsettled ∷ incomplete ∷ initial_delivery_count ∷ rest) =
     ForSession (Attaches (record {
@@ -116,7 +117,7 @@ abbrev pub detach_in : List Cell → Read
 detach_in (handle ∷ closed ∷ rest) = ForSession (Detaches (whole_in handle) (flag_in closed))
 detach_in _ = Other
 
--- the performative of a type with these fields, and the payload behind it, to a side that is set up so
+-- what a performative of this type with these fields and the payload after it says to a side with this configuration
 abbrev pub read_in : Configured → Descriptor → List Cell → List ℕ → Read
 read_in config of_type.Open cells payload = open_in cells
 read_in config of_type.Begin cells payload = begin_in cells
@@ -129,14 +130,14 @@ read_in config of_type.End cells payload = Ends
 read_in config of_type.Close cells payload = Closes
 read_in config _ cells payload = Other
 
--- what an open and a begin in hand say
+-- what an open and a begin say
 abbrev pub opening : Open → Opening
 opening p = record { max_frame_size = p.max_frame_size; channel_max = p.channel_max }
 
 abbrev pub beginning : Begin → Beginning
 beginning p = record { remote_channel = p.remote_channel; next_outgoing_id = p.next_outgoing_id; handle_max = p.handle_max }
 
--- what a performative in hand says, with the payload behind it
+-- what a performative says, with the payload after it
 abbrev pub for_session : Option Frame → Read
 for_session None = Other
 for_session (Some f) = ForSession f
@@ -146,7 +147,7 @@ abbrev pub named : Performative → List ℕ
 named (performative.Attach p) = p.name.now
 named _ = []
 
--- what it is to its session
+-- which frame of its session a performative is
 abbrev pub frame_in : Configured → Performative → List ℕ → Option Frame
 frame_in config p payload = frame_of p payload (bounds_for config (named p))
 

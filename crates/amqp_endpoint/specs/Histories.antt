@@ -1,4 +1,4 @@
--- The history of one connection: a list of its events, newest first, and what stands in it, by selections over the whole list and by the part of it that each
+-- The history of one connection: a list of its events, newest first. Its state follows by selections over the whole list and from the part of it that each
 -- session has (AMQP 1.0, part 2, sections 2.4 and 2.5).
 use Rattle.std.specs.Prelude.{◌≡◌, ℕ, ◌≤◌, false, if◌then◌else◌, List, [], ◌∷◌, Option, None, is_some, unwrap_or}
 use Rattle.std.specs.List.{list_any}
@@ -24,7 +24,7 @@ opening_in (e ∷ h) = if is_some (opened_by e) then opened_by e else opening_in
 abbrev pub phase_of : List ConnectionEvent → Phase
 phase_of h = if list_any is_end h then phase.Dead else (if list_any is_own_close h then phase.Closing else unwrap_or (opening_in h) phase.Unopened)
 
--- The part of the history that the session now on a channel has: what it began with and its events, newest first. None is left of a session that is gone.
+-- The part of the history that the session now on a channel has: what it began with and its events, newest first. A session that is gone has none.
 abbrev pub part : ℕ → List ConnectionEvent → Slot (Life SessionTerms SessionEvent)
 part channel [] = Free
 part channel (e ∷ h) = life_after channel (happens e) (part channel h)
@@ -38,20 +38,20 @@ state_of config h = record {
   sessions = states lived.state_of (channels config) (λ channel. part channel h);
 }
 
--- what holds of each part
+-- what holds for each part
 pub record IsSoundPart (config : Configured) (terms : SessionTerms) (h : List SessionEvent) : Type 0 where
   pub begun : MayBeginWith config terms
   pub session : lived.Sound terms h
   -- every live link has the bounds of its name
   pub limited : (handle : ℕ) → IfLive (λ (life : Life Attached LinkEvent). HasBounds config life.0) (lived.part handle h)
 
--- what holds of every history of accepted events
+-- what holds for every history of accepted events
 pub record Sound (config : Configured) (h : List ConnectionEvent) : Type 0 where
   -- the highest channel is at most the one that is offered
   pub limit : channel_limit (phase_of h) ≤ config.channel_max
   -- every live session is sound
   pub sessions : AreSound (IsSoundPart config) (channels config) (λ channel. part channel h)
-  -- sessions stand while the connection is open
+  -- there are sessions only while the connection is open
   pub none : is_open (phase_of h) ≡ false → (channel : ℕ) → part channel h ≡ Free
 
 -- the connection after all these events, step by step
@@ -59,7 +59,7 @@ abbrev pub after_all : Configured → List ConnectionEvent → ConnectionState
 after_all config [] = connection_begins config
 after_all config (e ∷ h) = connection_after (after_all config h) e
 
--- each of them was accepted
+-- each event was accepted
 abbrev pub Accepted : Configured → List ConnectionEvent → Type 0
 Accepted config [] = Unit {0}
 Accepted config (e ∷ h) = Accepted config h × ConnectionMay (after_all config h) e

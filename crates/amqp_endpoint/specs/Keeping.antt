@@ -1,4 +1,4 @@
--- How a connection is kept: a place for each channel that is offered.
+-- How a connection is stored: a place for each channel that is offered.
 use Rattle.std.specs.Prelude.{◌≡◌, ◌<◌, ◌≤◌, Bool, List, length}
 use Rattle.amqp_session.specs.declared.slot.Slot.{Slot}
 use Rattle.amqp_session.specs.Sessions.{SessionState}

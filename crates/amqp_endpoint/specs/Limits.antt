@@ -1,10 +1,10 @@
--- What links may keep, by the bytes with which their names begin.
+-- What links may hold, by the bytes with which their names begin.
 use Rattle.std.specs.Prelude.{◌≡◌, ℕ, ◌<◌, ◌≤◌, Bool, true, false, nat_lt, bytes_eq, if◌then◌else◌, List, [], ◌∷◌, length, take, Option, Some, None, slice_get}
 use Rattle.amqp_link.specs.Bounds.{Bounds, IsBounded}
 use Rattle.amqp_endpoint.specs.declared.limits.LimitFault.{LimitFault}
 use Rattle.amqp_endpoint.specs.declared.limits.LimitFault.TheVariants as fault
 
--- what each link may keep whose name begins with these bytes
+-- what each link whose name begins with these bytes may hold
 pub record Limit : Type 0 where
   pub prefix : List ℕ
   pub bounds : Bounds
@@ -14,17 +14,17 @@ pub record Limit : Type 0 where
 abbrev pub begins_with : List ℕ → List ℕ → Bool
 begins_with prefix name = bytes_eq prefix (take (length prefix) name)
 
--- of two the one of the longer prefix, of two as long the first
+-- of two limits the one with the longer prefix, or the first if both are equally long
 abbrev pub longer : Option Limit → Option Limit → Option Limit
 longer None o = o
 longer (Some r) None = Some r
 longer (Some r) (Some q) = if nat_lt (length r.prefix) (length q.prefix) then Some q else Some r
 
--- a limit, for a name that begins with its prefix
+-- the limit, if the name begins with its prefix
 abbrev pub matching : List ℕ → Limit → Option Limit
 matching name r = if begins_with r.prefix name then Some r else None
 
--- That of the longest prefix with which the name begins. `IsLongest` says so of the whole table.
+-- The limit with the longest prefix with which the name begins. `IsLongest` says so of the whole table.
 abbrev pub longest : List ℕ → List Limit → Option Limit
 longest name [] = None
 longest name (r ∷ rows) = longer (matching name r) (longest name rows)
@@ -34,13 +34,14 @@ abbrev pub bounds_in : Bounds → Option Limit → Bounds
 bounds_in otherwise None = otherwise
 bounds_in otherwise (Some r) = r.bounds
 
--- no limit of the table has a longer prefix with which the name begins
+-- the limit is in the table, the name begins with its prefix, and no limit of the table has a longer prefix with which the name
+-- begins
 pub record IsLongest (name : List ℕ) (rows : List Limit) (r : Limit) : Type 0 where
   pub begins : begins_with r.prefix name ≡ true
   pub stands : (i : ℕ) × (slice_get rows i ≡ Some r)
   pub most : (i : ℕ) (q : Limit) → slice_get rows i ≡ Some q → begins_with q.prefix name ≡ true → length q.prefix ≤ length r.prefix
 
--- which one is found: the longest, or none where the name begins with no prefix of the table
+-- which limit is found: the longest, or none if the name begins with no prefix of the table
 abbrev pub IsLimitOf : List ℕ → List Limit → Option Limit → Type 0
 IsLimitOf name rows None = (i : ℕ) (q : Limit) → slice_get rows i ≡ Some q → begins_with q.prefix name ≡ false
 IsLimitOf name rows (Some r) = IsLongest name rows r
@@ -57,11 +58,12 @@ pub record IsGood (r : Limit) : Type 0 where
 abbrev pub IsRepeated : List Limit → ℕ → Limit → Type 0
 IsRepeated rows i r = (j : ℕ) × (j < i) × ((q : Limit) × (slice_get rows j ≡ Some q) × (q.prefix ≡ r.prefix))
 
--- the first n are good, and no two of them have one prefix
+-- the first n are good, and no two of them have the same prefix
 abbrev pub AreFine : List Limit → ℕ → Type 0
 AreFine rows n = (i : ℕ) (r : Limit) → i < n → slice_get rows i ≡ Some r → IsGood r × (IsRepeated rows i r → ⊥)
 
--- the first fault of a table: more than 16 limits, or, by rising limit, one out of its ranges, or with the prefix of one before it
+-- The first fault of a table: more than 16 limits; or else, by rising limit, one outside its ranges, or with the prefix of an
+-- earlier one.
 abbrev pub IsFault : List Limit → LimitFault → Type 0
 IsFault rows fault.TooMany = 16 < length rows
 IsFault rows (fault.BadRow i) = (length rows ≤ 16) × AreFine rows i × ((r : Limit) × (slice_get rows i ≡ Some r) × (IsGood r → ⊥))

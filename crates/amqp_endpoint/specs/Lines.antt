@@ -1,4 +1,5 @@
--- What a whole unit comes to on a connection: the first line of a table that holds, and from it the fault, the event, what is told and what is written (AMQP 1.0, part 2, sections 2.2 to 2.7).
+-- What a whole unit results in on a connection (AMQP 1.0, part 2, sections 2.2 to 2.7): the first line of a table that applies. That gives the fault, the event, what is reported and what is
+-- written.
 use Rattle.std.specs.Prelude.{ℕ, Bool, true, false, nat_lt, if◌then◌else◌, List, [], ◌∷◌, Option, Some, None, is_some, bytes_eq}
 use Rattle.amqp_frame.specs.declared.units.TheConstants.{HEADER}
 use Rattle.amqp_frame.specs.Units.{StreamUnit, HeaderUnit, FrameUnit, FaultUnit, channel_of, body_of}
@@ -31,24 +32,24 @@ use Rattle.amqp_endpoint.specs.Fields.{Opening, Beginning, Read, Opens, Begins, 
 
 -- The table. ----------------------------------------------------------------------------------------------------------
 
--- What a unit comes to. `line_of` below says which; docs/PROTOCOL.md has the lines as a table, in the order in which they are looked for.
+-- What a unit results in. `line_of` below says which; docs/PROTOCOL.md has the lines as a table, in the order in which they are checked.
 pub data Line : Type 0 where
   HeaderAccepted : Line  -- the header of this version [2.2]
-  HeaderUnknown : Line  -- another
+  HeaderUnknown : Line  -- another header
   FrameBad : Line  -- a malformed frame, unless the peer's close is awaited: amqp:connection:framing-error [2.3.1]
-  FrameBadInClosing : Line  -- the same, while the peer's close is awaited
+  FrameBadInClosing : Line  -- a malformed frame, while the peer's close is awaited
   CloseAwaited : Line  -- the peer's close, while it is awaited [2.4.3]
-  DroppedInClosing : Line  -- anything else then
+  DroppedInClosing : Line  -- anything else while the peer's close is awaited
   ChannelTooHigh : Line  -- a body on a channel above the limit: amqp:connection:framing-error [2.4.1]
   BodyEmpty : Line  -- a frame without body [2.4.5]
-  BodyMisspelt : Line  -- its value is misspelt or too deep: amqp:decode-error
-  BodyInvalid : Line  -- it is no performative, or one with a field that is missing or invalid: amqp:invalid-field [2.7]
+  BodyMisspelt : Line  -- the value of a body is wrongly encoded or too deep: amqp:decode-error
+  BodyInvalid : Line  -- a body that is no performative, or one with a field that is missing or invalid: amqp:invalid-field [2.7]
   OpenMissing : Line  -- something else before the peer's open: amqp:illegal-state [2.4.1]
   OpenAgain : Line  -- a second open: amqp:illegal-state
   PeerOpens : Opening → Line  -- the peer's open
   PeerCloses : Line  -- the peer's close [2.4.3]
-  EndAwaited : ℕ → Line  -- the peer's end, where it is awaited on this channel [2.5.3]
-  DroppedInEnding : Line  -- anything else there
+  EndAwaited : ℕ → Line  -- the peer's end, while it is awaited on this channel [2.5.3]
+  DroppedInEnding : Line  -- anything else while the peer's end is awaited
   BeginMisplaced : Line  -- a begin on a channel that has begun, or one that answers another: amqp:illegal-state [2.5.1]
   BeginMissing : Line  -- another frame of a session on a channel that has not begun: amqp:illegal-state
   PeerBegins : ℕ → Beginning → Line  -- a session begins on this channel [2.5.1]
@@ -57,7 +58,7 @@ pub data Line : Type 0 where
   SessionBroken : ℕ → SessionFault → Line  -- a fault that ends the session on this channel [2.5.4]
   SessionFrame : ℕ → SessionState → Frame → Line  -- a frame that the session on this channel takes
 
--- a session's frame, where its session is live
+-- a frame of a live session
 abbrev pub attach_too_high : SessionState → Frame → Bool
 attach_too_high s (Attaches a) = nat_lt s.terms.handle_max a.handle
 attach_too_high s _ = false
@@ -69,7 +70,7 @@ by_fault channel s f (Some fault) = SessionBroken channel fault
 abbrev pub session_line : ℕ → SessionState → Frame → Line
 session_line channel s f = if attach_too_high s f then HandleTooHigh else by_fault channel s f (session.session_fault s f)
 
--- by what stands at the channel: nothing, a live session, or one whose end is awaited
+-- by what is at the channel: nothing, a live session, or one whose end is awaited
 abbrev pub on_free : ℕ → Read → Line
 on_free channel (Begins b) = if is_some b.remote_channel then BeginMisplaced else PeerBegins channel b
 on_free channel _ = BeginMissing
@@ -78,7 +79,7 @@ abbrev pub on_live : ℕ → SessionState → Read → Line
 on_live channel s (Begins b) = BeginMisplaced
 on_live channel s Ends = PeerEnds channel
 on_live channel s (ForSession f) = session_line channel s f
-on_live channel s _ = BodyInvalid  -- met by no performative: opens and closes are told before
+on_live channel s _ = BodyInvalid  -- met by no performative: opens and closes are handled before
 
 abbrev pub on_waiting : ℕ → Read → Line
 on_waiting channel Ends = EndAwaited channel
@@ -89,11 +90,11 @@ channel_line channel Free r = on_free channel r
 channel_line channel (Live s) r = on_live channel s r
 channel_line channel Waits r = on_waiting channel r
 
--- once both sides have opened
+-- after both sides have opened
 abbrev pub opened_line : ConnectionState → ℕ → Read → Line
 opened_line s channel (Opens o) = OpenAgain
 opened_line s channel Closes = PeerCloses
-opened_line s channel Other = BodyInvalid  -- met by no body: it is told as invalid before
+opened_line s channel Other = BodyInvalid  -- met by no body: it is found invalid before
 opened_line s channel r = channel_line channel (slot_at s channel) r
 
 -- before the peer's open
@@ -104,7 +105,7 @@ unopened_line _ = OpenMissing
 abbrev pub read_line : ConnectionState → ℕ → Read → Line
 read_line s channel r = if is_unopened s.phase then unopened_line r else opened_line s channel r
 
--- by what its body says
+-- by what is wrong with a body
 abbrev pub unread_line : BodyFault → Line
 unread_line (body.Decode e) = BodyMisspelt
 unread_line body.InvalidField = BodyInvalid
@@ -117,7 +118,7 @@ abbrev pub frame_line : ConnectionState → ℕ → List ℕ → Line
 frame_line s channel [] = BodyEmpty
 frame_line s channel (b ∷ bytes) = if nat_lt (channel_limit s.phase) channel then ChannelTooHigh else body_line s channel (b ∷ bytes) (body_at (b ∷ bytes))
 
--- while the peer's close is awaited: one that can be read counts, on any channel [2.4.3]
+-- while the peer's close is awaited: a close that can be read counts, on any channel [2.4.3]
 abbrev pub is_close : Descriptor → Bool
 is_close of_type.Close = true
 is_close _ = false
@@ -202,7 +203,7 @@ event_on s HandleTooHigh = event.Failed
 event_on s (SessionBroken channel fault) = event.SessionFailed channel
 event_on s (SessionFrame channel live f) = event.InSession channel (session.event_of live f)
 
--- What is told. -------------------------------------------------------------------------------------------------------
+-- What is reported. -------------------------------------------------------------------------------------------------------
 
 abbrev pub report_told : ℕ → Report → Option Event
 report_told channel report.Nothing = None
@@ -232,7 +233,7 @@ told_on s line = connection_told s (fault_on line)
 
 -- Memory. -------------------------------------------------------------------------------------------------------------
 
--- A unit may want memory where a session begins, since its record is made then, or where its session's frame may.
+-- A unit may need memory if it begins a session, whose record is made then, or if the session needs it for the frame.
 abbrev pub may_grow_on : Line → Bool
 may_grow_on (PeerBegins channel b) = true
 may_grow_on (SessionFrame channel s f) = session.frame_may_grow s f

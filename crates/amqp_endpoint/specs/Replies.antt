@@ -1,4 +1,5 @@
--- What this side writes: its header, and the canonical frames that answer a unit or say a call (AMQP 1.0, part 2, sections 2.2 and 2.7).
+-- What this side writes: its header, and the canonical frames that answer a unit or state a call (AMQP 1.0, part 2, sections 2.2 and
+-- 2.7).
 use Rattle.std.specs.Prelude.{ℕ, if◌then◌else◌, List, [], ◌∷◌, ◌++◌, map, Option, Some, None}
 use Rattle.std.specs.List.{flat_map}
 use Rattle.amqp_frame.specs.declared.units.TheConstants.{HEADER}
@@ -20,7 +21,7 @@ use Rattle.amqp_endpoint.specs.Lines.{Line, HeaderAccepted, HeaderUnknown, PeerO
 
 -- The frames. ---------------------------------------------------------------------------------------------------------
 
--- an idle-time-out in its shortest spelling, where one is announced [1.6.7, 2.4.5]
+-- an idle-time-out in its shortest encoding, if one is announced [1.6.7, 2.4.5]
 abbrev pub time_out_said : Option ℕ → Cell
 time_out_said None = Absent
 time_out_said (Some milliseconds) = Span (canonical (Number kind.Uint milliseconds))
@@ -60,18 +61,18 @@ pub record Spoken : Type 0 where
   pub channel : ℕ
   pub said : Said
 
--- on channel 0 [2.4.1]
+-- a frame on channel 0 [2.4.1]
 abbrev pub aloud : Said → Spoken
 aloud s = record { channel = 0; said = s }
 
 abbrev pub on_channel : ℕ → List Said → List Spoken
 on_channel channel said = map (λ s. record { channel = channel; said = s }) said
 
--- its canonical bytes
+-- the canonical bytes of a frame
 abbrev pub spoken_text : Spoken → List ℕ
 spoken_text s = said_frame s.channel s.said []
 
--- a close with an error; before the peer's open came, the own open goes first, with channel 0 alone [2.4.3]
+-- a close with an error; before the peer's open came, the open of this side goes first, with channel 0 as its highest [2.4.3]
 abbrev pub close_spoken : ConnectionState → Condition → List Spoken
 close_spoken s c = (if is_unopened s.phase then aloud (open_said s.config 0) ∷ [] else []) ++ aloud (close_said (condition_span c)) ∷ []
 
@@ -79,7 +80,7 @@ abbrev pub failure_spoken : ConnectionState → Option (Scope × Condition) → 
 failure_spoken s None = []
 failure_spoken s (Some x) = close_spoken s x.1
 
--- the frames that answer what a unit comes to
+-- the frames that answer what a unit results in
 abbrev pub spoken_on : ConnectionState → Line → List Spoken
 spoken_on s (PeerOpens o) = aloud (open_said s.config (lesser s.config.channel_max o.channel_max)) ∷ []
 spoken_on s PeerCloses = aloud (close_said []) ∷ []
@@ -92,7 +93,7 @@ spoken_on s line = failure_spoken s (fault_on line)
 abbrev pub joined : List Spoken → List ℕ
 joined said = flat_map spoken_text said
 
--- all bytes that answer it: either header is answered by the own one [2.2]
+-- all bytes that answer a unit; the answer to any header is the header of this side [2.2]
 abbrev pub reply_on : ConnectionState → Line → List ℕ
 reply_on s HeaderAccepted = HEADER
 reply_on s HeaderUnknown = HEADER

@@ -1,4 +1,4 @@
--- What an endpoint ends as, once what it lent to be read into has ended.
+-- What an endpoint is once the loan of its room has ended.
 use Rattle.std.specs.Prelude.{ℕ, List, length}
 use Rattle.std.specs.Borrow.{Lends, MutBor, Fml, Array, u8, RattleType}
 use Rattle.std.specs.declared.alloc.Allocator.{Ghosts}
@@ -6,7 +6,8 @@ use Rattle.amqp_frame.specs.SplitLends as splitter
 use Rattle.amqp_endpoint.specs.Steps.{EndpointState}
 use Rattle.amqp_endpoint.specs.contracts.endpoint.Endpoint.{the_row}
 
--- the endpoint once these were written into n bytes that were lent behind what its buffer holds, where they say nothing
+-- the endpoint after these bytes were written into n bytes that were lent after those in its buffer, where they mean
+-- nothing yet
 abbrev pub with_read : EndpointState → ℕ → List ℕ → EndpointState
 with_read s n ws = record s { input = splitter.with_read s.input n ws }
 

@@ -1,4 +1,5 @@
--- A whole run of an endpoint: its calls, its answers, and what went before each of them (AMQP 1.0, part 2, sections 2.2 to 2.7).
+-- A whole run of an endpoint: its calls, its answers, and what happened before each of them (AMQP 1.0, part 2, sections 2.2 to
+-- 2.7).
 use Rattle.std.specs.Prelude.{◌≡◌, ℕ, Bool, false, if◌then◌else◌, nat_eq, nat_lt, min, List, [], ◌∷◌, ◌++◌, length, take, drop, Option, Some, None}
 use Rattle.amqp_frame.specs.Splits.{IsUnchanged}
 use Rattle.amqp_frame.specs.Units.{StreamUnit}
@@ -32,7 +33,7 @@ pub data Call : Type 0 where
   InSession : ℕ → session.Call → Call  -- a call for the session on this channel
   Close : Call
   Heartbeat : Call
-  Output : ℕ → Call  -- so many bytes at most are moved out
+  Output : ℕ → Call  -- at most this many bytes are moved out
   Held : Call
   Finish : Call  -- the input ended
 
@@ -48,10 +49,10 @@ abbrev pub handed_of : Delivery → Handed
 handed_of d = record { delivery_id = d.delivery_id; delivery_tag = d.delivery_tag; message_format = d.message_format; settled = d.settled; message = d.message }
 
 pub data Answer : Type 0 where
-  Fed : ℕ → Outcome → Answer  -- so many bytes were taken, and this came of it
+  Fed : ℕ → Outcome → Answer  -- this many bytes were taken, with this outcome
   Accepted : Answer
-  Dropped : ℕ → Answer  -- so many ready deliveries were dropped
-  Named : ℕ → Answer  -- so many open deliveries were named
+  Dropped : ℕ → Answer  -- this many ready deliveries were dropped
+  Named : ℕ → Answer  -- this many open deliveries were named
   HandedUp : Handed → Answer
   Refused : CallFault → Answer
   MovedOut : List ℕ → Answer
@@ -84,19 +85,19 @@ accepted_answer Awaits c = Accepted
 
 -- What a call does. ---------------------------------------------------------------------------------------------------
 
--- something happens to the connection, and these bytes are written
+-- an event happened to the connection, and these bytes were written
 pub record IsWritten (old new : EndpointState) (e : ConnectionEvent) (bytes : List ℕ) : Type 0 where
   pub input : IsUnchanged old.input new.input
   pub unsent : new.unsent ≡ old.unsent ++ bytes
   pub connection : new.connection ≡ connection_after old.connection e
 
--- an empty frame is written, and nothing else changes
+-- an empty frame was written, and nothing else has changed
 pub record IsBeat (old new : EndpointState) : Type 0 where
   pub input : IsUnchanged old.input new.input
   pub unsent : new.unsent ≡ old.unsent ++ heartbeat
   pub connection : new.connection ≡ old.connection
 
--- the first bytes are moved out
+-- the first bytes that wait were moved out
 pub record IsMoved (old new : EndpointState) (room : ℕ) (bytes : List ℕ) : Type 0 where
   pub input : IsUnchanged old.input new.input
   pub moved : bytes ≡ take room old.unsent
@@ -110,7 +111,7 @@ end_between n = if nat_eq n 0 then ended.Between else ended.Inside n
 abbrev pub end_of : EndpointState → End
 end_of s = if s.connection.failed then ended.Failed else (if s.connection.closed then ended.Closed else end_between (length s.input.filled))
 
--- the frame buffer is empty, all records are gone, and the output is left
+-- the frame buffer is empty, sessions and links are gone, and the output is unchanged
 pub record IsFinished (old new : EndpointState) : Type 0 where
   pub limit : new.input.limit ≡ old.input.limit
   pub filled : new.input.filled ≡ []
@@ -142,7 +143,7 @@ Does old new Held (Holds n) = IsKept old new × (n ≡ held old)
 Does old new Finish (Ended end) = IsFinished old new × (end ≡ end_of old)
 Does old new call answer = ⊥
 
--- Whether a call may want memory by itself: only for bytes that are moved out. What a feed wants it answers for.
+-- Whether a call itself may need memory: only for bytes that are moved out. A feed that lacks memory says so in its outcome.
 abbrev pub may_want : EndpointState → Call → Bool
 may_want s (Output room) = nat_lt 0 (min room (length s.unsent))
 may_want s call = false
@@ -164,7 +165,7 @@ pub record IsStart (config : Configured) (s : EndpointState) : Type 0 where
 
 -- The history. --------------------------------------------------------------------------------------------------------
 
--- What stands in it: each unit that was acted upon, and each call that was accepted and changed something.
+-- What happened: each unit that was acted upon, and each call that was accepted and changed something.
 pub data Happened : Type 0 where
   Acted : StreamUnit → Happened  -- this unit was acted upon
   Called : ℕ → session.Call → Happened  -- this call for the session on this channel was accepted
@@ -172,7 +173,7 @@ pub data Happened : Type 0 where
   Beat : Happened  -- a heartbeat was accepted
   Over : Happened  -- finish was called
 
--- the events of the connection that it comes to, the newest first
+-- the events of the connection that it results in, the newest first
 abbrev pub event_of : ConnectionState → Happened → List ConnectionEvent
 event_of s (Acted u) = event_on s (line_of s u) ∷ []
 event_of s (Called channel c) = call_event s channel c ∷ []
@@ -197,7 +198,7 @@ units_of (Closed ∷ h) = units_of h
 units_of (Beat ∷ h) = units_of h
 units_of (Over ∷ h) = units_of h
 
--- all events of the connection, each from what the history before it gives
+-- all events of the connection, each by the state that the history before it results in
 abbrev pub events : Configured → List Happened → List ConnectionEvent
 events config [] = []
 events config (x ∷ h) = event_of (state_of config (events config h)) x ++ events config h

@@ -19,7 +19,7 @@ pub record EndpointState : Type 0 where
 
 -- Taking bytes. -------------------------------------------------------------------------------------------------------
 
--- So many bytes of the unit that is due are asked for next; once the connection is over none, whatever its splitter asks for.
+-- How many bytes of the unit that is due are asked for next; none once the connection is over, whatever its splitter asks for.
 abbrev pub AsksIf : Bool → ℕ → Stage → List ℕ → ℕ → Type 0
 AsksIf true max stage bytes n = n ≡ 0
 AsksIf false max stage bytes n = AsksNext max stage bytes n
@@ -27,7 +27,7 @@ AsksIf false max stage bytes n = AsksNext max stage bytes n
 abbrev pub AsksFor : EndpointState → ℕ → Type 0
 AsksFor s n = AsksIf (is_dead s.connection.phase) s.input.limit s.input.stage s.input.filled n
 
--- so many bytes may have been read: none, or at most as many as are asked for
+-- how many bytes may have been read: none, or at most as many as are asked for
 abbrev pub MayRead : EndpointState → ℕ → Type 0
 MayRead s n = (n ≡ 0) ⊎ ((m : ℕ) × AsksFor s m × (n ≤ m))
 
@@ -39,7 +39,7 @@ needs_room (HeaderUnit bytes) = false
 needs_room (FrameUnit bytes) = true
 needs_room (FaultUnit fault bytes) = true
 
--- what is told of a unit: its event, if it has one; else that more is wanted, unless the connection is over
+-- the outcome of a unit: its event, if it has one; else that more is needed, unless the connection is over
 abbrev pub told_outcome : ConnectionState → Option Event → Outcome
 told_outcome after (Some e) = outcome.Event e
 told_outcome after None = if is_dead after.phase then outcome.Dead else outcome.More
@@ -50,20 +50,21 @@ acted_after s u = connection_after s (event_on s (line_of s u))
 abbrev pub acted_outcome : ConnectionState → StreamUnit → Outcome
 acted_outcome s u = told_outcome (acted_after s u) (told_on s (line_of s u))
 
--- the unit is acted upon: it leaves the buffer, is answered, and told
+-- the unit was acted upon: it left the buffer, and was answered and reported
 pub record IsActed (old new : EndpointState) (u : StreamUnit) (answer : Outcome) : Type 0 where
   pub input : IsEmptied old.input new.input (due_after u)
   pub unsent : new.unsent ≡ old.unsent ++ reply_on old.connection (line_of old.connection u)
   pub connection : new.connection ≡ acted_after old.connection u
   pub told : answer ≡ acted_outcome old.connection u
 
--- it waits, and nothing has changed
+-- nothing has changed
 pub record IsKept (old new : EndpointState) : Type 0 where
   pub input : IsUnchanged old.input new.input
   pub unsent : new.unsent ≡ old.unsent
   pub connection : new.connection ≡ old.connection
 
--- A unit that waits is acted upon where the output has room for its answer, or it is the header; else it waits. Want of memory is answered only where it may be wanted.
+-- A unit that waits is acted upon if the output has room for its answer, or it is the header; else it waits. A refusal of memory is answered only if the unit may need
+-- some.
 abbrev pub Acts : EndpointState → EndpointState → StreamUnit → Bool → Outcome → Type 0
 Acts old new u false answer = IsKept old new × (answer ≡ outcome.Blocked)
 Acts old new u true answer = IsActed old new u answer ⊎ (IsKept old new × (answer ≡ outcome.NoMemory) × (may_grow_on (line_of old.connection u) ≡ true))
@@ -74,7 +75,7 @@ room_for unsent u = if needs_room u then has_room unsent else true
 abbrev pub may_act : EndpointState → StreamUnit → Bool
 may_act s u = room_for s.unsent u
 
--- what comes of the unit that waits, or of none
+-- what a unit that waits results in, or none
 pub record Comes (old new : EndpointState) (answer : Outcome) : Type 0 where
   pub unit : (u : StreamUnit) → Waits old.input u → Acts old new u (may_act old u) answer
   pub none : ((u : StreamUnit) → Waits old.input u → ⊥) → IsKept old new × (answer ≡ told_outcome old.connection None)

@@ -1,4 +1,4 @@
--- What holds after every list of calls of a new endpoint: its state, the bytes that it took and gave, and what it told, each against one history of units and accepted calls.
+-- What holds after every list of calls of a new endpoint: its state, the bytes that it took and gave, and what it reported follow from one history of units and accepted calls.
 use Rattle.std.specs.Prelude.{◌≡◌, ℕ, suc, ◌<◌, ◌≤◌, Bool, true, false, if◌then◌else◌, List, [], ◌∷◌, ◌++◌, length, take, drop, map, slice_index, Option, Some, None}
 use Rattle.std.specs.List.{flat_map}
 use Rattle.amqp_frame.specs.Splits.{IsHeld}
@@ -28,9 +28,9 @@ use Rattle.amqp_endpoint.specs.Steps.{EndpointState}
 use Rattle.amqp_endpoint.specs.Takings.{Taking, lives, takings, taken_in, link_part, last_part, link_at, AreFirst, HasItsPart}
 use Rattle.amqp_endpoint.specs.Windows.{HasItsWindow}
 
--- What is asked of calls. -------------------------------------------------------------------------------------------
+-- What calls have to be. --------------------------------------------------------------------------------------------
 
--- a piece is of bytes, and a delivery-id has 32 bits
+-- a piece consists of bytes, and a delivery-id has 32 bits
 abbrev pub IsInRange : Call → Type 0
 IsInRange (Feed piece) = (i : ℕ) → slice_index piece i < 256
 IsInRange (InSession channel c) = IsCallInRange c
@@ -52,7 +52,7 @@ abbrev pub moved_by : Answer → List ℕ
 moved_by (MovedOut bytes) = bytes
 moved_by a = []
 
--- What an answer tells: an event, that a call was accepted and answered so, or that the input ended.
+-- What an answer reports: an event, that a call was accepted and with which answer, or that the input ended.
 pub data Told : Type 0 where
   Tells : Event → Told
   Done : Call → Answer → Told
@@ -62,7 +62,7 @@ abbrev pub event_in : Outcome → List Told
 event_in (outcome.Event e) = Tells e ∷ []
 event_in o = []
 
--- a refused call tells nothing, nor do a feed without an event, an output, and the question for what is held
+-- a refused call reports nothing, nor do a feed without an event, an output, and a question for the bytes held
 abbrev pub told_by : Call → Answer → List Told
 told_by (Feed piece) (Fed used outcome) = event_in outcome
 told_by (InSession channel c) (Refused fault) = []
@@ -79,20 +79,21 @@ abbrev pub all_taken : List Call → List Answer → List ℕ
 all_taken (c ∷ calls) (a ∷ answers) = taken_by c a ++ all_taken calls answers
 all_taken calls answers = []
 
--- all that was told, in order
+-- all that was reported, in order
 abbrev pub heard : List Call → List Answer → List Told
 heard (c ∷ calls) (a ∷ answers) = told_by c a ++ heard calls answers
 heard calls answers = []
 
 -- What a history says. ----------------------------------------------------------------------------------------------
 
--- the input ended, that is, finish was called; a connection that is over by a unit is dead
+-- the input ended, that is, finish was called; after a unit that ends the connection this is still false
 abbrev pub has_finished : List Happened → Bool
 has_finished [] = false
 has_finished (Over ∷ h) = true
 has_finished (x ∷ h) = has_finished h
 
--- What is told of a unit is its event, a failure exactly where its line names a fault. An accepted call is answered by what the history before it gives: a take by the first message that is ready.
+-- What is reported of a unit is its event, which is a failure exactly if its line names a fault. An accepted call is answered by what the history before it results in: a take by the first message
+-- that is ready.
 abbrev pub event_told : Option Event → List Told
 event_told None = []
 event_told (Some e) = Tells e ∷ []
@@ -108,7 +109,7 @@ abbrev pub tellings : Configured → List Happened → List Told
 tellings config [] = []
 tellings config (x ∷ h) = tellings config h ++ told_of (state_of config (events config h)) x
 
--- what ends by an event, and with which error
+-- what ends with an error by an event, and with which error
 abbrev pub failure_in : Option Event → Option (Scope × Condition)
 failure_in (Some (told.Failed scope condition dropped)) = Some (scope, condition)
 failure_in e = None
@@ -127,14 +128,14 @@ placed t = (t.channel, t.handle, t.handed)
 
 -- The theorem. ------------------------------------------------------------------------------------------------------
 
--- An endpoint after some calls, of which these bytes were taken, these moved out, and this told, with its history, newest first.
+-- An endpoint after some calls, with its history, newest first. It took these bytes, moved these out, and reported this.
 pub record IsTraced (config : Configured) (took moved : List ℕ) (told : List Told) (h : List Happened) (s : EndpointState) : Type 0 where
   -- each event of the history was one that could come
   pub accepted : of_connection.Accepted config (events config h)
-  -- every field of the connection is what selections over the whole history give
+  -- every field of the connection is what selections over the whole history result in
   pub state : s.connection ≡ state_of config (events config h)
   pub sound : Sound config (events config h)
-  -- the bytes that were taken are the units of the history, each where it may stand, and then a rest: less than a unit, or one that waits
+  -- The bytes that were taken are the units of the history, each where it may come, and then a rest: less than a unit, or one that waits.
   pub rest : List ℕ
   pub units : took ≡ flat_map bytes_of (units_of h) ++ rest
   pub each : AreUnits config.max_frame due.Header (units_of h)
@@ -143,30 +144,30 @@ pub record IsTraced (config : Configured) (took moved : List ℕ) (told : List T
   pub buffer : s.input.filled ≡ (if has_finished h then [] else rest)
   pub limit : s.input.limit ≡ config.max_frame
   pub stage : has_finished h ≡ false → s.input.stage ≡ due_behind due.Header (units_of h)
-  -- all bytes that were written were moved out, or stand in the output
+  -- all bytes that were written were moved out, or are in the output
   pub output : written config h ≡ moved ++ s.unsent
-  -- the events that were told are those of the units, the calls that were accepted are those of the history, answered so, and nothing else was told
+  -- What was reported are the events of the units and the accepted calls of the history with their answers, and nothing else.
   pub telling : told ≡ tellings config h
 
--- A new endpoint comes to this by these calls and answers: there is a history of it.
+-- These calls and answers lead a new endpoint to this state, with a history.
 pub record HasHistory (config : Configured) (calls : List Call) (answers : List Answer) (last : EndpointState) : Type 0 where
   pub history : List Happened
-  -- its state, the bytes that it took and gave, and what it told are those of the history
+  -- its state, the bytes that it took and gave, and what it reported are those of the history
   pub traced : IsTraced config (all_taken calls answers) (flat_map moved_by answers) (heard calls answers) history last
-  -- what it holds is counted and bounded
+  -- the bytes held are counted and bounded
   pub within : HoldsWithin config (events config history) last
   -- the messages that were handed up are those that the history hands up, in order
   pub messages : flat_map message_in (heard calls answers) ≡ map placed (takings (events config history))
-  -- each session that lives has the window that its part of the history gives
+  -- each live session has the window that its part of the history results in
   pub windows : (channel : ℕ) (s : SessionState) → slot_at last.connection channel ≡ Live s → HasItsWindow config (part channel (events config history)) s
-  -- each link that lives, with the messages that were taken in its life, is what its part of the history gives
+  -- each live link, with the messages that were taken in its life, is what its part of the history results in
   pub links : (channel handle : ℕ) (l : LiveLink) → link_at last.connection channel handle ≡ Live l →
       HasItsPart config (link_part channel handle (events config history)) (granted_since channel handle (events config history))
       (taken_in channel handle (lives channel handle (events config history)) (events config history)) l
-  -- of each life of a link, ended or not, the messages that were taken are the first of its whole deliveries, in order, each once, none skipped
+  -- for each life of a link, ended or not, the messages that were taken are the first of its whole deliveries, in order, each once, none skipped
   pub each_life : (channel handle life : ℕ) → AreFirst (last_part channel handle life (events config history)) (taken_in channel handle life (events config history))
 
--- So many of the calls are made: where the endpoint stands then, the run goes on to its end, and there is a history, behind what happened later in the whole one.
+-- After the first n calls: the run goes on to its end from the state of the endpoint, which has a history. The whole history is that one, with what happened later.
 pub record HasMoment (config : Configured) (start : EndpointState) (calls : List Call) (answers : List Answer) (last : EndpointState) (whole : List Happened) (n : ℕ) : Type 0 where
   pub now : EndpointState
   pub so_far : Run start (take n calls) (take n answers) now
@@ -175,8 +176,8 @@ pub record HasMoment (config : Configured) (start : EndpointState) (calls : List
   pub later : List Happened
   pub grown : whole ≡ later ++ past.history
 
--- A whole run of a new endpoint: it has a history at its end, the history after each of its calls is where that one had come to, and each call adds one thing to it at most. Law
--- `runs_have_one_history`: it has no other.
+-- A whole run of a new endpoint has a history at its end. The history after each of its calls is an earlier stage of that one, and each call adds at most one thing to it. By the law
+-- `runs_have_one_history` it has no other.
 pub record IsWholeRun (config : Configured) (calls : List Call) (answers : List Answer) (last : EndpointState) : Type 0 where
   pub start : EndpointState
   pub new : IsStart config start
@@ -185,6 +186,6 @@ pub record IsWholeRun (config : Configured) (calls : List Call) (answers : List 
   pub each : (n : ℕ) → n ≤ length calls → HasMoment config start calls answers last past.history n
   pub grows : (n : ℕ) (before : n ≤ length calls) (after : suc n ≤ length calls) →
       (added : List Happened) × (length added ≤ 1) × ((each (suc n) after).past.history ≡ added ++ (each n before).past.history)
-  -- at first nothing has happened, and behind the last call all of it
+  -- before the first call nothing has happened, and after the last call all of it
   pub empty : (none : 0 ≤ length calls) → (each 0 none).past.history ≡ []
   pub whole : (all : length calls ≤ length calls) → (each (length calls) all).past.history ≡ past.history

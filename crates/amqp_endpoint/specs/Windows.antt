@@ -8,14 +8,14 @@ use Rattle.amqp_session.specs.Places.{Life}
 use Rattle.amqp_session.specs.Sessions.{SessionState, SessionEvent}
 use Rattle.amqp_endpoint.specs.Configs.{Configured}
 
--- A session that lives, which has this part of the history: it is what that part gives.
+-- A live session with this part of the history. It is what that part results in.
 pub record HasItsWindow (config : Configured) (part : Slot (Life SessionTerms SessionEvent)) (s : SessionState) : Type 0 where
   pub terms : SessionTerms
   pub past : List SessionEvent
   pub stands : part ≡ Live (terms, past)
   pub is : s ≡ session.state_of terms past
-  -- its window is the places that it opened with and all that were added, but one for each transfer
+  -- its window is the places that it began with plus all that were added, less one for each transfer
   pub window : s.window + session.transfers past ≡ config.window + session.widenings past
   pub narrow : s.window < 2 ^ 31
-  -- its next-incoming-id is the number that the peer stated last and the transfers since, round the end at 2^32
+  -- its next-incoming-id is the number that the peer stated last plus the transfers since then, modulo 2^32
   pub next : s.next_incoming_id ≡ (session.last_stated terms past + session.since_stated past) % 2 ^ 32

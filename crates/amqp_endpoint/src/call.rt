@@ -10,13 +10,13 @@ use std::alloc::{Allocator, Global};
 pub enum Call<'a> {
     /// The peer's bytes.
     Feed(&'a [u8]),
-    /// The link gets `n` places of credit more.
+    /// The link gets `n` more places of credit.
     Grant {
         channel: u16,
         handle: u32,
         n: u32,
     },
-    /// The session's window gets `n` places more.
+    /// The session's window gets `n` more places.
     Widen {
         channel: u16,
         n: u32,
@@ -31,13 +31,13 @@ pub enum Call<'a> {
         channel: u16,
         handle: u32,
     },
-    /// What became of a delivery.
+    /// A delivery is settled with this outcome.
     Settle {
         channel: u16,
         id: u32,
         outcome: Outcome,
     },
-    /// What became of the deliveries with the ids from `first` to `last`.
+    /// The deliveries with the ids from `first` to `last` are settled with this outcome.
     SettleRange {
         channel: u16,
         first: u32,
@@ -53,32 +53,33 @@ pub enum Call<'a> {
     Close,
     /// An empty frame is written.
     Heartbeat,
-    /// So many bytes at most are moved out.
+    /// At most this many bytes are moved out.
     Output(u32),
-    /// The bytes that count as held.
+    /// The bytes held.
     Held,
-    /// The input ended.
+    /// The input has ended.
     Finish,
 }
 
 /// The answer to a [`Call`].
 #[derive(Drop)]
 pub enum Answer<A: Allocator + Copy = Global> {
-    /// To a feed.
+    /// The answer to a feed.
     Fed(Fed),
-    /// To a grant, a widening, a drain, a settlement and a heartbeat that is not refused.
+    /// The answer to a grant, a widening, a drain, a settle and a heartbeat that is not refused.
     Accepted,
-    /// To a detach and a close that is not refused: so many ready deliveries were dropped.
+    /// The answer to a detach and a close that is not refused: how many ready deliveries were
+    /// dropped.
     Dropped(u32),
-    /// To a settlement of a range that is not refused: so many deliveries were named.
+    /// The answer to a settle of a range that is not refused: how many deliveries were named.
     Named(u32),
-    /// To a take that is not refused.
+    /// The answer to a take that is not refused.
     HandedUp(Taken<A>),
-    /// Nothing has changed.
+    /// The call was refused, and nothing has changed.
     Refused(CallFault),
     /// The bytes that were moved out.
     MovedOut(Vec<u8, A>),
-    /// The bytes that count as held.
+    /// The bytes held.
     Holds(u64),
     /// How the connection stood at the end of its input.
     Ended(End),

@@ -13,7 +13,8 @@ use crate::phase::Phase;
 use amqp_perform::Condition;
 use std::alloc::Allocator;
 
-/// Says the close with an error; before the peer's open came the open goes first [2.4.3].
+/// Writes a close with an error. If the peer's open has not come, the open of this side goes first
+/// [2.4.3].
 fn say_close<A: Allocator + Copy>(
     connection: &Connection<A>,
     out: &mut Output<A>,
@@ -28,7 +29,7 @@ fn say_close<A: Allocator + Copy>(
     out.say(0, &frames::close(frames::error(condition)));
 }
 
-/// This side closes the connection with an error.
+/// Closes the connection with an error of this side.
 pub fn close_with_error<A: Allocator + Copy>(
     connection: &mut Connection<A>,
     out: &mut Output<A>,
@@ -47,7 +48,8 @@ pub fn close_with_error<A: Allocator + Copy>(
     }
 }
 
-/// A frame came that is none: the connection is over at once [2.3.1].
+/// Ends the connection at once after a malformed frame, with a close that states a framing error
+/// [2.3.1].
 pub fn fail_at_once<A: Allocator + Copy>(
     connection: &mut Connection<A>,
     out: &mut Output<A>,
@@ -65,7 +67,7 @@ pub fn fail_at_once<A: Allocator + Copy>(
     }
 }
 
-/// The peer closes an open connection, and is answered [2.4.3].
+/// Ends an open connection that the peer closes, and writes the close that answers [2.4.3].
 pub fn peer_closes<A: Allocator + Copy>(
     connection: &mut Connection<A>,
     out: &mut Output<A>,
@@ -81,7 +83,7 @@ pub fn peer_closes<A: Allocator + Copy>(
     }
 }
 
-/// The application closes the connection. Answers how many ready deliveries are dropped.
+/// Closes the connection for the application. Returns how many ready deliveries were dropped.
 pub fn close<A: Allocator + Copy>(connection: &mut Connection<A>, out: &mut Output<A>) -> u32
     requires { length out.old + reply_room ≤ output_size }
     ensures connection { connection.new ≡ connection_after connection.old CloseAsked }

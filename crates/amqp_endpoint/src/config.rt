@@ -9,7 +9,7 @@ use amqp_link::LinkBounds;
 use std::alloc::{AllocError, Allocator, Global};
 use std::marker::Model;
 
-/// What an endpoint is set up with: what it says of itself, and how much its peer may make it keep.
+/// What an endpoint is set up with: what it states of itself, and how much its peer may make it hold.
 #[derive(Drop)]
 pub struct Config<A: Allocator + Copy = Global> {
     container_id: String<A>,
@@ -35,10 +35,14 @@ impl<A: Allocator + Copy> Model for Config<A> {
 }
 
 impl<A: Allocator + Copy> Config<A> {
-    /// These settings. `None` where one is outside its range: a container-id of 1 to 255 bytes; `max_frame`, the longest
-    /// frame, 512 to 1048576 bytes [2.7.1]; `channel_max` and `handle_max` 0 to 255; `allowed`, credit and open deliveries
-    /// of a link together, 1 to 1024; `max_message` 1 to 2^30 bytes [2.7.3]; `window`, places of a session at its begin,
-    /// at most 2147483647 [2.5.6].
+    /// Makes a configuration of these settings; `None` if one is outside its range.
+    ///
+    /// - `container_id`: 1 to 255 bytes.
+    /// - `max_frame`, the longest frame: 512 to 1048576 bytes [2.7.1].
+    /// - `channel_max` and `handle_max`: 0 to 255.
+    /// - `allowed`, credit and open deliveries of a link together: 1 to 1024.
+    /// - `max_message`: 1 to 2^30 bytes [2.7.3].
+    /// - `window`, places of a session's window at its begin: at most 2147483647 [2.5.6].
     pub fn checked(
         container_id: String<A>,
         max_frame: u32,
@@ -70,11 +74,15 @@ impl<A: Allocator + Copy> Config<A> {
         })
     }
 
-    /// These settings with this table of limits, at most 16 rows of different prefixes, in place of one that they had: a link
-    /// may keep what the row of the longest prefix says with which its name begins, byte by byte, and what `allowed` and
-    /// `max_message` say where there is none. Takes no memory. Refused, with the settings and the table handed back, with the
-    /// first of these: `TooMany`; then by rising row `BadRow` where the prefix has not 1 to 255 bytes or a number is outside
-    /// its range, `SamePrefix` where an earlier row has the prefix.
+    /// Returns these settings with this table of limits, in place of one that they had. Takes no memory.
+    ///
+    /// A link may hold what the row of the longest prefix with which its name begins says, compared byte by
+    /// byte. If there is none, `allowed` and `max_message` of these settings apply. The table has at most 16
+    /// rows with different prefixes.
+    ///
+    /// The first fault is returned, with the settings and the table: `TooMany`; then, by rising row, `BadRow`
+    /// if the prefix has not 1 to 255 bytes or a number is outside its range, `SamePrefix` if an earlier row
+    /// has the prefix.
     pub fn with_limits(
         self,
         limits: Vec<LinkLimit<A>, A>,
@@ -110,9 +118,11 @@ impl<A: Allocator + Copy> Config<A> {
         })
     }
 
-    /// These settings with this idle-time-out, in milliseconds: what the open asks the peer to keep to, at least a frame in each
-    /// such time. 0 is none, as for the peer [2.7.1]. An endpoint has no clock: whoever calls it ends the connection of a peer that
-    /// is silent for twice as long, and beats for one that asks for it [2.4.5].
+    /// Returns these settings with this idle-time-out, in milliseconds: the open asks the peer for at least one
+    /// frame in each such time. 0 is none, as it is for the peer [2.7.1].
+    ///
+    /// An endpoint has no clock. Its caller has to end the connection of a peer that is silent for twice as
+    /// long, and to send heartbeats to a peer that asks for them [2.4.5].
     pub fn with_idle_time_out(mut self, milliseconds: u32) -> Self
         ensures { result ≡ record self { idle_time_out = time_out milliseconds } }
     {
@@ -120,14 +130,14 @@ impl<A: Allocator + Copy> Config<A> {
         self
     }
 
-    /// A law: its settings are within their ranges.
+    /// A law: the settings are within their ranges.
     pub fn is_within(&self)
         ensures { IsConfigured self.now.container_id self.now.max_frame self.now.window }
     {
         let _ = &self.container_id;
     }
 
-    /// The container-id of this side [2.7.1].
+    /// Returns the container-id of this side [2.7.1].
     pub fn container_id(&self) -> &str
         ensures name { result.now ≡ self.now.container_id }
         ensures some { 1 ≤ length result.now }
@@ -136,7 +146,7 @@ impl<A: Allocator + Copy> Config<A> {
         self.container_id.as_str()
     }
 
-    /// The longest frame that is accepted, in bytes.
+    /// Returns the length of the longest frame that is accepted, in bytes.
     pub fn max_frame(&self) -> u32
         ensures value { result ≡ self.now.max_frame }
         ensures least { 512 ≤ result }
@@ -145,7 +155,7 @@ impl<A: Allocator + Copy> Config<A> {
         self.max_frame
     }
 
-    /// The highest channel that is offered.
+    /// Returns the highest channel that is offered.
     pub fn channel_max(&self) -> u8
         ensures value { result ≡ self.now.channel_max }
         ensures most { result < 256 }
@@ -153,21 +163,21 @@ impl<A: Allocator + Copy> Config<A> {
         self.channel_max
     }
 
-    /// The highest handle that is offered [2.7.2].
+    /// Returns the highest handle that is offered [2.7.2].
     pub fn handle_max(&self) -> u8
         ensures { result ≡ self.now.handle_max }
     {
         self.handle_max
     }
 
-    /// What each link may keep whose name begins with no prefix of the limits.
+    /// Returns what a link may hold whose name begins with no prefix of the limits.
     pub fn bounds(&self) -> LinkBounds
         ensures { result ≡ self.now.bounds }
     {
         self.bounds
     }
 
-    /// What a link of this name may keep.
+    /// Returns what a link of this name may hold.
     pub fn bounds_for(&self, name: &[u8]) -> LinkBounds
         ensures { result ≡ bounds_for self.now name.now }
     {
@@ -177,7 +187,7 @@ impl<A: Allocator + Copy> Config<A> {
         }
     }
 
-    /// The places of a session's window at its begin [2.5.6].
+    /// Returns how many places a session's window has at its begin [2.5.6].
     pub fn window(&self) -> u32
         ensures value { result ≡ self.now.window }
         ensures most { result < 2 ^ 31 }
@@ -185,14 +195,14 @@ impl<A: Allocator + Copy> Config<A> {
         self.window
     }
 
-    /// The idle-time-out that the open announces, in milliseconds, if one is [2.4.5].
+    /// Returns the idle-time-out that the open announces, in milliseconds; `None` if it announces none [2.4.5].
     pub fn idle_time_out(&self) -> Option<u32>
         ensures { result ≡ self.now.idle_time_out }
     {
         self.idle_time_out
     }
 
-    /// An equal one; an error where memory for the container-id or the limits is refused.
+    /// Returns an equal configuration. It is an error if memory for the container-id or the limits is refused.
     pub fn copy(&self, alloc: A) -> Result<Self, AllocError>
         ensures { IfOk result (λ c. c ≡ self.now) }
     {

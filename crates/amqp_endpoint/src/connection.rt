@@ -1,4 +1,4 @@
-//! One connection: how far it has come, and what stands at its channels.
+//! One connection: how far it has come, and what is at its channels.
 ghost use Rattle.std.specs.Prelude.{◌≡◌, ◌≤◌, ◌<◌, ◌+◌, ◌^◌, true, false, Some, None, IfOk, OnOk, OnErr, option_map, length, map, sum_by};
 ghost use Rattle.amqp_session.specs.declared.slot.Slot.TheVariants.{Free, Live, Waits};
 ghost use Rattle.amqp_session.specs.Frames.{Frame};
@@ -20,7 +20,7 @@ use amqp_session::{Done, Session, SessionFault, SessionTerms, Slot};
 use std::alloc::{AllocError, Allocator, Global};
 use std::marker::Model;
 
-/// How far a connection has come, how it ended, and what stands at its channels [2.4.6].
+/// How far a connection has come, how it ended, and what is at its channels [2.4.6].
 #[derive(Drop)]
 pub struct Connection<A: Allocator + Copy = Global> {
     alloc: A,
@@ -43,7 +43,7 @@ impl<A: Allocator + Copy> Model for Connection<A> {
 }
 
 impl<A: Allocator + Copy> Connection<A> {
-    /// A connection before its header. Only this and a begin take memory here.
+    /// Makes a connection as it is before its header. It is an error if memory for its channels is refused.
     pub fn new(alloc: A, config: Config<A>) -> Result<Self, AllocError>
         ensures { IfOk result (λ c. c ≡ connection_begins config) }
     {
@@ -59,35 +59,35 @@ impl<A: Allocator + Copy> Connection<A> {
         })
     }
 
-    /// What it was set up with.
+    /// Returns what the connection was set up with.
     pub fn config(&self) -> &Config<A>
         ensures { result.now ≡ self.now.config }
     {
         &self.config
     }
 
-    /// How far it has come.
+    /// Returns how far the connection has come.
     pub fn phase(&self) -> Phase
         ensures { result ≡ self.now.phase }
     {
         self.phase
     }
 
-    /// Whether this side ended it with an error, or refused its header.
+    /// Returns whether this side ended the connection with an error, or refused its header.
     pub fn has_failed(&self) -> bool
         ensures { result ≡ self.now.failed }
     {
         self.failed
     }
 
-    /// Whether the peer's close came.
+    /// Returns whether the peer's close came.
     pub fn is_closed(&self) -> bool
         ensures { result ≡ self.now.closed }
     {
         self.closed
     }
 
-    /// The highest channel on which frames are taken.
+    /// Returns the highest channel on which frames are taken.
     pub fn channel_limit(&self) -> u16
         ensures value { result ≡ channel_limit self.now.phase }
         ensures offered { result ≤ self.now.config.channel_max }
@@ -99,7 +99,7 @@ impl<A: Allocator + Copy> Connection<A> {
         }
     }
 
-    /// What stands at a channel.
+    /// Returns what is at a channel.
     pub fn place(&self, channel: u8) -> &Place<A>
         requires { channel ≤ self.now.config.channel_max }
         ensures { result.now ≡ slot_at self.now channel }
@@ -107,14 +107,14 @@ impl<A: Allocator + Copy> Connection<A> {
         &self.places[channel as usize]
     }
 
-    /// How many deliveries are ready on all links.
+    /// Returns how many deliveries are ready, on all links.
     fn ready(&self) -> u32
         ensures { result ≡ connection_ready self.now }
     {
         ready(&self.places)
     }
 
-    /// The bytes that count as held.
+    /// Returns the bytes held. The pattern names all fields, so that a new one must be listed here.
     pub fn held(&self) -> u64
         ensures value { result ≡ connection_bytes self.now }
         ensures most { result < 2 ^ 61 }
@@ -130,7 +130,7 @@ impl<A: Allocator + Copy> Connection<A> {
         held(places)
     }
 
-    /// The peer opened it.
+    /// Opens the connection after the peer's open.
     pub fn open(&mut self, max_frame_size: u32, channel_max: u8)
         requires { channel_max ≤ self.old.config.channel_max }
         ensures { self.new ≡ connection_after self.old (Opened max_frame_size channel_max) }
@@ -141,7 +141,7 @@ impl<A: Allocator + Copy> Connection<A> {
         };
     }
 
-    /// This side closes it with an error. Answers how many ready deliveries are dropped.
+    /// Closes the connection with an error of this side. Returns how many ready deliveries were dropped.
     pub fn close_with_error(&mut self) -> u32
         ensures new { self.new ≡ connection_after self.old Failed }
         ensures dropped { result ≡ connection_ready self.old }
@@ -153,7 +153,7 @@ impl<A: Allocator + Copy> Connection<A> {
         dropped
     }
 
-    /// The application closes it. Answers how many ready deliveries are dropped.
+    /// Closes the connection for the application. Returns how many ready deliveries were dropped.
     pub fn close(&mut self) -> u32
         ensures new { self.new ≡ connection_after self.old CloseAsked }
         ensures dropped { result ≡ connection_ready self.old }
@@ -164,7 +164,7 @@ impl<A: Allocator + Copy> Connection<A> {
         dropped
     }
 
-    /// The peer closed it. Answers how many ready deliveries are dropped.
+    /// Ends the connection after the peer's close. Returns how many ready deliveries were dropped.
     pub fn peer_closed(&mut self) -> u32
         ensures new { self.new ≡ connection_after self.old PeerClosed }
         ensures dropped { result ≡ connection_ready self.old }
@@ -176,7 +176,7 @@ impl<A: Allocator + Copy> Connection<A> {
         dropped
     }
 
-    /// A frame came that is none. Answers how many ready deliveries are dropped.
+    /// Ends the connection after a malformed frame. Returns how many ready deliveries were dropped.
     pub fn fail_at_once(&mut self) -> u32
         ensures new { self.new ≡ connection_after self.old Broken }
         ensures dropped { result ≡ connection_ready self.old }
@@ -188,7 +188,7 @@ impl<A: Allocator + Copy> Connection<A> {
         dropped
     }
 
-    /// A header came that is not acceptable.
+    /// Ends the connection after a header that is not acceptable.
     pub fn refuse_header(&mut self)
         ensures { self.new ≡ connection_after self.old HeaderRefused }
     {
@@ -197,7 +197,7 @@ impl<A: Allocator + Copy> Connection<A> {
         free_all(&mut self.places);
     }
 
-    /// A frame came that is none, while the peer's close was awaited.
+    /// Ends the connection after a malformed frame, while the peer's close was awaited.
     pub fn drop_silently(&mut self)
         ensures { self.new ≡ connection_after self.old Lost }
     {
@@ -205,7 +205,7 @@ impl<A: Allocator + Copy> Connection<A> {
         free_all(&mut self.places);
     }
 
-    /// The input ended.
+    /// Ends the connection at the end of its input.
     pub fn finish(&mut self)
         ensures { self.new ≡ connection_after self.old Finished }
     {
@@ -213,7 +213,7 @@ impl<A: Allocator + Copy> Connection<A> {
         free_all(&mut self.places);
     }
 
-    /// A session begins on a channel where nothing stands. Where memory is refused nothing has changed.
+    /// Begins a session on a channel where nothing is. If memory is refused, nothing has changed.
     pub fn begin(&mut self, channel: u8, terms: SessionTerms) -> Result<(), AllocError>
         requires { channel ≤ self.old.config.channel_max }
         ensures new { OnOk result (self.new ≡ connection_after self.old (Begun channel terms)) }
@@ -224,7 +224,8 @@ impl<A: Allocator + Copy> Connection<A> {
         Ok(())
     }
 
-    /// This side ends the session on a channel with an error. Answers how many ready deliveries are dropped.
+    /// Ends the session on a channel with an error of this side. Returns how many ready deliveries were
+    /// dropped.
     pub fn fail_session(&mut self, channel: u8) -> u32
         requires { channel ≤ self.old.config.channel_max }
         ensures new { self.new ≡ connection_after self.old (SessionFailed channel) }
@@ -236,7 +237,7 @@ impl<A: Allocator + Copy> Connection<A> {
         dropped
     }
 
-    /// The peer ended the session on a channel. Answers how many ready deliveries are dropped.
+    /// Frees a channel after the peer's end of its session. Returns how many ready deliveries were dropped.
     pub fn session_ended(&mut self, channel: u8) -> u32
         requires { channel ≤ self.old.config.channel_max }
         ensures new { self.new ≡ connection_after self.old (SessionEnded channel) }
@@ -248,7 +249,7 @@ impl<A: Allocator + Copy> Connection<A> {
         dropped
     }
 
-    /// A frame of the live session on a channel. Where it is refused nothing has changed.
+    /// Lets the live session on a channel take a frame. If it is refused, nothing has changed.
     #[tactic(auto, using(crate::proofs::Lent::went_on, crate::proofs::Lent::stayed))]
     pub fn frame(
         &mut self,
@@ -267,7 +268,7 @@ impl<A: Allocator + Copy> Connection<A> {
         }
     }
 
-    /// The live session on a channel; `None` where none is live.
+    /// Returns the live session on a channel; `None` if none is live.
     pub fn session(&self, channel: u16) -> Option<&Session<A>>
         ensures { option_map (λ s. s.now) result ≡ live_in (slot_at self.now channel) }
     {
@@ -277,7 +278,7 @@ impl<A: Allocator + Copy> Connection<A> {
         }
     }
 
-    /// Lends the live session on a channel.
+    /// Lends the live session on a channel; `None` if none is live.
     pub fn session_mut(&mut self, channel: u16) -> Option<&mut Session<A>>
         ensures* writes_back { sem 𝓛 (LendsChannel A.row A.Allocator self.entry channel result) }
         ensures value { option_copied_mut result ≡ live_in (slot_at self.old channel) }
@@ -293,7 +294,7 @@ impl<A: Allocator + Copy> Connection<A> {
     }
 }
 
-/// A live session, which takes the room of one reference where it stands.
+/// A live session in a box, so that a place takes the room of one reference.
 #[derive(Drop)]
 pub struct KeptSession<A: Allocator + Copy = Global> {
     session: Box<Session<A>, A>,
@@ -307,11 +308,11 @@ impl<A: Allocator + Copy> Model for KeptSession<A> {
     ghost view = { λ a. a.session.value };
 }
 
-/// What stands at a channel.
+/// What is at a channel.
 pub type Place<A> = Slot<KeptSession<A>>;
 
 impl<A: Allocator + Copy> KeptSession<A> {
-    /// A session at its begin.
+    /// Makes a session as it is at its begin. It is an error if memory is refused.
     pub fn begin(alloc: A, terms: SessionTerms) -> Result<Self, AllocError>
         ensures { IfOk result (λ s. s ≡ session_begins terms) }
     {
@@ -328,7 +329,7 @@ impl<A: Allocator + Copy> KeptSession<A> {
         &mut self.session
     }
 
-    /// The session.
+    /// Returns the session.
     pub fn session(&self) -> &Session<A>
         ensures { result.now ≡ self.now }
     {
@@ -336,7 +337,7 @@ impl<A: Allocator + Copy> KeptSession<A> {
     }
 }
 
-/// Lends the live session at a place.
+/// Lends the live session at a place; `None` if none is live.
 fn session_mut<A: Allocator + Copy>(place: &mut Place<A>) -> Option<&mut Session<A>>
     ensures* writes_back { sem 𝓛 (LendsPlace A.row A.Allocator place.entry result) }
     ensures value { option_copied_mut result ≡ live_in place.old }
@@ -347,7 +348,7 @@ fn session_mut<A: Allocator + Copy>(place: &mut Place<A>) -> Option<&mut Session
     }
 }
 
-/// So many free places.
+/// Makes `count` free places. It is an error if memory is refused.
 fn free_places<A: Allocator + Copy>(alloc: A, count: usize) -> Result<Vec<Place<A>, A>, AllocError>
     requires { count ≤ 256 }
     ensures { IfOk result (λ places. places.items ≡ tabulate 0 count (λ k. Free)) }
@@ -359,7 +360,7 @@ fn free_places<A: Allocator + Copy>(alloc: A, count: usize) -> Result<Vec<Place<
     Ok(places)
 }
 
-/// The bytes that a place counts as holding.
+/// Returns the bytes held for a place.
 fn place_held<A: Allocator + Copy>(place: &Place<A>) -> u64
     ensures value { result ≡ channel_bytes place.now }
     ensures most { result < 2 ^ 52 }
@@ -371,7 +372,7 @@ fn place_held<A: Allocator + Copy>(place: &Place<A>) -> u64
     }
 }
 
-/// How many deliveries are ready at a place.
+/// Returns how many deliveries are ready at a place.
 fn place_ready<A: Allocator + Copy>(place: &Place<A>) -> u32
     ensures value { result ≡ channel_ready place.now }
     ensures most { result ≤ 2 ^ 18 }
@@ -382,7 +383,7 @@ fn place_ready<A: Allocator + Copy>(place: &Place<A>) -> u32
     }
 }
 
-/// How many deliveries are ready.
+/// Returns how many deliveries are ready at all places.
 fn ready<A: Allocator + Copy>(places: &[Place<A>]) -> u32
     requires { length places.now ≤ 256 }
     ensures { result ≡ sum_by channel_ready places.now }
@@ -403,7 +404,7 @@ fn free_all<A: Allocator + Copy>(places: &mut [Place<A>])
     }
 }
 
-/// The bytes that all places count as holding.
+/// Returns the bytes held for all places.
 fn held<A: Allocator + Copy>(places: &[Place<A>]) -> u64
     requires { length places.now ≤ 256 }
     ensures value { result ≡ sum_by channel_bytes places.now }

@@ -35,10 +35,12 @@ use std::marker::Model;
 
 /// The receiving endpoint of one connection [2.2 to 2.7].
 ///
-/// The peer's bytes go in by [`Endpoint::feed`], or by [`Endpoint::spare`] and [`Endpoint::filled`], which tell what they come
-/// to, and the bytes for the peer come out by [`Endpoint::output`], or by [`Endpoint::unsent_front`] and [`Endpoint::sent`]. In between the application grants credit, widens windows, takes messages and settles them.
-/// A call that is refused changes nothing. Memory is taken by [`Endpoint::new`], and by the begin, attach and
-/// transfer frames that are fed.
+/// The peer's bytes go in by [`Endpoint::feed`], or by [`Endpoint::spare`] and [`Endpoint::filled`]. These
+/// return what the bytes result in. The bytes for the peer come out by [`Endpoint::output`], or by
+/// [`Endpoint::unsent_front`] and [`Endpoint::sent`]. Between these, the application grants credit, widens
+/// windows, takes messages and settles them. A call that is refused changes nothing.
+///
+/// Memory is taken by [`Endpoint::new`], and by begin, attach and transfer frames of the peer.
 #[derive(Drop)]
 pub struct Endpoint<A: Allocator + Copy = Global> {
     input: Splitter<A>,
@@ -57,11 +59,11 @@ impl<A: Allocator + Copy> Model for Endpoint<A> {
     ghost invariant = { λ a. IsEndpoint a.input a.out a.connection };
 }
 
-/// What became of the unit that waits in the buffer.
+/// What the unit in the buffer resulted in.
 enum Acted {
-    /// It was acted upon, and told this.
+    /// It was acted upon, with this event or none.
     Done(Option<Event>),
-    /// None waits.
+    /// No unit waits.
     Nothing,
     /// It waits for room in the output.
     Blocked,
@@ -70,8 +72,8 @@ enum Acted {
 }
 
 impl<A: Allocator + Copy> Endpoint<A> {
-    /// An endpoint before the peer's header [2.2]. Makes its buffer for a frame, its output of 8192 bytes, and a place
-    /// for each channel; an error where memory for these is refused.
+    /// Makes an endpoint as it is before the peer's header [2.2]. Takes memory for a buffer of the longest
+    /// frame, an output of 8192 bytes, and a place for each channel. It is an error if that is refused.
     pub fn new(alloc: A, config: Config<A>) -> Result<Self, AllocError>
         ensures { IfOk result (λ endpoint. IsStart config endpoint) }
     {
@@ -85,16 +87,18 @@ impl<A: Allocator + Copy> Endpoint<A> {
         })
     }
 
-    /// Takes bytes of the peer, and acts upon the unit that is then whole: the header [2.2], a frame, or the bytes that
-    /// show that there is none [2.3.1].
+    /// Takes bytes of the peer, and acts upon the unit that is then whole: the header [2.2], a frame, or the
+    /// bytes that show that a frame is malformed [2.3.1].
     ///
-    /// Bytes are taken up to the end of that unit or of the piece, and none while a unit waits. A frame is acted upon
-    /// where the output has 2560 free bytes, and else waits with `Blocked`; where memory for it is refused it waits
-    /// with `NoMemory`. Nothing else has changed then, and the next feed, also one of no bytes, tries it again.
+    /// Bytes are taken up to the end of that unit or of the piece, and none while a unit waits. A frame is
+    /// acted upon if the output has 2560 free bytes, else it waits with `Blocked`. If memory for it is refused,
+    /// it waits with `NoMemory`. Nothing else has changed then, and the next feed, even one of no bytes, tries
+    /// it again.
     ///
-    /// `Event` tells what a unit came to, and `More` that there is nothing to tell. Once the connection is over it is
-    /// `Dead`: at the unit that ends it without an event, and from then on, where no byte is taken any more.
-    // 2 in 100 of `telemetry`, with the one below (docs/PERF.md).
+    /// `Event` says what a unit resulted in, and `More` that there is no event. `Dead` comes at the unit that
+    /// ends the connection without an event. After the end of the connection each feed returns `Dead`, and
+    /// takes no byte.
+    // Inlined, with `act_on_lent`, for 2 in 100 of `telemetry` (docs/PERF.md).
     #[inline(always)]
     pub fn feed(&mut self, piece: &[u8]) -> Fed
         ensures { IsFed self.old self.new piece.now result.used result.outcome }
@@ -115,9 +119,9 @@ impl<A: Allocator + Copy> Endpoint<A> {
         Fed { used, outcome }
     }
 
-    /// Acts upon a frame of so many bytes that lies whole at the front of a piece, for whose answer there is room. It is not
-    /// copied, unless memory is refused for it, so that it has to wait.
-    // For the same reason.
+    /// Acts upon a frame of `size` bytes that lies whole at the front of a piece. There has to be room for its
+    /// answer. The frame is not copied, unless memory is refused for it, so that it has to wait.
+    // Inlined for the same reason as `feed`.
     #[inline(always)]
     fn act_on_lent(&mut self, frame: Frame<'_>, size: usize, piece: &[u8]) -> Fed
         requires lent { IsLent self.old.input piece.now frame size }
@@ -141,9 +145,11 @@ impl<A: Allocator + Copy> Endpoint<A> {
         }
     }
 
-    /// Lends the room that the next bytes of the peer are read into, so that a reader fills it: what is left of the
-    /// eight bytes of the header; of a frame what is left of the four of SIZE, then of the eight of its header, then of
-    /// SIZE [2.2, 2.3.1]. It is empty while a unit waits, and once the connection is over.
+    /// Lends the room into which a reader may read the peer's next bytes.
+    ///
+    /// It is what is left of the eight bytes of the header. Of a frame it is what is left of the four bytes of
+    /// SIZE, then of the eight of the frame header, then of SIZE bytes [2.2, 2.3.1]. It is empty while a unit
+    /// waits, and once the connection is over.
     pub fn spare(&mut self) -> &mut [u8]
         ensures* writes_back { sem 𝓛 (LendsRoom A.row A.Allocator self.entry result) }
         ensures asks { AsksFor self.old (length result.now) }
@@ -158,8 +164,9 @@ impl<A: Allocator + Copy> Endpoint<A> {
         self.input.spare_front(asked)
     }
 
-    /// Takes the first `n` bytes of the room that [`Endpoint::spare`] lends, and acts upon the unit that is then whole,
-    /// as [`Endpoint::feed`] does with a piece of them. So it tries again what was refused, also where `n` is 0.
+    /// Takes the first `n` bytes of the room that [`Endpoint::spare`] lends, and acts upon the unit that is
+    /// then whole, as [`Endpoint::feed`] does with a piece of them. Even if `n` is 0, a unit that waits is
+    /// tried again.
     pub fn filled(&mut self, n: usize) -> Fed
         requires { MayRead self.old n }
         ensures used { result.used ≡ n }
@@ -180,10 +187,10 @@ impl<A: Allocator + Copy> Endpoint<A> {
     pub fn holds_a_header(&self)
         ensures { 8 ≤ self.now.input.limit }
     {
-        let _ = &self.input; // what is known of every endpoint
+        let _ = &self.input; // the invariant says so
     }
 
-    /// A law: no two open deliveries of the session on a channel have one id [2.6.12].
+    /// A law: no two open deliveries of the session on a channel have the same id [2.6.12].
     pub fn ids_are_apart(&self, channel: u16)
         ensures { IfSome (live_in (slot_at self.now.connection channel)) IsApart }
     {
@@ -192,14 +199,14 @@ impl<A: Allocator + Copy> Endpoint<A> {
         }
     }
 
-    /// A law: what stands in the room that is lent are bytes.
+    /// A law: the room that is lent consists of bytes.
     pub fn spare_is_bytes(&self)
         ensures { (i : ℕ) → slice_index self.now.input.spare i < 256 }
     {
         self.input.spare_is_bytes();
     }
 
-    /// Acts upon the unit that waits, if one does.
+    /// Acts upon the unit that waits, if one does. Returns what it resulted in.
     #[inline(always)]
     fn act(&mut self) -> Outcome
         requires { is_dead self.old.connection.phase ≡ false }
@@ -216,14 +223,14 @@ impl<A: Allocator + Copy> Endpoint<A> {
         }
     }
 
-    /// Whether no bytes wait to be sent.
+    /// Returns whether no bytes wait to be sent.
     pub fn is_all_sent(&self) -> bool
         ensures { IsTrue result ↔ (self.now.unsent ≡ []) }
     {
         self.out.is_empty()
     }
 
-    /// The first bytes that wait to be sent, as many as lie in one piece: some, where some wait.
+    /// Returns the first bytes that wait to be sent, as many as lie in one piece: at least one if any wait.
     pub fn unsent_front(&self) -> &[u8]
         ensures front { (behind : List ℕ) × (self.now.unsent ≡ result.now ++ behind) }
         ensures some { 0 < length self.now.unsent → 0 < length result.now }
@@ -231,7 +238,7 @@ impl<A: Allocator + Copy> Endpoint<A> {
         self.out.front()
     }
 
-    /// Drops the first `n` bytes that wait to be sent, which were written.
+    /// Drops the first `n` bytes that wait to be sent, which the caller has written.
     pub fn sent(&mut self, n: usize)
         requires { n ≤ length self.old.unsent }
         ensures new { self.new ≡ record self.old { unsent = drop n self.old.unsent } }
@@ -240,7 +247,7 @@ impl<A: Allocator + Copy> Endpoint<A> {
         self.out.drop_front(n);
     }
 
-    /// Moves the first bytes that wait to be sent into `out`, as many as it holds, and answers how many.
+    /// Moves the first bytes that wait to be sent into `out`, as many as it holds, and returns how many.
     pub fn output(&mut self, out: &mut [u8]) -> usize
         ensures count { result ≡ min (length out.old) (length self.old.unsent) }
         ensures read { out.new ≡ take result self.old.unsent ++ drop result out.old }
@@ -250,8 +257,8 @@ impl<A: Allocator + Copy> Endpoint<A> {
         self.out.read_into(out)
     }
 
-    /// The same into a vector of the bytes that are moved, at most `room`. Where memory for some bytes is refused nothing
-    /// has changed.
+    /// Moves the first bytes that wait to be sent, at most `room`, into a new vector. If memory is refused,
+    /// nothing has changed.
     pub(crate) fn output_to_vec(&mut self, alloc: A, room: u32) -> Result<Vec<u8, A>, AllocError>
         ensures ok { IfOk result (λ bytes. IsMoved self.old self.new room bytes.items) }
         ensures err { IfErr result (λ _. (self.new ≡ self.old) × (0 < min room (length self.old.unsent))) }
@@ -265,14 +272,14 @@ impl<A: Allocator + Copy> Endpoint<A> {
         Ok(bytes)
     }
 
-    /// What it was set up with.
+    /// Returns what the endpoint was set up with.
     pub fn config(&self) -> &Config<A>
         ensures { result.now ≡ self.now.connection.config }
     {
         self.connection.config()
     }
 
-    /// Whether the connection is over: it takes no more bytes.
+    /// Returns whether the connection is over. The endpoint then takes no more bytes.
     pub fn is_over(&self) -> bool
         ensures value { result ≡ is_dead self.now.connection.phase }
         ensures stage { IsOver self.now.input.stage → result ≡ true }
@@ -280,38 +287,38 @@ impl<A: Allocator + Copy> Endpoint<A> {
         matches!(self.connection.phase(), Phase::Dead)
     }
 
-    /// Whether no byte waits in the buffer: all that was fed was acted upon.
+    /// Returns whether no byte waits in the buffer: all that was fed was acted upon.
     pub fn is_between(&self) -> bool
         ensures { IsTrue result ↔ (self.now.input.filled ≡ []) }
     {
         self.input.is_empty()
     }
 
-    /// The bytes that count as held: those in the buffer for a frame, those that wait to be sent, and for each
-    /// session and each link what it keeps.
+    /// Returns the bytes held: those in the buffer for a frame, those that wait to be sent, and those of each
+    /// session and link.
     pub fn held(&self) -> u64
         ensures { result ≡ held self.now }
     {
         fields_listed(self)
     }
 
-    /// The places that are left of the incoming window of the session on a channel [2.5.6]; `None` where no session is
-    /// live there.
+    /// Returns how many places of the incoming window are left in the session on a channel [2.5.6]; `None` if
+    /// no session is live there.
     pub fn window(&self, channel: u16) -> Option<u32>
         ensures { result ≡ option_map (λ s. s.window) (live_in (slot_at self.now.connection channel)) }
     {
         Some(self.connection.session(channel)?.window())
     }
 
-    /// The live link at a handle of the session on a channel [2.6.2]; `None` where none is.
+    /// Returns a view of the live link at a handle of the session on a channel [2.6.2]; `None` if none is live.
     pub fn link(&self, channel: u16, handle: u32) -> Option<LinkView<'_>>
         ensures { IsLinkAt (slot_at self.now.connection channel) handle result }
     {
         self.connection.session(channel)?.link(handle)
     }
 
-    /// The first handle from one on, of the session on a channel, whose link has less credit than that, and is allowed more
-    /// beside its credit and its open deliveries [2.6.7]; `None` where no link does.
+    /// Returns the first handle, from `from` on, whose link in the session on a channel has less credit than
+    /// `credit` and can be granted more [2.6.7]; `None` if there is none.
     pub fn first_lacking(&self, channel: u16, from: u32, credit: u32) -> Option<u32>
         ensures { IsFirstLacking credit from (link_at self.now.connection channel) result }
     {
@@ -320,9 +327,10 @@ impl<A: Allocator + Copy> Endpoint<A> {
             .first_lacking(from, credit)
     }
 
-    /// Gives the link at a handle `n` places of credit more, and writes the flow that says so [2.6.7]. The sender is then
-    /// no longer asked to use its credit up, where `n` is 0 too. Refused, with nothing changed, with the first of `Dead`, `NoSession`, `NoLink`, `TooMuchCredit` and `Full`.
-    // For `telemetry` and `gateway` (docs/PERF.md).
+    /// Grants the link at a handle `n` more places of credit, and writes the flow that says so [2.6.7]. Even if
+    /// `n` is 0, the sender is then no longer asked to use its credit up. The first fault is returned, and
+    /// nothing has changed: `Dead`, `NoSession`, `NoLink`, `TooMuchCredit`, `Full`.
+    // Inlined for `telemetry` and `gateway` (docs/PERF.md).
     #[inline(always)]
     pub fn grant(&mut self, channel: u16, handle: u32, n: u32) -> Result<(), CallFault>
         ensures { CallDone self.old self.new channel (Grant handle n) (accepted_by result) }
@@ -331,8 +339,9 @@ impl<A: Allocator + Copy> Endpoint<A> {
         Ok(())
     }
 
-    /// Widens the incoming window of the session on a channel by `n` places, and writes the flow that says so [2.5.6].
-    /// Refused, with nothing changed, with the first of `Dead`, `NoSession`, `WindowTooWide` and `Full`.
+    /// Widens the incoming window of the session on a channel by `n` places, and writes the flow that says so
+    /// [2.5.6]. The first fault is returned, and nothing has changed: `Dead`, `NoSession`, `WindowTooWide`,
+    /// `Full`.
     pub fn widen(&mut self, channel: u16, n: u32) -> Result<(), CallFault>
         ensures { CallDone self.old self.new channel (Widen n) (accepted_by result) }
     {
@@ -340,8 +349,8 @@ impl<A: Allocator + Copy> Endpoint<A> {
         Ok(())
     }
 
-    /// Asks the sender on the link at a handle to use its credit up, by the flow that it writes [2.6.7]. Refused, with
-    /// nothing changed, with the first of `Dead`, `NoSession`, `NoLink` and `Full`.
+    /// Asks the sender on the link at a handle to use its credit up, by a flow that it writes [2.6.7]. The
+    /// first fault is returned, and nothing has changed: `Dead`, `NoSession`, `NoLink`, `Full`.
     pub fn drain(&mut self, channel: u16, handle: u32) -> Result<(), CallFault>
         ensures { CallDone self.old self.new channel (Drain handle) (accepted_by result) }
     {
@@ -349,9 +358,10 @@ impl<A: Allocator + Copy> Endpoint<A> {
         Ok(())
     }
 
-    /// Hands up the first delivery that is ready on the link at a handle [2.6.14]. Writes nothing and takes no memory.
-    /// Refused, with nothing changed, with the first of `Dead`, `NoSession`, `NoLink` and `NothingReady`.
-    // For `telemetry` and `gateway` (docs/PERF.md).
+    /// Hands up the first delivery that is ready on the link at a handle [2.6.14]. Writes nothing and takes no
+    /// memory. The first fault is returned, and nothing has changed: `Dead`, `NoSession`, `NoLink`,
+    /// `NothingReady`.
+    // Inlined for `telemetry` and `gateway` (docs/PERF.md).
     #[inline(always)]
     pub fn take(&mut self, channel: u16, handle: u32) -> Result<Taken<A>, CallFault>
         ensures { CallDone self.old self.new channel (Take handle) (handed_by result) }
@@ -359,10 +369,11 @@ impl<A: Allocator + Copy> Endpoint<A> {
         requests::take(&mut self.connection, channel, handle)
     }
 
-    /// Tells the sender what became of the delivery of a session with this id, by the disposition that it writes
-    /// [2.6.12]. In mode first that settles it; in mode second the sender settles it [2.8.3]. Refused, with nothing
-    /// changed, with the first of `Dead`, `NoSession`, `NoDelivery`, `NotTaken`, `AlreadyTold` and `Full`.
-    // For `telemetry` and `gateway` (docs/PERF.md).
+    /// Tells the sender what became of the delivery of a session with this id, by a disposition that it writes
+    /// [2.6.12]. In mode first (rcv-settle-mode) that settles the delivery; in mode second the sender settles
+    /// it [2.8.3]. The first fault is returned, and nothing has changed: `Dead`, `NoSession`, `NoDelivery`,
+    /// `NotTaken`, `AlreadyTold`, `Full`.
+    // Inlined for `telemetry` and `gateway` (docs/PERF.md).
     #[inline(always)]
     pub fn settle(&mut self, channel: u16, id: u32, outcome: Settlement) -> Result<(), CallFault>
         ensures { CallDone self.old self.new channel (Settle id outcome) (accepted_by result) }
@@ -376,11 +387,13 @@ impl<A: Allocator + Copy> Endpoint<A> {
         Ok(())
     }
 
-    /// Tells the sender what became of the open deliveries of a session whose ids the range from `first` to `last` covers
-    /// [2.7.6, 2.8.10], by the one disposition that it writes, and answers how many it named. Both ends are ids of open
-    /// deliveries; ids between them may be of none. In mode first that settles them; in mode second the sender settles them
-    /// [2.8.3]. Takes no memory. Refused, with nothing changed, with the first of `Dead`, `NoSession`, `NoDelivery`,
-    /// `NotTaken`, `AlreadyTold`, `MixedModes` and `Full`.
+    /// Tells the sender what became of the open deliveries of a session with ids from `first` to `last`, by one
+    /// disposition that it writes [2.7.6, 2.8.10]. Returns how many deliveries that names. Takes no memory.
+    ///
+    /// Both ends have to be ids of open deliveries; ids between them may belong to none. In mode first
+    /// (rcv-settle-mode) the deliveries are settled; in mode second the sender settles them [2.8.3]. The first
+    /// fault is returned, and nothing has changed: `Dead`, `NoSession`, `NoDelivery`, `NotTaken`,
+    /// `AlreadyTold`, `MixedModes`, `Full`.
     pub fn settle_range(
         &mut self,
         channel: u16,
@@ -398,17 +411,18 @@ impl<A: Allocator + Copy> Endpoint<A> {
         self.ask(channel, request)
     }
 
-    /// Ends the link at a handle, by the detach with closed true that it writes [2.6.6], and answers how many ready deliveries are
-    /// dropped. The handle stays in use until the peer detaches it. Refused, with nothing changed, with the first of
-    /// `Dead`, `NoSession`, `NoLink` and `Full`.
+    /// Ends the link at a handle, by a detach with closed true that it writes [2.6.6]. Returns how many ready
+    /// deliveries were dropped. The handle stays in use until the peer detaches it. The first fault is
+    /// returned, and nothing has changed: `Dead`, `NoSession`, `NoLink`, `Full`.
     pub fn detach(&mut self, channel: u16, handle: u32) -> Result<u32, CallFault>
         ensures { CallDone self.old self.new channel (Detach handle) (dropped_by result) }
     {
         self.ask(channel, Request::Detach { handle })
     }
 
-    /// Asks a session, and says so. Answers how many deliveries a settle names, or a detach drops.
-    // For `telemetry` and `gateway` (docs/PERF.md).
+    /// Makes a request of a session, and writes the frame for it. Returns how many deliveries a settle names,
+    /// or a detach drops.
+    // Inlined for `telemetry` and `gateway` (docs/PERF.md).
     #[inline(always)]
     fn ask(&mut self, channel: u16, request: Request) -> Result<u32, CallFault>
         ensures answered { CallAnswered self.old.connection self.new.connection self.old.unsent self.new.unsent channel (asked_of request) result }
@@ -418,9 +432,9 @@ impl<A: Allocator + Copy> Endpoint<A> {
         requests::ask(&mut self.connection, &mut self.out, channel, request)
     }
 
-    /// Closes the connection, by the close that it writes [2.4.3], and answers how many ready deliveries are dropped.
-    /// Its sessions and links are gone then, and of what the peer sends only its close counts. Refused, with nothing
-    /// changed, with the first of `Dead`, `NotOpen` and `Full`.
+    /// Closes the connection, by a close that it writes [2.4.3]. Returns how many ready deliveries were
+    /// dropped. Its sessions and links are gone then, and of what the peer sends only its close counts. The
+    /// first fault is returned, and nothing has changed: `Dead`, `NotOpen`, `Full`.
     pub fn close(&mut self) -> Result<u32, CallFault>
         ensures { CloseDone self.old self.new (dropped_by result) }
     {
@@ -428,8 +442,8 @@ impl<A: Allocator + Copy> Endpoint<A> {
         Ok(closing::close(&mut self.connection, &mut self.out))
     }
 
-    /// Writes an empty frame, which tells the peer that this side is there [2.4.5]. Refused, with nothing changed, with
-    /// the first of `Dead`, `NotOpen` and `Full`.
+    /// Writes an empty frame, which tells the peer that this side is there [2.4.5]. The first fault is
+    /// returned, and nothing has changed: `Dead`, `NotOpen`, `Full`.
     pub fn heartbeat(&mut self) -> Result<(), CallFault>
         ensures { BeatDone self.old self.new (accepted_by result) }
     {
@@ -438,10 +452,12 @@ impl<A: Allocator + Copy> Endpoint<A> {
         Ok(())
     }
 
-    /// The input has ended. Answers how the connection stood: `Failed` where this side ended it with an error or
-    /// refused its header, else `Closed` where the peer's close came, else `Inside` where bytes of a unit wait, else
-    /// `Between`. The connection is over then, with its sessions and links, and the buffer is empty; what waits to be
-    /// sent is left. A further call answers by the same rule.
+    /// Ends the input, and returns how the connection stood.
+    ///
+    /// It is `Failed` if this side ended the connection with an error or refused its header, else `Closed` if
+    /// the peer's close came. Else it is `Inside` if bytes of a unit wait, else `Between`. Then the connection
+    /// is over, with its sessions and links, and the buffer is empty. What waits to be sent still waits. A
+    /// further call returns by the same rule.
     pub fn finish(&mut self) -> End
         ensures finished { IsFinished self.old self.new }
         ensures end { result ≡ end_of self.old }
@@ -452,7 +468,7 @@ impl<A: Allocator + Copy> Endpoint<A> {
         end
     }
 
-    /// How the connection stands.
+    /// Returns how the connection stands.
     fn end(&self) -> End
         ensures { result ≡ end_of self.now }
     {
@@ -468,8 +484,8 @@ impl<A: Allocator + Copy> Endpoint<A> {
     }
 }
 
-/// The bytes that count as held, with all fields named, so that a new one does not compile until it is listed here; the
-/// input, the output, the connection, its sessions and their links do the same with theirs.
+/// Returns the bytes held. The pattern names all fields, so that a new one must be listed here. The input, the
+/// output, the connection, its sessions and their links do the same.
 fn fields_listed<A: Allocator + Copy>(endpoint: &Endpoint<A>) -> u64
     ensures { result ≡ held endpoint.now }
 {
@@ -510,7 +526,7 @@ fn act_on_unit<A: Allocator + Copy>(
     }
 }
 
-/// What is told of a unit that was acted upon.
+/// Returns the outcome for a unit that was acted upon.
 fn told_outcome<A: Allocator + Copy>(connection: &Connection<A>, told: Option<Event>) -> Outcome
     ensures { result ≡ told_outcome connection.now told }
 {
@@ -521,7 +537,7 @@ fn told_outcome<A: Allocator + Copy>(connection: &Connection<A>, told: Option<Ev
     }
 }
 
-/// Why a close and a heartbeat are refused.
+/// Returns why a close and a heartbeat would be refused, if they would be.
 fn open_call<A: Allocator + Copy>(
     connection: &Connection<A>,
     out: &Output<A>,

@@ -1,4 +1,4 @@
-//! What the endpoint tells of what came, and what it answers.
+//! What the endpoint reports of what came, and what it returns.
 use amqp_perform::Condition;
 
 /// What ended with an error.
@@ -11,7 +11,7 @@ pub enum Scope {
     Link { channel: u16, handle: u32 },
 }
 
-/// What a unit that was acted upon came to.
+/// What a unit that was acted upon resulted in.
 #[derive(Clone, Copy, Debug, PartialEq, Eq)]
 pub enum Event {
     /// The peer's open came, and the connection is open [2.4.1].
@@ -45,27 +45,28 @@ pub enum Event {
         channel: u16,
         handle: u32,
     },
-    /// The sender settled so many deliveries, at least one [2.7.6].
+    /// The sender settled `count` deliveries, at least one [2.7.6].
     Settled {
         channel: u16,
         count: u32,
     },
-    /// The peer detached a link, and so many ready deliveries were dropped [2.6.4].
+    /// The peer detached a link, and `dropped` ready deliveries were dropped [2.6.4].
     Detached {
         channel: u16,
         handle: u32,
         dropped: u32,
     },
-    /// The peer ended a session, and so many ready deliveries were dropped [2.5.3].
+    /// The peer ended a session, and `dropped` ready deliveries were dropped [2.5.3].
     Ended {
         channel: u16,
         dropped: u32,
     },
-    /// The peer closed the connection, and so many ready deliveries were dropped [2.4.3].
+    /// The peer closed the connection, and `dropped` ready deliveries were dropped [2.4.3].
     Closed {
         dropped: u32,
     },
-    /// This side ended something with an error, and so many ready deliveries were dropped [2.4.6, 2.5.4, 2.6.5].
+    /// This side ended something with an error, and `dropped` ready deliveries were dropped [2.4.6, 2.5.4,
+    /// 2.6.5].
     Failed {
         scope: Scope,
         condition: Condition,
@@ -73,22 +74,23 @@ pub enum Event {
     },
 }
 
-/// What a `feed` came to.
+/// What a `feed` resulted in.
 #[derive(Clone, Copy, Debug, PartialEq, Eq)]
 pub enum Outcome {
-    /// Nothing to tell: more bytes are wanted.
+    /// There is no event: more bytes are needed.
     More,
-    /// A unit was acted upon, and came to this.
+    /// A unit was acted upon, and resulted in this event.
     Event(Event),
-    /// A whole unit waits, since the output has too little room for what it may be answered.
+    /// A whole unit waits, since the output has too little room for a possible answer.
     Blocked,
     /// A whole unit waits, since memory was refused. Nothing else has changed.
     NoMemory,
-    /// The connection is over: at the unit that ended it without an event, and from then on, where no byte is taken.
+    /// The connection is over. This comes at the unit that ended it without an event, and at each later feed,
+    /// which takes no byte.
     Dead,
 }
 
-/// How many bytes of a piece were taken, and what came of it.
+/// How many bytes of a piece were taken, and what that resulted in.
 #[derive(Clone, Copy, Debug, PartialEq, Eq)]
 pub struct Fed {
     pub used: usize,
@@ -102,7 +104,7 @@ pub enum End {
     Failed,
     /// The peer closed it [2.4.3].
     Closed,
-    /// So many bytes of a unit, at least one, waited in the frame buffer.
+    /// This many bytes of a unit, at least one, waited in the frame buffer.
     Inside(usize),
     /// No unit had begun.
     Between,

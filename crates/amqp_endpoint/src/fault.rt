@@ -1,15 +1,16 @@
 //! Why a call is refused.
 use thiserror::Error;
 
-/// Why the endpoint refuses a call of its application. Nothing has changed then. The faults are looked for in this
-/// order: `Dead`, `NotOpen`, `NoSession`, `NoLink`, `NoDelivery`, `NotTaken`, `AlreadyTold`, `MixedModes`, `NothingReady`,
-/// `TooMuchCredit`, `WindowTooWide`, `Full`.
+/// Why the endpoint refuses a call of its application. Nothing has changed.
+///
+/// The first fault is returned, in this order: `Dead`, `NotOpen`, `NoSession`, `NoLink`, `NoDelivery`,
+/// `NotTaken`, `AlreadyTold`, `MixedModes`, `NothingReady`, `TooMuchCredit`, `WindowTooWide`, `Full`.
 #[derive(Clone, Copy, Debug, PartialEq, Eq, Drop, Error)]
 pub enum CallFault {
-    /// No session is live on the channel: one that this side has ended is not.
+    /// No session is live on the channel. One that this side has ended is not live.
     #[error("no session is live on this channel")]
     NoSession,
-    /// No link is live at the handle: one that this side has detached or refused is not.
+    /// No link is live at the handle. One that this side has detached or refused is not live.
     #[error("no link is live at this handle")]
     NoLink,
     /// Credit and open deliveries would be more than the link allows.
@@ -18,22 +19,23 @@ pub enum CallFault {
     /// The window would pass 2147483647 places.
     #[error("the window would pass 2147483647 places")]
     WindowTooWide,
-    /// The output has less than 2560 free bytes.
+    /// The output has fewer than 2560 free bytes.
     #[error("the output has less than 2560 free bytes")]
     Full,
     /// No delivery of the link is ready.
     #[error("no delivery of the link is ready")]
     NothingReady,
-    /// No open delivery has the id, or the last id of a range is behind its first.
+    /// No open delivery has the id, or one end of the range; or the last id is before the first.
     #[error("no open delivery has this id, or the last id of the range is behind its first")]
     NoDelivery,
     /// The delivery, or one of those that a range names, was not handed up.
     #[error("a delivery that is named was not handed up")]
     NotTaken,
-    /// The sender was told what became of the delivery, or of one of those, which it has to settle.
+    /// The sender was already told what became of the delivery, or of one that the range names, and has to
+    /// settle it.
     #[error("the sender was told what became of a delivery that is named, and has to settle it")]
     AlreadyTold,
-    /// Modes first and second are among the deliveries that a range names [2.8.3].
+    /// The range names deliveries in mode first and in mode second [2.8.3].
     #[error("deliveries of the modes first and second cannot be settled at once")]
     MixedModes,
     /// The connection is over, or this side has closed it.

@@ -16,7 +16,7 @@ use amqp_session::SessionTerms;
 use amqp_types::{Kind, Peek, put};
 use std::alloc::Allocator;
 
-/// The open, with the highest channel and the idle-time-out that was spelled for it [2.7.1].
+/// Makes the open, with the highest channel and the encoded idle-time-out [2.7.1].
 pub fn open<'a, A: Allocator + Copy>(
     config: &'a Config<A>,
     channel_max: u16,
@@ -40,7 +40,8 @@ pub fn open<'a, A: Allocator + Copy>(
     })
 }
 
-/// An idle-time-out in milliseconds as the open spells it, put into `scratch`; nothing where there is none [2.4.5].
+/// Returns an idle-time-out in milliseconds as the open encodes it, written into `scratch`; empty if there is
+/// none [2.4.5].
 pub fn time_out(milliseconds: Option<u32>, scratch: &mut [u8; 5]) -> &[u8]
     ensures { span result.now ≡ time_out_said milliseconds }
 {
@@ -50,7 +51,7 @@ pub fn time_out(milliseconds: Option<u32>, scratch: &mut [u8; 5]) -> &[u8]
     }
 }
 
-/// The shortest spelling of a number as a uint, put into `scratch` [1.6.7].
+/// Returns the shortest encoding of a number as a uint, written into `scratch` [1.6.7].
 fn uint(number: u32, scratch: &mut [u8; 5]) -> &[u8]
     ensures { result.now ≡ canonical (Number Kind.Uint number) }
 {
@@ -60,7 +61,7 @@ fn uint(number: u32, scratch: &mut [u8; 5]) -> &[u8]
     }
 }
 
-/// The begin that answers one of the peer [2.7.2].
+/// Makes the begin that answers one of the peer [2.7.2].
 pub fn begin(channel: u16, terms: &SessionTerms) -> Performative<'static>
     ensures said { said result ≡ begin_said channel terms.now }
     ensures short { said_most (said result) ≤ 400 }
@@ -77,7 +78,7 @@ pub fn begin(channel: u16, terms: &SessionTerms) -> Performative<'static>
     })
 }
 
-/// An end, with this error or none [2.7.8].
+/// Makes an end, with this error or none [2.7.8].
 pub fn end(error: &[u8]) -> Performative<'_>
     requires { length error.now ≤ 100 }
     ensures said { said result ≡ end_said error.now }
@@ -86,7 +87,7 @@ pub fn end(error: &[u8]) -> Performative<'_>
     Performative::End(End { error })
 }
 
-/// A close, with this error or none [2.7.9].
+/// Makes a close, with this error or none [2.7.9].
 pub fn close(error: &[u8]) -> Performative<'_>
     requires { length error.now ≤ 100 }
     ensures said { said result ≡ close_said error.now }
@@ -95,7 +96,7 @@ pub fn close(error: &[u8]) -> Performative<'_>
     Performative::Close(Close { error })
 }
 
-/// The error of a condition [2.8.14].
+/// Returns the encoded error of a condition [2.8.14].
 pub fn error(condition: Condition) -> &'static [u8]
     ensures value { result.now ≡ condition_span condition }
     ensures short { length result.now ≤ 100 }
@@ -103,7 +104,7 @@ pub fn error(condition: Condition) -> &'static [u8]
     condition.span()
 }
 
-/// The name of the link that a performative begins, if it begins one.
+/// Returns the name of the link that a performative begins; empty if it begins none.
 pub fn named<'a>(performative: &Performative<'a>) -> &'a [u8]
     ensures { result.now ≡ named performative.now }
 {

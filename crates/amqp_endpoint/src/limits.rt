@@ -1,4 +1,4 @@
-//! What links may keep, by the bytes with which their names begin.
+//! What links may hold, by the bytes with which their names begin.
 ghost use Rattle.std.specs.Prelude.{◌≡◌, ◌↔◌, ◌<◌, length, Option, IfSome, IfNone, IfOk, IsTrue, slice_get, Some, if◌then◌else◌};
 ghost use Rattle.std.specs.Option.{option_map};
 ghost use Rattle.amqp_link.specs.Bounds.{IsBounded};
@@ -12,18 +12,18 @@ use thiserror::Error;
 /// The most rows of a table.
 const MAX_LIMITS: usize = 16;
 
-/// The longest prefix: no name is longer.
+/// The longest prefix, in bytes. No name is longer.
 const MAX_PREFIX: usize = 255;
 
-/// What each link may keep whose name begins with `prefix`: credit and open deliveries are together at most `allowed`, and
-/// no message is longer than `max_message` bytes.
+/// What each link whose name begins with `prefix` may hold. Credit and open deliveries are together at most
+/// `allowed`, and no message is longer than `max_message` bytes.
 #[derive(Drop)]
 pub struct LinkLimit<A: Allocator + Copy = Global> {
     /// 1 to 255 bytes.
     pub prefix: Vec<u8, A>,
-    /// 1 to 1024.
+    /// 1 to 1024 deliveries.
     pub allowed: u32,
-    /// 1 to 2^30.
+    /// 1 to 2^30 bytes.
     pub max_message: u32,
 }
 
@@ -33,7 +33,7 @@ pub enum LimitFault {
     /// It has more than 16 rows.
     #[error("the table of limits has more than 16 rows")]
     TooMany,
-    /// The prefix of this row is empty or has more than 255 bytes, or a number of it is outside its range.
+    /// The prefix of this row is empty or longer than 255 bytes, or one of its numbers is outside its range.
     #[error("row {0} of the limits: the prefix has 1 to 255 bytes, and it allows 1 to 1024 deliveries of 1 to 1073741824 bytes")]
     BadRow(usize),
     /// This row has the prefix of an earlier one.
@@ -50,7 +50,7 @@ impl<A: Allocator + Copy> Model for LinkLimit<A> {
 }
 
 impl<A: Allocator + Copy> LinkLimit<A> {
-    /// An equal one.
+    /// Returns an equal limit. It is an error if memory is refused.
     fn copy(&self, alloc: A) -> Result<Self, AllocError>
         ensures { IfOk result (λ c. c ≡ self.now) }
     {
@@ -61,7 +61,7 @@ impl<A: Allocator + Copy> LinkLimit<A> {
         })
     }
 
-    /// Its bounds.
+    /// Returns the bounds of the limit.
     pub fn bounds(&self) -> LinkBounds
         requires { IsBounded self.now.bounds.allowed self.now.bounds.max_message_size }
         ensures { result ≡ self.now.bounds }
@@ -72,7 +72,7 @@ impl<A: Allocator + Copy> LinkLimit<A> {
         }
     }
 
-    /// Whether it may stand in a table.
+    /// Returns whether the limit is valid as a row of a table.
     fn is_good(&self) -> bool
         ensures { IsTrue result ↔ IsGood self.now }
     {
@@ -80,14 +80,14 @@ impl<A: Allocator + Copy> LinkLimit<A> {
         is_prefix && LinkBounds::new(self.allowed, self.max_message).is_some()
     }
 
-    /// Whether its prefix is that of another.
+    /// Returns whether the limit has the prefix of another.
     fn has_prefix_of(&self, other: &LinkLimit<A>) -> bool
         ensures { IsTrue result ↔ (self.now.prefix ≡ other.now.prefix) }
     {
         self.prefix.as_slice() == other.prefix.as_slice()
     }
 
-    /// Whether a name begins with its prefix.
+    /// Returns whether a name begins with the prefix.
     fn begins(&self, name: &[u8]) -> bool
         ensures { result ≡ begins_with self.now.prefix name.now }
     {
@@ -95,7 +95,7 @@ impl<A: Allocator + Copy> LinkLimit<A> {
     }
 }
 
-/// The row of the longest prefix with which a name begins.
+/// Returns the row of the longest prefix with which a name begins; `None` if it begins with none.
 pub fn longest<'a, A: Allocator + Copy>(
     limits: &'a [LinkLimit<A>],
     name: &[u8],
@@ -111,7 +111,7 @@ pub fn longest<'a, A: Allocator + Copy>(
     found
 }
 
-/// Whether the prefix of a row is longer than that of the one that was found.
+/// Returns whether the prefix of a row is longer than that of the row found so far, or none was found.
 fn is_longer<A: Allocator + Copy>(limit: &LinkLimit<A>, found: Option<&LinkLimit<A>>) -> bool
     ensures { longer (option_map (λ r. r.now) found.entry) (Some limit.now) ≡ (if result then Some limit.now else option_map (λ r. r.now) found.entry) }
 {
@@ -121,7 +121,7 @@ fn is_longer<A: Allocator + Copy>(limit: &LinkLimit<A>, found: Option<&LinkLimit
     }
 }
 
-/// The first fault of a table.
+/// Returns the first fault of a table; `None` if it has none.
 pub fn fault<A: Allocator + Copy>(limits: &[LinkLimit<A>]) -> Option<LimitFault>
     ensures some { IfSome result (λ e. IsFault limits.now e) }
     ensures none { IfNone result (IsTable limits.now) }
@@ -140,7 +140,7 @@ pub fn fault<A: Allocator + Copy>(limits: &[LinkLimit<A>]) -> Option<LimitFault>
     None
 }
 
-/// Whether a row has the prefix of an earlier one.
+/// Returns whether a row has the prefix of an earlier one.
 fn is_repeated<A: Allocator + Copy>(limits: &[LinkLimit<A>], row: usize) -> bool
     requires { row < length limits.now }
     ensures { (r : Limit) → slice_get limits.now row ≡ Some r → (IsTrue result ↔ IsRepeated limits.now row r) }
@@ -153,7 +153,7 @@ fn is_repeated<A: Allocator + Copy>(limits: &[LinkLimit<A>], row: usize) -> bool
     false
 }
 
-/// An equal table.
+/// Returns an equal table. It is an error if memory is refused.
 pub fn copies<A: Allocator + Copy>(
     alloc: A,
     limits: &[LinkLimit<A>],

@@ -9,7 +9,7 @@ use crate::frames;
 use crate::output::Output;
 use std::alloc::Allocator;
 
-/// Says the open, with the highest channel [2.4.1].
+/// Writes the open of this side, with the highest channel [2.4.1].
 pub fn say_open<A: Allocator + Copy>(
     connection: &Connection<A>,
     out: &mut Output<A>,

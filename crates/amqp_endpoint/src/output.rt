@@ -1,4 +1,4 @@
-//! What waits to be moved out.
+//! The bytes that wait to be moved out.
 ghost use Rattle.std.specs.Prelude.{◌≡◌, ◌<◌, ◌≤◌, ◌+◌, ◌++◌, ◌↔◌, ℕ, List, [], min, length, take, drop, IfOk, IsTrue};
 ghost use Rattle.amqp_perform.specs.Said.{said, said_frame};
 ghost use Rattle.amqp_endpoint.specs.Sayings.{said_of};
@@ -18,16 +18,16 @@ use circular_buffer::HeapCircularBuffer;
 use std::alloc::{AllocError, Allocator, Global};
 use std::marker::Model;
 
-/// How many bytes may wait.
+/// The most bytes that may wait.
 const OUTPUT_SIZE: usize = 8192;
 
-/// How many bytes have to be free before an answer is begun. No answer is longer.
+/// The number of bytes that have to be free before an answer is begun. No answer is longer.
 const REPLY_ROOM: usize = 2560;
 
 /// An empty frame on channel 0 [2.4.5].
 const HEARTBEAT: [u8; 8] = [0, 0, 0, 8, 2, 0, 0, 0];
 
-/// The bytes that wait to be moved out, at most 8192, and room in which a frame is put together. Only `new` takes
+/// The bytes that wait to be moved out, at most 8192, and room in which a frame is built. Only `new` takes
 /// memory.
 #[derive(Drop)]
 pub struct Output<A: Allocator + Copy = Global> {
@@ -46,7 +46,7 @@ impl<A: Allocator + Copy> Model for Output<A> {
 }
 
 impl<A: Allocator + Copy> Output<A> {
-    /// Nothing waits.
+    /// Makes an output in which nothing waits. It is an error if memory is refused.
     pub fn new(alloc: A) -> Result<Self, AllocError>
         ensures { IfOk result (λ a. a ≡ []) }
     {
@@ -56,7 +56,7 @@ impl<A: Allocator + Copy> Output<A> {
         })
     }
 
-    /// How many bytes wait.
+    /// Returns how many bytes wait.
     pub fn len(&self) -> usize
         ensures value { result ≡ length self.now }
         ensures most { result ≤ output_size }
@@ -65,14 +65,14 @@ impl<A: Allocator + Copy> Output<A> {
         pipe.len()
     }
 
-    /// Whether none wait.
+    /// Returns whether no bytes wait.
     pub fn is_empty(&self) -> bool
         ensures { IsTrue result ↔ (self.now ≡ []) }
     {
         self.pipe.is_empty()
     }
 
-    /// Whether there is room for any answer.
+    /// Returns whether there is room for any answer: 2560 free bytes.
     pub fn has_room(&self) -> bool
         ensures value { result ≡ has_room self.now }
         ensures room { IsTrue result ↔ (length self.now + reply_room ≤ output_size) }
@@ -80,7 +80,7 @@ impl<A: Allocator + Copy> Output<A> {
         self.pipe.len() <= OUTPUT_SIZE - REPLY_ROOM
     }
 
-    /// Puts bytes behind those that wait.
+    /// Appends bytes to those that wait.
     pub fn put_bytes(&mut self, bytes: &[u8])
         requires { length self.old + length bytes.now ≤ output_size }
         ensures { self.new ≡ self.old ++ bytes.now }
@@ -88,7 +88,7 @@ impl<A: Allocator + Copy> Output<A> {
         self.pipe.fill_from_slice(bytes);
     }
 
-    /// Puts a frame without payload behind them.
+    /// Appends the frame of a performative without payload.
     pub fn say(&mut self, channel: u16, performative: &Performative<'_>)
         requires short { said_most (said performative.now) ≤ reply_room }
         requires room { length self.old + said_most (said performative.now) ≤ output_size }
@@ -99,9 +99,9 @@ impl<A: Allocator + Copy> Output<A> {
         self.put(channel, &Saying::Performative(performative));
     }
 
-    /// Puts the frame of what is said behind them, which is known to fit. Each frame that says something goes out here; an empty
-    /// one goes by [`Output::beat`].
-    // For `telemetry` and `gateway` (docs/PERF.md).
+    /// Appends the frame of what is said, which has to fit. Every frame is written here but an empty one, for
+    /// which there is [`Output::beat`].
+    // Inlined for `telemetry` and `gateway` (docs/PERF.md).
     #[inline(always)]
     pub fn put(&mut self, channel: u16, saying: &Saying<'_>)
         requires short { length (said_frame channel (said_of saying.now) []) ≤ reply_room }
@@ -113,7 +113,7 @@ impl<A: Allocator + Copy> Output<A> {
         }
     }
 
-    /// Puts an empty frame behind them.
+    /// Appends an empty frame.
     pub fn beat(&mut self)
         requires { length self.old + 8 ≤ output_size }
         ensures { self.new ≡ self.old ++ heartbeat }
@@ -121,7 +121,7 @@ impl<A: Allocator + Copy> Output<A> {
         self.pipe.fill_from_slice(HEARTBEAT.as_slice());
     }
 
-    /// The first bytes that wait, as many as lie in one piece: some, where some wait.
+    /// Returns the first bytes that wait, as many as lie in one piece: at least one if any wait.
     pub fn front(&self) -> &[u8]
         ensures front { (behind : List ℕ) × (self.now ≡ result.now ++ behind) }
         ensures some { 0 < length self.now → 0 < length result.now }
@@ -130,13 +130,13 @@ impl<A: Allocator + Copy> Output<A> {
         if front.is_empty() { behind } else { front }
     }
 
-    /// Drops the first `n` of them.
+    /// Drops the first `n` bytes that wait.
     pub fn drop_front(&mut self, n: usize)
         requires { n ≤ length self.old }
         ensures { self.new ≡ drop n self.old }
     {
         let left = self.pipe.len() - n;
-        // (nearly always all were sent, and an empty ring begins at its front again)
+        // Nearly always all were sent, and a cleared ring begins at its front again.
         if left == 0 {
             self.pipe.clear();
         } else {
@@ -144,7 +144,7 @@ impl<A: Allocator + Copy> Output<A> {
         }
     }
 
-    /// Moves the first bytes that wait into `out`, as many as it holds, and answers how many.
+    /// Moves the first bytes that wait into `out`, as many as it holds, and returns how many.
     pub fn read_into(&mut self, out: &mut [u8]) -> usize
         ensures count { result ≡ min (length out.old) (length self.old) }
         ensures read { out.new ≡ take result self.old ++ drop result out.old }
@@ -154,8 +154,8 @@ impl<A: Allocator + Copy> Output<A> {
     }
 }
 
-/// Puts the first `len` bytes of `scratch` behind those that wait. The ring copies 32 bytes at a time, and a rest in small steps, so
-/// more bytes are put, and dropped again behind.
+/// Appends the first `len` bytes of `scratch` to those that wait. The ring copies 32 bytes at a time, and a
+/// rest in small steps. So the length is rounded up to a multiple of 32, and the excess is dropped again.
 fn put_front<A: Allocator>(
     pipe: &mut HeapCircularBuffer<u8, A>,
     scratch: &[u8; REPLY_ROOM],
@@ -171,18 +171,19 @@ fn put_front<A: Allocator>(
     pipe.truncate_back(end);
 }
 
-/// What is said in one frame. Those that come with each message are numbers alone: no performative is made of them.
+/// What is said in one frame. The variants that come with each message have only numbers, so that no
+/// performative is made of them.
 #[derive(Clone, Copy)]
 pub enum Saying<'a> {
     /// Any performative.
     Performative(&'a Performative<'a>),
-    /// The answer to an attach that was accepted, whose link has these bounds [2.6.3].
+    /// The answer to an accepted attach, whose link has these bounds [2.6.3].
     Attached(&'a Attach<'a>, LinkBounds),
     /// A flow [2.7.4].
     Flow(Flow<'static>),
     /// The flow that states a link's credit [2.6.7].
     Credit(LinkFlow),
-    /// What became of the deliveries with the ids from `first` to `last` [2.7.6].
+    /// The disposition that says what became of the deliveries with the ids from `first` to `last` [2.7.6].
     Settled {
         first: u32,
         last: u32,
@@ -194,8 +195,9 @@ pub enum Saying<'a> {
 }
 
 impl<'a> Saying<'a> {
-    /// Writes its frame at the front of `out`. Answers its length; `None`, with `out` unchanged, where it does not fit.
-    // The match falls away where the kind is known.
+    /// Writes the frame at the front of `out`. Returns its length in bytes; `None`, with `out` unchanged, if it
+    /// does not fit.
+    // Inlined: the match falls away if the variant is known.
     #[inline(always)]
     fn write(&self, channel: u16, out: &mut [u8]) -> Option<usize>
         ensures { IsWritten (said_frame channel (said_of self.now) []) result out.old out.new }

@@ -27,7 +27,7 @@ pub enum Phase {
     Open {
         /// The peer's max-frame-size [2.7.1].
         max_frame_size: u32,
-        /// The highest channel, the lesser of both sides' channel-max.
+        /// The highest channel: the lesser of both sides' channel-max.
         channel_max: u8,
     },
     /// This side has closed it, and the peer's close has not come.

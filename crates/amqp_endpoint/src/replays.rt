@@ -13,8 +13,8 @@ use crate::laws::{are_bytes, is_id, runs_have_a_history};
 use amqp_link::Taken;
 use std::alloc::{AllocError, Allocator};
 
-/// Makes these calls on a new endpoint, in order, and gives the endpoint and their answers. An error where memory for
-/// the endpoint, for the answers or for the bytes of an output is refused.
+/// Makes these calls on a new endpoint, in order, and returns the endpoint and the answers. It is an error if
+/// memory for the endpoint, for the answers or for the bytes of an output is refused.
 pub fn replay<A: Allocator + Copy>(
     alloc: A,
     config: Config<A>,
@@ -56,8 +56,8 @@ fn are_ids(first: u32, last: u32)
 }
 
 impl<A: Allocator + Copy> Endpoint<A> {
-    /// Makes one call. An error only where memory for the bytes that an output moves out is refused; nothing has changed
-    /// then. What a feed is refused it tells in its outcome.
+    /// Makes one call, and returns its answer. It is an error only if memory for the bytes that an output moves
+    /// out is refused. Then nothing has changed. A feed that is refused memory returns that in its outcome.
     pub fn call(&mut self, alloc: A, call: &Call<'_>) -> Result<Answer<A>, AllocError>
         ensures ok { IfOk result (λ answer. Does self.old self.new (call_of call.now) (answer_of answer)) }
         ensures err { IfErr result (λ _. (self.new ≡ self.old) × (may_want self.old (call_of call.now) ≡ true)) }
@@ -89,7 +89,7 @@ impl<A: Allocator + Copy> Endpoint<A> {
     }
 }
 
-/// The answer of a call that gives nothing.
+/// Returns the answer to a call that returns nothing.
 fn accepted<A: Allocator + Copy>(given: Result<(), CallFault>) -> Answer<A>
     ensures { answer_of result ≡ accepted_by given }
 {
@@ -99,7 +99,7 @@ fn accepted<A: Allocator + Copy>(given: Result<(), CallFault>) -> Answer<A>
     }
 }
 
-/// The answer of one that gives how many ready deliveries were dropped.
+/// Returns the answer to a call that returns how many ready deliveries were dropped.
 fn dropped<A: Allocator + Copy>(given: Result<u32, CallFault>) -> Answer<A>
     ensures { answer_of result ≡ dropped_by given }
 {
@@ -109,7 +109,7 @@ fn dropped<A: Allocator + Copy>(given: Result<u32, CallFault>) -> Answer<A>
     }
 }
 
-/// The answer of one that gives how many deliveries it named.
+/// Returns the answer to a call that returns how many deliveries it named.
 fn named<A: Allocator + Copy>(given: Result<u32, CallFault>) -> Answer<A>
     ensures { answer_of result ≡ named_by given }
 {
@@ -119,7 +119,7 @@ fn named<A: Allocator + Copy>(given: Result<u32, CallFault>) -> Answer<A>
     }
 }
 
-/// The answer of a take.
+/// Returns the answer to a take.
 fn handed_up<A: Allocator + Copy>(given: Result<Taken<A>, CallFault>) -> Answer<A>
     ensures { answer_of result ≡ handed_by given }
 {

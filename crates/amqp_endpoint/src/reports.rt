@@ -1,4 +1,4 @@
-//! What the endpoint tells of what its sessions tell.
+//! The endpoint's events for what its sessions report.
 ghost use Rattle.std.specs.Prelude.{◌≡◌};
 ghost use Rattle.amqp_endpoint.specs.Acting.{ending};
 ghost use Rattle.amqp_endpoint.specs.Lines.{report_told};
@@ -7,7 +7,7 @@ use crate::event::{Event, Scope};
 use amqp_perform::Condition;
 use amqp_session::{Report, SessionFault};
 
-/// What is told of a frame of the session on a channel; nothing of most flows and dispositions.
+/// Returns the event for a report of the session on a channel; `None` for most flows and dispositions.
 pub fn told(channel: u16, report: Report) -> Option<Event>
     ensures { result ≡ report_told channel report }
 {
@@ -36,8 +36,8 @@ pub fn told(channel: u16, report: Report) -> Option<Event>
     }
 }
 
-/// The condition with which a session ends that refused a frame; `None` where it was refused memory, which ends
-/// nothing [2.8.15, 2.8.17].
+/// Returns the condition with which a session ends that refused a frame; `None` if memory was refused, which
+/// ends nothing [2.8.15, 2.8.17].
 pub fn condition_of(fault: SessionFault) -> Option<Condition>
     ensures { result ≡ ending fault }
 {

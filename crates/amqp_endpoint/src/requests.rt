@@ -1,4 +1,4 @@
-//! What the application asks of a session: each call is refused with nothing changed, or said to the peer.
+//! Calls of the application for a session. Each is refused with nothing changed, or written to the peer.
 ghost use Rattle.std.specs.Prelude.{◌≡◌, ◌||◌, [], IfOk};
 ghost use Rattle.amqp_session.specs.Calls.{Take, call_fault};
 ghost use Rattle.amqp_endpoint.specs.Asking.{CallAnswered, SlotHandsUp, IsCounted, asked_of, SessionAsked};
@@ -16,10 +16,12 @@ use amqp_perform::Outcome;
 use amqp_session::{CallFault as SessionCallFault, Session};
 use std::alloc::Allocator;
 
-/// Asks the session on a channel, and writes what it answers. Returns how many deliveries a settle names, or a detach drops.
-/// Refused, with nothing changed: with `Dead` where the connection is over or closed by this side, else with `NoSession`, else
-/// with what the session says, else with `Full`.
-// For `telemetry` and `gateway` (docs/PERF.md).
+/// Makes a request of the session on a channel, and writes the frame for it. Returns how many deliveries a
+/// settle names, or a detach drops.
+///
+/// The first fault is returned, and nothing has changed: `Dead` if the connection is over or closed by this
+/// side, `NoSession`, what the session says, `Full`.
+// Inlined for `telemetry` and `gateway` (docs/PERF.md).
 #[tactic(auto, using(crate::proofs::Lent::went_on, crate::proofs::Lent::stayed))]
 #[inline(always)]
 pub fn ask<A: Allocator + Copy>(
@@ -50,9 +52,9 @@ pub fn ask<A: Allocator + Copy>(
     }
 }
 
-/// Hands up the first ready delivery of the link at a handle. Refused, with nothing changed, with the first of these:
-/// `Dead`, `NoSession`, `NoLink`, `NothingReady`. Takes no memory, and no room of the output.
-// For `telemetry` and `gateway` (docs/PERF.md).
+/// Hands up the first ready delivery of the link at a handle. The first fault is returned, and nothing has
+/// changed: `Dead`, `NoSession`, `NoLink`, `NothingReady`. Takes no memory, and no room of the output.
+// Inlined for `telemetry` and `gateway` (docs/PERF.md).
 #[tactic(auto, using(crate::proofs::Lent::went_on, crate::proofs::Lent::stayed))]
 #[inline(always)]
 pub fn take<A: Allocator + Copy>(
@@ -75,15 +77,16 @@ pub fn take<A: Allocator + Copy>(
     }
 }
 
-/// Whether any call for a session is refused: the connection is over, or this side has closed it.
+/// Returns whether any call for a session is refused: the connection is over, or this side has closed it.
 fn takes_no_call<A: Allocator + Copy>(connection: &Connection<A>) -> bool
     ensures { result ≡ (is_dead connection.now.phase || is_closing connection.now.phase) }
 {
     matches!(connection.phase(), Phase::Closing | Phase::Dead)
 }
 
-/// Why the session on a channel would refuse a request; `NoSession` where none is live.
-// For `telemetry` (docs/PERF.md).
+/// Returns why the session on a channel would refuse a request, `NoSession` if none is live; `None` if it would
+/// accept it.
+// Inlined for `telemetry` (docs/PERF.md).
 #[inline(always)]
 fn fault<A: Allocator + Copy>(
     connection: &Connection<A>,
@@ -101,23 +104,23 @@ fn fault<A: Allocator + Copy>(
     }
 }
 
-/// A call of the application that is said to the peer.
+/// A call of the application that is written to the peer.
 #[derive(Clone, Copy)]
 pub enum Request {
-    /// The window gets so many places more.
+    /// The window gets `n` more places.
     Widen {
         n: u32,
     },
-    /// The link at a handle gets so much credit more.
+    /// The link at a handle gets `n` more places of credit.
     Grant {
         handle: u32,
         n: u32,
     },
-    /// Its sender is asked to use its credit up.
+    /// The sender on the link at a handle is asked to use its credit up.
     Drain {
         handle: u32,
     },
-    /// What became of the deliveries whose ids the range from `first` to `last` covers.
+    /// The deliveries with ids from `first` to `last` are settled with this outcome.
     Settle {
         first: u32,
         last: u32,
@@ -129,7 +132,7 @@ pub enum Request {
     },
 }
 
-/// What is said for a request that was accepted.
+/// What is written for a request that was accepted.
 #[derive(Clone, Copy)]
 pub struct Asked {
     pub saying: Saying<'static>,
@@ -138,8 +141,8 @@ pub struct Asked {
 }
 
 impl Request {
-    /// Asks a session for it. Where it is refused nothing has changed.
-    // The match falls away where the request is known, as in each call of the endpoint.
+    /// Makes the request of a session. If it is refused, nothing has changed.
+    // Inlined: the match falls away if the request is known, as in each call of the endpoint.
     #[inline(always)]
     fn ask<A: Allocator + Copy>(self, session: &mut Session<A>) -> Result<Asked, SessionCallFault>
         ensures { SessionAsked session.old session.new (asked_of self) result }
@@ -184,8 +187,8 @@ impl Request {
         }
     }
 
-    /// Why a session would refuse it.
-    // For `telemetry` (docs/PERF.md).
+    /// Returns why a session would refuse the request; `None` if it would accept it.
+    // Inlined for `telemetry` (docs/PERF.md).
     #[inline(always)]
     fn fault<A: Allocator + Copy>(self, session: &Session<A>) -> Option<SessionCallFault>
         ensures { result ≡ call_fault session.now (asked_of self) }
@@ -199,7 +202,7 @@ impl Request {
     }
 }
 
-/// Why the endpoint refuses a call that its session refuses.
+/// Returns the endpoint's fault for a fault of its session.
 fn fault_of(fault: SessionCallFault) -> CallFault
     ensures { result ≡ fault_of_session fault }
 {

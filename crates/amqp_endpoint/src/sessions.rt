@@ -24,7 +24,7 @@ use amqp_perform::{Attach, Begin, Condition, Performative};
 use amqp_session::{Answer, Report, SessionFault, SessionTerms, Slot, failure, refusal_reply};
 use std::alloc::{AllocError, Allocator};
 
-/// What a session begins with [2.5.1, 2.7.2].
+/// Returns what a session begins with [2.5.1, 2.7.2].
 pub fn terms<A: Allocator + Copy>(connection: &Connection<A>, begin: &Begin<'_>) -> SessionTerms
     ensures { result ≡ begun_terms connection.now (beginning begin.now) }
 {
@@ -46,8 +46,8 @@ pub fn terms<A: Allocator + Copy>(connection: &Connection<A>, begin: &Begin<'_>)
     }
 }
 
-/// A session begins on a channel where none stands, and is answered [2.5.1]. Where memory is refused nothing has
-/// changed.
+/// Begins a session on a free channel, and writes the begin that answers [2.5.1]. If memory is refused, nothing
+/// has changed.
 pub fn begin<A: Allocator + Copy>(
     connection: &mut Connection<A>,
     out: &mut Output<A>,
@@ -69,7 +69,7 @@ pub fn begin<A: Allocator + Copy>(
     })
 }
 
-/// The peer ends the session on a channel, and is answered [2.5.3].
+/// Ends the session on a channel after the peer's end, and writes the end that answers [2.5.3].
 pub fn end<A: Allocator + Copy>(
     connection: &mut Connection<A>,
     out: &mut Output<A>,
@@ -88,7 +88,7 @@ pub fn end<A: Allocator + Copy>(
     }
 }
 
-/// This side ends the session on a channel with an error [2.5.4].
+/// Ends the session on a channel with an error of this side [2.5.4].
 pub fn fail<A: Allocator + Copy>(
     connection: &mut Connection<A>,
     out: &mut Output<A>,
@@ -111,7 +111,7 @@ pub fn fail<A: Allocator + Copy>(
     }
 }
 
-/// A frame of the live session on a channel [2.5, 2.6]. Where memory is refused nothing has changed.
+/// Acts upon a frame of the live session on a channel [2.5, 2.6]. If memory is refused, nothing has changed.
 pub fn frame<A: Allocator + Copy>(
     connection: &mut Connection<A>,
     out: &mut Output<A>,
@@ -139,7 +139,7 @@ pub fn frame<A: Allocator + Copy>(
     }
 }
 
-/// A frame that its session refused ends it, unless memory was refused: then nothing has changed.
+/// Ends a session that refused a frame, unless memory was refused: then nothing has changed.
 #[inline(never)]
 pub fn refuse<A: Allocator + Copy>(
     connection: &mut Connection<A>,
@@ -157,7 +157,8 @@ pub fn refuse<A: Allocator + Copy>(
     }
 }
 
-/// Answers a transfer that its session took, with the detach of a link that it has ended [2.6.5], and tells of it.
+/// Returns the event for a transfer that its session took. If it ended its link, writes the detach for that
+/// [2.6.5].
 #[inline(never)]
 pub fn answer_transfer<A: Allocator + Copy>(
     out: &mut Output<A>,
@@ -180,7 +181,7 @@ pub fn answer_transfer<A: Allocator + Copy>(
     reports::told(channel as u16, report)
 }
 
-/// Whether an attach's handle is above the highest of the session on a channel [2.7.2].
+/// Returns whether an attach's handle is above the highest of the session on a channel [2.7.2].
 fn is_too_high<A: Allocator + Copy>(
     connection: &Connection<A>,
     channel: u8,
@@ -220,7 +221,7 @@ fn answer<A: Allocator + Copy>(
     }
 }
 
-/// Writes an answer that stands alone.
+/// Writes an answer that needs nothing of its frame.
 fn answer_alone<A: Allocator + Copy>(out: &mut Output<A>, channel: u8, answer: &Answer)
     requires room { length out.old + reply_room ≤ output_size }
     requires short { length (joined (on_channel channel (said_by answer.now))) ≤ reply_room }
@@ -235,7 +236,7 @@ fn answer_alone<A: Allocator + Copy>(out: &mut Output<A>, channel: u8, answer: &
     }
 }
 
-/// Writes the answer to an attach that its session has taken, whose link has these bounds [2.6.3].
+/// Writes the answer to an attach that its session has taken. The link has these bounds [2.6.3].
 fn answer_attach<A: Allocator + Copy>(
     out: &mut Output<A>,
     channel: u8,

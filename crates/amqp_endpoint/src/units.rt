@@ -1,4 +1,4 @@
-//! What the endpoint does with a whole unit of its peer: the header, a frame, or a frame that is none.
+//! What the endpoint does with a whole unit of its peer: the header, a frame, or a malformed frame.
 ghost use Rattle.std.specs.Prelude.{◌≡◌, ℕ, List, ◌≤◌, ◌+◌, length, Some, None, true, false};
 ghost use Rattle.amqp_frame.specs.declared.units.FrameFault.{FrameFault};
 ghost use Rattle.amqp_frame.specs.Units.{HeaderUnit, FaultUnit};
@@ -25,8 +25,8 @@ use amqp_perform::{
 use amqp_session::{Report, Slot};
 use std::alloc::{AllocError, Allocator};
 
-/// Acts upon the protocol header: it is answered by the own one, and another than the own one ends the connection
-/// [2.2].
+/// Acts upon the protocol header. The answer is the header of this side. A header other than that ends the
+/// connection [2.2].
 pub fn act_on_header<A: Allocator + Copy>(
     connection: &mut Connection<A>,
     out: &mut Output<A>,
@@ -41,8 +41,8 @@ pub fn act_on_header<A: Allocator + Copy>(
     }
 }
 
-/// Acts upon a frame that is none: this side closes with an error, unless it has closed before, and the connection is
-/// over [2.3.1].
+/// Acts upon a malformed frame: the connection is over. This side writes a close with an error, unless it has
+/// closed before [2.3.1].
 pub fn act_on_fault<A: Allocator + Copy>(
     connection: &mut Connection<A>,
     out: &mut Output<A>,
@@ -57,8 +57,8 @@ pub fn act_on_fault<A: Allocator + Copy>(
     Some(closing::fail_at_once(connection, out))
 }
 
-/// Acts upon a whole frame, by what its body says [2.3.2, 2.7]. Where memory is refused nothing has changed.
-// The path of each message: a transfer on an open connection is looked for first.
+/// Acts upon a whole frame, by what its body says [2.3.2, 2.7]. If memory is refused, nothing has changed.
+// The path of each message, so a transfer on an open connection is checked first.
 #[inline(always)]
 pub fn act_on_frame<A: Allocator + Copy>(
     connection: &mut Connection<A>,
@@ -80,7 +80,7 @@ pub fn act_on_frame<A: Allocator + Copy>(
     act_on_any_frame(connection, out, channel, body)
 }
 
-/// Acts upon any frame, by its line.
+/// Acts upon any frame, by its line of `specs/Lines.antt`. If memory is refused, nothing has changed.
 #[inline(never)]
 fn act_on_any_frame<A: Allocator + Copy>(
     connection: &mut Connection<A>,
@@ -109,7 +109,7 @@ fn act_on_any_frame<A: Allocator + Copy>(
     }
 }
 
-/// A body that says no performative.
+/// Closes the connection because of a body that is no valid performative.
 fn refuse_body<A: Allocator + Copy>(
     connection: &mut Connection<A>,
     out: &mut Output<A>,
@@ -125,7 +125,8 @@ fn refuse_body<A: Allocator + Copy>(
     closing::close_with_error(connection, out, condition)
 }
 
-/// A frame while the peer's close is awaited: a close that can be read counts, and anything else is dropped [2.4.3].
+/// Takes a frame while the peer's close is awaited. A close that can be read ends the connection; anything else
+/// is dropped [2.4.3].
 fn await_close<A: Allocator + Copy>(connection: &mut Connection<A>, body: &[u8]) -> Option<Event>
     ensures { (unsent : List ℕ) → IsDone connection.old connection.new unsent unsent (closing_line body.now) result }
 {
@@ -136,14 +137,14 @@ fn await_close<A: Allocator + Copy>(connection: &mut Connection<A>, body: &[u8])
     None
 }
 
-/// Whether the peer's close is awaited.
+/// Returns whether the peer's close is awaited.
 fn is_closing<A: Allocator + Copy>(connection: &Connection<A>) -> bool
     ensures { result ≡ is_closing connection.now.phase }
 {
     matches!(connection.phase(), Phase::Closing)
 }
 
-/// Whether both sides have opened the connection, and neither has closed it.
+/// Returns whether both sides have opened the connection, and neither has closed it.
 fn is_open<A: Allocator + Copy>(connection: &Connection<A>) -> bool
     ensures open { result ≡ true → is_unopened connection.now.phase ≡ false }
     ensures awake { result ≡ true → is_closing connection.now.phase ≡ false }
@@ -151,14 +152,14 @@ fn is_open<A: Allocator + Copy>(connection: &Connection<A>) -> bool
     matches!(connection.phase(), Phase::Open { .. })
 }
 
-/// Whether a body says a close.
+/// Returns whether a body is a close.
 fn is_close(body: &[u8]) -> bool
     ensures { result ≡ is_read_close (body_at body.now) }
 {
     matches!(read_body(body), Ok((Performative::Close(_), _)))
 }
 
-/// Acts upon a performative with its payload. Where memory is refused nothing has changed.
+/// Acts upon a performative with its payload. If memory is refused, nothing has changed.
 fn act<A: Allocator + Copy>(
     connection: &mut Connection<A>,
     out: &mut Output<A>,
@@ -186,7 +187,7 @@ fn act<A: Allocator + Copy>(
     }
 }
 
-/// The peer's open, before which nothing else may come [2.4.1].
+/// Acts upon a performative before the peer's open. Only that open may come [2.4.1].
 fn act_unopened<A: Allocator + Copy>(
     connection: &mut Connection<A>,
     out: &mut Output<A>,
@@ -201,7 +202,7 @@ fn act_unopened<A: Allocator + Copy>(
     }
 }
 
-/// The peer opens the connection, and is answered with the lesser channel-max [2.4.1].
+/// Acts upon the peer's open. The answer is an open with the lesser channel-max of both sides [2.4.1].
 fn act_on_open<A: Allocator + Copy>(
     connection: &mut Connection<A>,
     out: &mut Output<A>,
@@ -221,7 +222,8 @@ fn act_on_open<A: Allocator + Copy>(
     Event::Opened
 }
 
-/// A begin: it begins a session where nothing stands, unless it answers a begin of this side, which sends none [2.5.1].
+/// Acts upon a begin. It begins a session on a free channel, unless it answers a begin of this side, which
+/// sends none [2.5.1]. If memory is refused, nothing has changed.
 fn act_on_begin<A: Allocator + Copy>(
     connection: &mut Connection<A>,
     out: &mut Output<A>,
@@ -242,7 +244,7 @@ fn act_on_begin<A: Allocator + Copy>(
     }
 }
 
-/// An end: it ends the session on the channel, or answers the end of this side [2.5.3].
+/// Acts upon an end. It ends the session on the channel, or answers an end of this side [2.5.3].
 fn act_on_end<A: Allocator + Copy>(
     connection: &mut Connection<A>,
     out: &mut Output<A>,
@@ -262,8 +264,9 @@ fn act_on_end<A: Allocator + Copy>(
     }
 }
 
-/// A transfer with its payload, for the session on a channel [2.6.14]. Where memory is refused nothing has changed.
-// The path of each message: the session is lent once, and what is usually told of it is told here.
+/// Acts upon a transfer with its payload, for the session on a channel [2.6.14]. If memory is refused, nothing
+/// has changed.
+// The path of each message, so the session is lent once, and the usual event is made here.
 #[tactic(auto, using(crate::proofs::Lent::went_on, crate::proofs::Lent::stayed))]
 #[inline(always)]
 fn act_on_transfer<A: Allocator + Copy>(
@@ -292,7 +295,8 @@ fn act_on_transfer<A: Allocator + Copy>(
     }
 }
 
-/// A frame of a session where none is live: it is dropped where the peer's end is awaited [2.5.4].
+/// Acts upon a frame of a session on a channel without a live one. If the peer's end is awaited the frame is
+/// dropped, else the connection is closed with an error [2.5.4].
 #[inline(never)]
 fn act_elsewhere<A: Allocator + Copy>(
     connection: &mut Connection<A>,
@@ -310,7 +314,8 @@ fn act_elsewhere<A: Allocator + Copy>(
     }
 }
 
-/// A frame of a session: it is dropped where the peer's end is awaited [2.5.4].
+/// Acts upon a frame of a session. It is dropped if the peer's end is awaited [2.5.4]. If memory is refused,
+/// nothing has changed.
 fn act_in_session<A: Allocator + Copy>(
     connection: &mut Connection<A>,
     out: &mut Output<A>,

@@ -17,11 +17,11 @@ module _ {T : Type 0} where
   abbrev pub has_failed : Device T → Bool
   has_failed d = d.failed
 
-  -- a read into some room gave nothing, or no read was left to ask
+  -- its reader had no bytes left, or no read was left to ask
   abbrev pub has_ended : Device T → Bool
   has_ended d = d.ended
 
-  -- nothing was written behind its last flush
+  -- it was flushed, and nothing was written since
   abbrev pub is_flushed : Device T → Bool
   is_flushed d = d.flushed
 
@@ -29,15 +29,15 @@ module _ {T : Type 0} where
   abbrev pub reads_left : Device T → ℕ
   reads_left d = d.reads_left
 
-  -- the bytes that its reader has at hand; none where it is asked nothing any more
+  -- the bytes that its reader has at hand; none if it is asked nothing any more
   abbrev pub device_hand : (T → List ℕ) → Device T → List ℕ
   device_hand hand d = if d.failed || d.ended || (d.reads_left == 0) then [] else hand d.inner
 
-  -- a number that falls with each read into some room until the reader has ended
+  -- a number that falls with each read into a buffer with room, until the reader has ended
   abbrev pub reads_ahead : Device T → ℕ
   reads_ahead d = if d.ended then 0 else d.reads_left + 1
 
--- a front of the bytes was put behind what was held
+-- a front of the bytes was appended to what was held
 pub record AppendsFront (held now : Option (List ℕ)) (bytes : List ℕ) : Type 0 where
   pub front : List ℕ
   pub behind : List ℕ

@@ -1,4 +1,4 @@
--- What a buffer ends as, once what it lent has ended.
+-- What a buffer is once what it lent has ended.
 use Rattle.std.specs.Prelude.{ℕ, List, length}
 use Rattle.std.specs.Borrow.{Lends, MutBor, Fml, Array, u8, RattleType}
 use Rattle.std.specs.declared.alloc.Allocator.{Ghosts}

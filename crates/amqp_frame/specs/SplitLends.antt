@@ -1,4 +1,4 @@
--- What a splitter ends as, once what it lent has ended.
+-- What a splitter is once what it lent has ended.
 use Rattle.std.specs.Prelude.{ℕ, max, List, length, take}
 use Rattle.std.specs.Borrow.{Lends, MutBor, Fml, Array, u8, RattleType}
 use Rattle.std.specs.declared.alloc.Allocator.{Ghosts}
@@ -6,7 +6,7 @@ use Rattle.amqp_frame.specs.Rooms.{over}
 use Rattle.amqp_frame.specs.Splits.{SplitterState}
 use Rattle.amqp_frame.specs.contracts.split.Splitter.{the_row}
 
--- the splitter once these were written where n bytes behind what is filled were lent, as of a buffer
+-- the splitter once `ws` was written over the n lent bytes after the filled ones
 abbrev pub with_read : SplitterState → ℕ → List ℕ → SplitterState
 with_read s n ws = record s { spare = over (take (max s.reach n) ws) s.spare; reach = max s.reach n }
 

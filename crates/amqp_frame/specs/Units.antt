@@ -1,4 +1,4 @@
--- A stream read as units: its header, its frames, and the fault that ends it (AMQP 1.0, part 2, sections 2.2 and 2.3).
+-- A stream read as units: its header, its frames, and the fault that ends it. [2.2, 2.3]
 use Rattle.std.specs.Prelude.{◌≡◌, ℕ, ◌*◌, ◌<◌, ◌≤◌, ◌⊎◌, List, [], ◌∷◌, ◌++◌, length, drop, slice_index, if◌then◌else◌}
 use Rattle.std.specs.List.{flat_map}
 use Rattle.std.specs.Str.{bytes_eq}
@@ -46,7 +46,8 @@ pub record IsFrame (max : ℕ) (bytes : List ℕ) : Type 0 where
   pub placed : IsPlaced bytes
   pub typed : type_of bytes ≡ 0
 
--- The bytes of a frame header at whose last one this fault shows: a SIZE below 8 or too large, a DOFF below 2 or behind the frame, a TYPE other than 0. [2.3.1]
+-- The bytes of a frame header up to the one that shows this fault: a SIZE below 8 or too large, a DOFF below 2 or beyond the frame, a TYPE other than 0.
+-- [2.3.1]
 abbrev pub IsFault : ℕ → FrameFault → List ℕ → Type 0
 IsFault max TooSmall bytes = (length bytes ≡ 4) × (size_of bytes < 8)
 IsFault max TooLarge bytes = (length bytes ≡ 4) × (max < size_of bytes)
@@ -65,7 +66,7 @@ bytes_of (HeaderUnit bytes) = bytes
 bytes_of (FrameUnit bytes) = bytes
 bytes_of (FaultUnit fault bytes) = bytes
 
--- A unit that may stand where this is due. After a refused header or a fault nothing may.
+-- A unit that may come at this stage. After a refused header or a fault none may.
 abbrev pub IsUnit : ℕ → Stage → StreamUnit → Type 0
 IsUnit max Header (HeaderUnit bytes) = length bytes ≡ 8
 IsUnit max Header (FrameUnit bytes) = ⊥
@@ -82,12 +83,12 @@ due_after (HeaderUnit bytes) = if bytes_eq bytes HEADER then Frames else Refused
 due_after (FrameUnit bytes) = Frames
 due_after (FaultUnit fault bytes) = Faulty fault
 
--- what is due after these units, where at first this was
+-- what is due after these units, if this was due before them
 abbrev pub due_behind : Stage → List StreamUnit → Stage
 due_behind stage [] = stage
 due_behind stage (u ∷ us) = due_behind (due_after u) us
 
--- each is a unit that may stand where it stands
+-- each is a unit that may come where it comes
 abbrev pub AreUnits : ℕ → Stage → List StreamUnit → Type 0
 AreUnits max stage [] = Unit {0}
 AreUnits max stage (u ∷ us) = IsUnit max stage u × AreUnits max (due_after u) us
@@ -96,7 +97,7 @@ AreUnits max stage (u ∷ us) = IsUnit max stage u × AreUnits max (due_after u)
 pub record IsRest (max : ℕ) (stage : Stage) (bytes : List ℕ) : Type 0 where
   pub none : (u : StreamUnit) (more : List ℕ) → IsUnit max stage u → bytes ≡ bytes_of u ++ more → ⊥
 
--- The stream is these units joined, and then the rest, which no unit begins. Behind a refused header or a fault the rest is whatever follows.
+-- The stream is these units joined, and then the rest, which no unit begins. After a refused header or a fault the rest is whatever follows.
 pub record IsReading (max : ℕ) (stage : Stage) (stream : List ℕ) (us : List StreamUnit) (rest : List ℕ) : Type 0 where
   pub joined : stream ≡ flat_map bytes_of us ++ rest
   pub each : AreUnits max stage us

@@ -12,17 +12,19 @@ pub trait AtHand: Read {
     // the bytes that come next, as far as it has them
     ghost hand: { Self → List ℕ };
 
-    /// These bytes. None is always right.
+    /// Returns the bytes at hand. Returning none is always correct.
     fn at_hand(&self) -> &[u8]
         ensures { result.now ≡ hand self.now };
 
-    /// Takes the first `n` of them.
+    /// Takes the first `n` of the bytes at hand.
     fn took(&mut self, n: usize)
         requires { n ≤ length (hand self.old) }
         ensures { Consumes (Self.remaining self.old) (Self.remaining self.new) (take n (hand self.old)) };
 
-    /// Asks for more, where none is at hand, once, and keeps it at hand. It answers how many there are then: none only where
-    /// none is left. A reader that keeps none to itself answers nothing, and asks nobody. That is always right.
+    /// Asks its peer once for more bytes if none is at hand, and keeps them at hand.
+    ///
+    /// Returns how many are then at hand: 0 only if none is left. A reader that keeps no bytes to itself returns `None` and
+    /// changes nothing; that is always correct.
     fn fill(&mut self) -> io::Result<Option<usize>>
         ensures hand { IfOk result (λ x. IfSome x (λ n. length (hand self.new) ≡ n)) }
         ensures bytes { Keeps (Self.remaining self.old) (Self.remaining self.new) }
@@ -44,7 +46,7 @@ impl<R: Read, A: Allocator> AtHand for BufReader<R, A> {
         self.consume(n);
     }
 
-    // A buffer without room is never filled, so that its being empty says nothing.
+    // A buffer without room is never filled, so an empty one says nothing.
     fn fill(&mut self) -> io::Result<Option<usize>> {
         if self.capacity() == 0 {
             return Ok(None);
@@ -56,10 +58,10 @@ impl<R: Read, A: Allocator> AtHand for BufReader<R, A> {
 
 /// A writer that may know how many bytes it keeps to itself before it passes any on.
 pub trait HoldsBack {
-    // at least so many more it keeps
+    // it keeps at least this many more
     ghost room: { Self → ℕ };
 
-    /// How many more it keeps at least. 0 is always right.
+    /// Returns how many more bytes it keeps at least. Returning 0 is always correct.
     fn holds_back(&self) -> usize
         ensures { result ≡ room self.now };
 }
@@ -67,7 +69,7 @@ pub trait HoldsBack {
 impl<W: Write + Drop, A: Allocator> HoldsBack for BufWriter<W, A> {
     ghost room = { λ w. writer_capacity w - length (writer_buffer w) - 1 };
 
-    // A write that fills the buffer may be passed on: where the buffer was empty it is.
+    // A write that fills the buffer may be passed on; if the buffer was empty, it is.
     fn holds_back(&self) -> usize {
         self.capacity()
             .saturating_sub(self.buffer().len())
@@ -83,14 +85,14 @@ pub struct Direct<T> {
 }
 
 impl<T> Direct<T> {
-    /// This one.
+    /// Wraps a reader or a writer.
     pub fn new(inner: T) -> Self
         ensures { direct_inner result ≡ inner }
     {
         Direct { inner }
     }
 
-    /// The reader or writer itself.
+    /// Returns the reader or writer itself.
     pub fn into_inner(self) -> T
         ensures { result ≡ direct_inner self }
     {
@@ -136,8 +138,9 @@ impl<W: Write> Write for Direct<W> {
     }
 }
 
-/// A reader or a writer that is marked by its first failure, and only fails from then on. As a
-/// reader it ends where a read into some room gave nothing, and unasked after `2^64 - 1` reads.
+/// A reader or a writer that is marked by its first failure, and only fails from then on.
+///
+/// As a reader it ends once it gave 0 bytes into a buffer with room, or after `2^64 - 1` reads.
 #[derive(Drop)]
 pub struct Device<T> {
     inner: T,
@@ -148,7 +151,7 @@ pub struct Device<T> {
 }
 
 impl<T> Device<T> {
-    /// An unmarked one.
+    /// Wraps a reader or a writer, not marked and not ended.
     pub fn new(inner: T) -> Self
         ensures inner { device_inner result ≡ inner }
         ensures failed { has_failed result ≡ false }
@@ -165,28 +168,28 @@ impl<T> Device<T> {
         }
     }
 
-    /// The reader or writer itself.
+    /// Returns the reader or writer itself.
     pub fn into_inner(self) -> T
         ensures { result ≡ device_inner self }
     {
         self.inner
     }
 
-    /// Whether a call failed.
+    /// Returns whether a call failed, so that it is marked.
     pub fn failed(&self) -> bool
         ensures { result ≡ has_failed self.now }
     {
         self.failed
     }
 
-    /// Whether a read into some room gave nothing, or no read is left to ask.
+    /// Returns whether it ended: its reader had no bytes left, or no read is left to ask.
     pub fn ended(&self) -> bool
         ensures { result ≡ has_ended self.now }
     {
         self.ended
     }
 
-    /// An error where it is marked.
+    /// Returns an error if it is marked.
     fn unmarked(&self) -> io::Result<()>
         ensures { IsErr result ↔ IsTrue (has_failed self.now) }
     {
@@ -196,7 +199,7 @@ impl<T> Device<T> {
         Ok(())
     }
 
-    /// Marks it.
+    /// Marks it and returns the error.
     fn fail<X>(&mut self, error: io::Error) -> io::Result<X>
         ensures err { result ≡ Err error }
         ensures marked { self.new ≡ record self.old { failed = true } }
@@ -205,7 +208,7 @@ impl<T> Device<T> {
         Err(error)
     }
 
-    /// Takes note of what its reader answered: an error marks it, and 0 is its end.
+    /// Notes what its reader returned: an error marks it, and 0 ends it.
     fn told(&mut self, answer: io::Result<usize>) -> io::Result<usize>
         ensures same { result ≡ answer }
         ensures marked { OnErr answer (self.new ≡ record self.old { failed = true }) }
@@ -225,21 +228,22 @@ impl<T> Device<T> {
 }
 
 impl<R: Read> Device<R> {
-    /// Reads into the front of `buf`, and answers how many bytes came. The first error of the
-    /// reader marks it. Once marked it answers an error, and once ended 0, without asking the
-    /// reader. Nor is the reader asked where `buf` is empty.
+    /// Reads into the front of `buf`, and returns how many bytes came.
+    ///
+    /// The first error of the reader marks it. Once marked it returns an error, and once ended 0, without
+    /// asking the reader. The reader is not asked either if `buf` is empty.
     pub fn read(&mut self, buf: &mut [u8]) -> io::Result<usize>
         ensures bound { IfOk result (λ n. n ≤ length buf.new) }
         ensures marked { IsErr result ↔ IsTrue (has_failed self.new) }
         ensures zero { has_failed self.new ≡ false → 0 < length buf.old → (result ≡ Ok 0) ↔ IsTrue (has_ended self.new) }
 
-        // What came is what the reader gave. Where the reader was asked and gave nothing, nothing was left.
+        // What came is what the reader gave. If the reader was asked and gave nothing, nothing was left.
         ensures bytes { MatchResult result
             (λ n. Consumes (R.remaining (device_inner self.old)) (R.remaining (device_inner self.new)) (take n buf.new))
             (λ _. Keeps (R.remaining (device_inner self.old)) (R.remaining (device_inner self.new))) }
         ensures end { has_ended self.old ≡ false → 0 < reads_left self.old → 0 < length buf.old → result ≡ Ok 0 → IsAtEnd (R.remaining (device_inner self.new)) }
 
-        // Where the reader is not asked nothing changes.
+        // If the reader is not asked, nothing changes.
         ensures still { IsTrue (has_failed self.old) → self.new ≡ self.old }
         ensures over { IsTrue (has_ended self.old) → self.new ≡ self.old }
         ensures empty { length buf.old ≡ 0 → self.new ≡ self.old }
@@ -264,7 +268,7 @@ impl<R: Read> Device<R> {
 }
 
 impl<R: AtHand> Device<R> {
-    /// The bytes that its reader has at hand; none where it would not be asked any more.
+    /// Returns the bytes that its reader has at hand; none if the reader would not be asked any more.
     pub fn at_hand(&self) -> &[u8]
         ensures { result.now ≡ device_hand R.hand self.now }
     {
@@ -274,7 +278,7 @@ impl<R: AtHand> Device<R> {
         self.inner.at_hand()
     }
 
-    /// Takes the first `n` of them. It counts as a read.
+    /// Takes the first `n` of the bytes at hand. This counts as a read.
     pub fn took(&mut self, n: usize)
         requires some { 0 < length (device_hand R.hand self.old) }
         requires within { n ≤ length (device_hand R.hand self.old) }
@@ -288,9 +292,11 @@ impl<R: AtHand> Device<R> {
         self.inner.took(n);
     }
 
-    /// Lets its reader ask for more, where none is at hand, and answers how many bytes are then. It counts, marks and ends as a
-    /// read does: the reader's first error marks it, and it ends where none is left. It answers nothing, and nothing has
-    /// changed, where the reader keeps none to itself, and where it would not be asked, or not be asked again.
+    /// Lets its reader ask for more bytes if none is at hand, and returns how many are then at hand.
+    ///
+    /// The reader's first error marks it, and it ends if no bytes are left. If it returns a number, it counts as a read. It
+    /// returns `None` and changes nothing if the reader keeps no bytes to itself, if it has ended, or if at most one read is
+    /// left.
     pub fn fill(&mut self) -> io::Result<Option<usize>>
         ensures hand { IfOk result (λ x. IfSome x (λ n. length (device_hand R.hand self.new) ≡ n)) }
         ensures marked { IsErr result ↔ IsTrue (has_failed self.new) }
@@ -299,11 +305,11 @@ impl<R: AtHand> Device<R> {
         ensures end { result ≡ Ok (Some 0) → IsAtEnd (R.remaining (device_inner self.old)) }
         ensures nothing { result ≡ Ok None → self.new ≡ self.old }
 
-        // Where the reader is not asked nothing changes.
+        // If the reader is not asked, nothing changes.
         ensures still { IsTrue (has_failed self.old) → self.new ≡ self.old }
         ensures over { IsTrue (has_ended self.old) → self.new ≡ self.old }
 
-        // Each that came counts. A failure ends nothing.
+        // Each that returns a number counts. A failure ends nothing.
         ensures counts { IfOk result (λ x. IfSome x (λ _. reads_left self.new ≡ reads_left self.old - 1)) }
         ensures fewer { IfOk result (λ x. IfSome x (λ _. reads_ahead self.new < reads_ahead self.old)) }
         ensures kept { OnErr result (has_ended self.new ≡ has_ended self.old) }
@@ -324,7 +330,7 @@ impl<R: AtHand> Device<R> {
 }
 
 impl<W: HoldsBack> Device<W> {
-    /// How many more bytes its writer keeps to itself before it passes any on.
+    /// Returns how many more bytes its writer keeps at least before it passes any on.
     pub fn holds_back(&self) -> usize
         ensures { result ≡ W.room (device_inner self.now) }
     {
@@ -333,9 +339,10 @@ impl<W: HoldsBack> Device<W> {
 }
 
 impl<W: Write> Device<W> {
-    /// Writes bytes from the front of `buf`, and answers how many, at least one of some. The first
-    /// error of the writer marks it, and so does a write that takes none of some bytes. Once marked
-    /// it answers an error without asking the writer. Nor is the writer asked where `buf` is empty.
+    /// Writes bytes from the front of `buf`, and returns how many: at least one, unless `buf` is empty.
+    ///
+    /// The first error of the writer marks it, and so does a write that takes no byte. Once marked it returns
+    /// an error without asking the writer. The writer is not asked either if `buf` is empty.
     pub fn write(&mut self, buf: &[u8]) -> io::Result<usize>
         ensures bound { IfOk result (λ n. n ≤ length buf.now) }
         ensures marked { IsErr result ↔ IsTrue (has_failed self.new) }
@@ -345,7 +352,7 @@ impl<W: Write> Device<W> {
         ensures ended { has_ended self.new ≡ has_ended self.old }
         ensures reads { reads_left self.new ≡ reads_left self.old }
 
-        // Where the writer is not asked nothing changes.
+        // If the writer is not asked, nothing changes.
         ensures still { IsTrue (has_failed self.old) → self.new ≡ self.old }
         ensures empty { length buf.now ≡ 0 → self.new ≡ self.old }
     {
@@ -363,9 +370,10 @@ impl<W: Write> Device<W> {
         }
     }
 
-    /// Writes all of `buf`, in as many writes as that takes. The first of them that fails marks it, as
-    /// does one that takes nothing; none is asked behind that, and what was written is a front of `buf`.
-    /// Once marked it answers an error without asking the writer.
+    /// Writes all of `buf`, in as many writes as that takes.
+    ///
+    /// The first write that fails or takes no byte marks it. No write follows then, and what was written is a
+    /// front of `buf`. Once marked it returns an error without asking the writer.
     pub fn write_all(&mut self, buf: &[u8]) -> io::Result<()>
         ensures marked { IsErr result ↔ IsTrue (has_failed self.new) }
         ensures written { OnOk result (Appends (W.contents (device_inner self.old)) (W.contents (device_inner self.new)) buf.now) }
@@ -374,7 +382,7 @@ impl<W: Write> Device<W> {
         ensures ended { has_ended self.new ≡ has_ended self.old }
         ensures reads { reads_left self.new ≡ reads_left self.old }
 
-        // Where the writer is not asked nothing changes.
+        // If the writer is not asked, nothing changes.
         ensures still { IsTrue (has_failed self.old) → self.new ≡ self.old }
         ensures empty { length buf.now ≡ 0 → self.new ≡ self.old }
     {
@@ -386,9 +394,10 @@ impl<W: Write> Device<W> {
         Ok(())
     }
 
-    /// Flushes the writer, so that nothing of what it took waits in it. Its first error marks it. Once
-    /// marked it answers an error without asking the writer, which isn't asked either where nothing was
-    /// written behind the last flush.
+    /// Flushes the writer.
+    ///
+    /// The first error of the writer marks it. Once marked it returns an error without asking the writer. The
+    /// writer is not asked either if nothing was written since the last flush.
     pub fn flush(&mut self) -> io::Result<()>
         ensures marked { IsErr result ↔ IsTrue (has_failed self.new) }
         ensures flushed { OnOk result (is_flushed self.new ≡ true) }

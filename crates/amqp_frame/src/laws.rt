@@ -1,11 +1,11 @@
-//! Facts of streams alone, whoever cuts them. The calls do nothing: their contracts are the laws.
+//! Laws of streams alone, whatever cuts them. Each function does nothing: its contract is the law.
 ghost use Rattle.std.specs.Prelude.{◌≡◌, ℕ, ◌<◌, ◌≤◌, List, ◌∷◌, [], ◌++◌, length};
 ghost use Rattle.amqp_frame.specs.Units.{StreamUnit, bytes_of, IsUnit, IsReading, Units, due_after};
 ghost use Rattle.amqp_frame.specs.Splits.{SplitterState, Waits, IsHeld, TakesNothing, IsOver, WentBy};
 ghost use Rattle.amqp_frame.specs.declared.units.Stage.{Stage};
 ghost use Rattle.amqp_frame.specs.declared.units.TheConstants.{HEADER};
 
-/// The header is that of version 1.0.0 without a security layer, as part 2, section 2.2 spells it: `AMQP`, 0, 1, 0, 0.
+/// The header is that of version 1.0.0 without a security layer, as spelled in [2.2]: `AMQP`, 0, 1, 0, 0.
 pub fn header_is_as_the_standard_spells_it()
     ensures { HEADER ≡ 65 ∷ 77 ∷ 81 ∷ 80 ∷ 0 ∷ 1 ∷ 0 ∷ 0 ∷ [] }
 {}
@@ -30,14 +30,14 @@ pub fn one_reading()
     ensures { (max : ℕ) (stage : Stage) (stream : List ℕ) (us vs : List StreamUnit) (rest other : List ℕ) → 8 ≤ max → IsReading max stage stream us rest → IsReading max stage stream vs other → (us ≡ vs) × (rest ≡ other) }
 {}
 
-/// Where no unit waits and the splitter took all that it takes, the units that went by are those
-/// of the whole stream, and what it holds is the rest, with whatever it did not take.
+/// If no unit waits and the splitter took all that it takes, the units that went by are those
+/// of the whole stream. The rest is what it holds and whatever it did not take.
 pub fn reading_ends()
     ensures { (s : SplitterState) (us : List StreamUnit) (taken more : List ℕ) → IsHeld s.limit s.stage s.filled → ((u : StreamUnit) → Waits s u → ⊥) → (0 < length more → TakesNothing s) → WentBy s us taken → Units s.limit (taken ++ more) us (s.filled ++ more) }
 {}
 
-/// Where the last unit waits, a header that is refused or a fault, it ends the units of the whole
-/// stream, and whatever follows is the rest.
+/// If the last unit waits and is a refused header or a fault, it ends the units of the whole
+/// stream. Whatever follows is the rest.
 pub fn reading_stops()
     ensures { (s : SplitterState) (us : List StreamUnit) (taken more : List ℕ) (u : StreamUnit) → Waits s u → IsOver (due_after u) → WentBy s us taken → Units s.limit (taken ++ more) (us ++ u ∷ []) more }
 {}

@@ -1,4 +1,4 @@
-//! The buffer of a splitter: room for the longest frame is reserved at once, its bytes are zeroed when they are first lent, and its front
+//! The buffer of a splitter. Room for the longest frame is reserved at once, and its bytes are zeroed when they are first lent. Its front
 //! is filled.
 ghost use Rattle.std.specs.Prelude.{◌≡◌, ℕ, ◌+◌, ◌-◌, ◌<◌, ◌≤◌, slice_index, ◌++◌, [], length, take, drop, replicate, IfOk};
 ghost use Rattle.std.specs.Vec.{vec_capacity};
@@ -14,7 +14,7 @@ use std::marker::Model;
 pub struct Room<A: Allocator + Copy = Global> {
     max: usize,
     mark: usize,
-    /// As many as were lent or filled before, in a block of `max`.
+    /// The bytes that were lent or filled before, in a block of `max`.
     bytes: Vec<u8, A>,
 }
 
@@ -31,7 +31,7 @@ impl<A: Allocator + Copy> Model for Room<A> {
 }
 
 impl<A: Allocator + Copy> Room<A> {
-    /// Room for so many bytes, which is reserved at once.
+    /// Makes a buffer for `max` bytes, which are reserved at once; an error if they are refused.
     pub fn new(alloc: A, max: usize) -> Result<Self, AllocError>
         ensures { IfOk result (λ b. (b.filled ≡ []) × (whole_length b ≡ max)) }
     {
@@ -42,7 +42,7 @@ impl<A: Allocator + Copy> Room<A> {
         })
     }
 
-    /// Lends the first `n` bytes behind what is filled, which are zeroed if they never were.
+    /// Lends the first `n` bytes after the filled ones. Those that were never lent or filled are zeroed.
     pub fn spare(&mut self, n: usize) -> &mut [u8]
         requires { n ≤ length self.old.spare }
         ensures* writes_back { sem 𝓛 (LendsSpare A.row A.Allocator self.entry result) }
@@ -53,7 +53,7 @@ impl<A: Allocator + Copy> Room<A> {
         self.bytes.slice_mut(mark..mark + n)
     }
 
-    /// So many of them are filled now.
+    /// Counts the first `n` bytes after the filled ones as filled.
     pub fn fill(&mut self, n: usize)
         requires { n ≤ length self.old.spare }
         ensures filled { self.new.filled ≡ self.old.filled ++ take n self.old.spare }
@@ -64,7 +64,7 @@ impl<A: Allocator + Copy> Room<A> {
         self.mark += n;
     }
 
-    /// Fills it with a piece.
+    /// Appends a piece to the filled bytes.
     pub fn extend(&mut self, piece: &[u8])
         requires { length piece.now ≤ length self.old.spare }
         ensures filled { self.new.filled ≡ self.old.filled ++ piece.now }
@@ -74,7 +74,7 @@ impl<A: Allocator + Copy> Room<A> {
         self.fill(piece.len());
     }
 
-    /// Nothing is filled.
+    /// Empties it: no byte is filled.
     pub fn clear(&mut self)
         ensures filled { self.new.filled ≡ [] }
         ensures whole { whole_length self.new ≡ whole_length self.old }
@@ -82,21 +82,21 @@ impl<A: Allocator + Copy> Room<A> {
         self.mark = 0;
     }
 
-    /// What is filled.
+    /// Returns the filled bytes.
     pub fn as_slice(&self) -> &[u8]
         ensures { result.now ≡ self.now.filled }
     {
         &self.bytes[..self.mark]
     }
 
-    /// A law: what stands behind it are bytes.
+    /// A law: each byte after the filled ones is below 256.
     pub fn spare_is_bytes(&self)
         ensures { (i : ℕ) → slice_index self.now.spare i < 256 }
     {
         are_bytes(&self.bytes[self.mark..]);
     }
 
-    /// How much is filled. All fields are named, so that one which comes to hold bytes does not compile until it is counted.
+    /// Returns how many bytes are filled. All fields are named, so a new one does not compile until it is counted.
     pub fn len(&self) -> usize
         ensures { result ≡ length self.now.filled }
     {
@@ -109,7 +109,7 @@ impl<A: Allocator + Copy> Room<A> {
     }
 }
 
-/// Zeroes what lacks of the first `end` bytes.
+/// Appends zeros until there are `end` bytes.
 fn reach<A: Allocator>(bytes: &mut Vec<u8, A>, end: usize)
     requires { end ≤ vec_capacity bytes.old }
     ensures items { bytes.new.items ≡ bytes.old.items ++ replicate (end - length bytes.old.items) 0 }
@@ -120,7 +120,7 @@ fn reach<A: Allocator>(bytes: &mut Vec<u8, A>, end: usize)
     }
 }
 
-/// The part of `reach` that writes, apart so that the test is inlined.
+/// The part of `reach` that writes. It is apart so that the test is inlined.
 #[cold]
 #[inline(never)]
 fn lengthen<A: Allocator>(bytes: &mut Vec<u8, A>, end: usize)
@@ -134,7 +134,7 @@ fn lengthen<A: Allocator>(bytes: &mut Vec<u8, A>, end: usize)
     }
 }
 
-/// Each byte in hand is one.
+/// A law: each byte is below 256.
 fn are_bytes(piece: &[u8])
     ensures { (i : ℕ) → slice_index piece.now i < 256 }
 {}

@@ -17,7 +17,7 @@ use std::marker::Model;
 pub struct Splitter<A: Allocator + Copy = Global> {
     limit: usize,
     stage: Stage,
-    /// How far the frame has come, where one is due.
+    /// How far the frame has come, if one is due.
     progress: Progress,
     bytes: Room<A>,
 }
@@ -34,8 +34,9 @@ impl<A: Allocator + Copy> Model for Splitter<A> {
 }
 
 impl<A: Allocator + Copy> Splitter<A> {
-    /// A splitter at the start of a stream, which accepts frames of up to `max` bytes, at least 8. It
-    /// reserves `max` bytes at once, an error where they are refused, and takes no memory after that.
+    /// Makes a splitter at the start of a stream, which accepts frames of up to `max` bytes, at least 8.
+    ///
+    /// It reserves `max` bytes at once, and takes no memory after that. An error says that they are refused.
     pub fn new(alloc: A, max: usize) -> Result<Self, AllocError>
         requires { 8 ≤ max }
         ensures value { IfOk result (λ s. (s.limit ≡ max) × (s.stage ≡ Stage.Header) × (s.filled ≡ []) × (length s.spare ≡ max)) }
@@ -51,16 +52,17 @@ impl<A: Allocator + Copy> Splitter<A> {
     }
 
     /// Takes bytes of `piece` up to the end of the header, of one frame, or to the byte that shows
-    /// a fault, and answers how many. It takes none while a unit waits, and none any more once a
-    /// header that is not [`HEADER`] or a fault went by. Of a frame at most four bytes are taken
-    /// before its SIZE is judged.
+    /// a fault, and returns how many.
+    ///
+    /// It takes none while a unit waits, and none any more once a header that is not [`HEADER`] or a
+    /// fault went by. Of a frame at most four bytes are taken before its SIZE is judged.
     pub fn push(&mut self, piece: &[u8]) -> usize
         ensures bound { result ≤ length piece.now }
         ensures limit { self.new.limit ≡ self.old.limit }
         ensures stage { self.new.stage ≡ self.old.stage }
         ensures filled { self.new.filled ≡ self.old.filled ++ take result piece.now }
 
-        // It stops only where a unit waits or nothing is taken, and takes nothing there.
+        // It stops only if a unit waits or nothing is taken any more, and then it takes nothing.
         ensures all { result < length piece.now → TakesNothing self.new }
         ensures full { TakesNothing self.old → result ≡ 0 }
         ensures some { result ≡ 0 → 0 < length piece.now → TakesNothing self.old }
@@ -80,9 +82,11 @@ impl<A: Allocator + Copy> Splitter<A> {
         )
     }
 
-    /// How many bytes come next: what is left of the header's eight; of a frame what is left of SIZE's four,
-    /// then of the eight of its header, then of SIZE [2.2, 2.3.1]. None do while a unit waits, and none any
-    /// more once a header that is not [`HEADER`] or a fault went by.
+    /// Returns how many bytes are wanted next. [2.2, 2.3.1]
+    ///
+    /// Of the header, these are what is left of its eight bytes. Of a frame, these are what is left of SIZE's four,
+    /// then of the eight of its header, then of SIZE. Returns 0 while a unit waits, and once a header that is not
+    /// [`HEADER`] or a fault went by.
     pub fn wants(&self) -> usize
         ensures asks { Asks self.now result }
         ensures none { result ≡ 0 → TakesNothing self.now }
@@ -90,7 +94,7 @@ impl<A: Allocator + Copy> Splitter<A> {
         wanted(self.limit, self.stage, self.progress, self.bytes.as_slice())
     }
 
-    /// Lends room for the bytes that [`Splitter::wants`] asks for, to be read into. What stands in it says nothing.
+    /// Lends room for the bytes that [`Splitter::wants`] counts, to read into. What is in it means nothing.
     pub fn spare(&mut self) -> &mut [u8]
         ensures* writes_back { sem 𝓛 (LendsRoom A.row A.Allocator self.entry result) }
         ensures asks { Asks self.old (length result.now) }
@@ -100,7 +104,7 @@ impl<A: Allocator + Copy> Splitter<A> {
         self.spare_front(wants)
     }
 
-    /// The same for no more than `n` of them.
+    /// Lends room for `n` bytes to read into, at most as many as [`Splitter::wants`] counts.
     pub fn spare_front(&mut self, n: usize) -> &mut [u8]
         requires { MayCome self.old n }
         ensures* writes_back { sem 𝓛 (LendsRoom A.row A.Allocator self.entry result) }
@@ -110,7 +114,7 @@ impl<A: Allocator + Copy> Splitter<A> {
         self.bytes.spare(n)
     }
 
-    /// Takes the first `n` bytes of the room that [`Splitter::spare`] lends, as [`Splitter::push`] takes a piece of them.
+    /// Takes the first `n` bytes of the room that [`Splitter::spare`] lends, as [`Splitter::push`] takes those of a piece.
     pub fn filled(&mut self, n: usize)
         requires { MayCome self.old n }
         ensures taken { IsTaken self.old self.new (take n self.old.spare) n }
@@ -123,14 +127,14 @@ impl<A: Allocator + Copy> Splitter<A> {
         }
     }
 
-    /// A law: what stands in that room are bytes.
+    /// A law: each byte of the room that is lent is below 256.
     pub fn spare_is_bytes(&self)
         ensures { (i : ℕ) → slice_index self.now.spare i < 256 }
     {
         self.bytes.spare_is_bytes();
     }
 
-    /// The header's eight bytes, while it waits.
+    /// Returns the header's eight bytes while the header waits, and else `None`.
     pub fn header(&self) -> Option<[u8; 8]>
         ensures some { IfSome result (λ bytes. Waits self.now (HeaderUnit bytes)) }
         ensures waiting { (bytes : List ℕ) → Waits self.now (HeaderUnit bytes) → result ≡ Some bytes }
@@ -141,7 +145,7 @@ impl<A: Allocator + Copy> Splitter<A> {
         }
     }
 
-    /// The frame that waits, lent from the buffer, or the fault. A fault stays, and is repeated.
+    /// Returns the frame that waits, borrowed from the buffer, or the fault. A fault stays: it is returned again.
     pub fn frame(&self) -> Option<Result<Frame<'_>, FrameFault>>
         ensures { IsFrameAnswer self.now result }
     {
@@ -156,9 +160,11 @@ impl<A: Allocator + Copy> Splitter<A> {
         }
     }
 
-    /// The frame that lies whole at the front of `piece`, lent from there, and how many bytes it has; `None` where no frame
-    /// is due, or some of it is held. [`Splitter::push`] of these bytes and [`Splitter::drop_frame`] would leave the splitter as
-    /// it is, so that the frame may be acted upon where it lies, and is not copied.
+    /// Returns the frame that lies whole at the front of `piece`, borrowed from it, and its length in bytes.
+    ///
+    /// Returns `None` if no frame is due, if some of it is held already, or if no whole frame is there. [`Splitter::push`] of
+    /// these bytes and then [`Splitter::drop_frame`] would leave the splitter as it is. So the frame may be used where it
+    /// lies, and is not copied.
     pub fn lent_front<'a>(&self, piece: &'a [u8]) -> Option<(Frame<'a>, usize)>
         ensures { IsLentFront self.now piece.now result }
     {
@@ -166,8 +172,9 @@ impl<A: Allocator + Copy> Splitter<A> {
         Some((frame_in(&piece[..size]), size))
     }
 
-    /// Lets the unit that waits go. Behind [`HEADER`] or a frame a frame is due. Behind another
-    /// header or a fault nothing is, and a fault stays. Where no unit waits nothing changes.
+    /// Drops the unit that waits. If no unit waits, nothing changes.
+    ///
+    /// After [`HEADER`] or a frame, a frame is due. After another header or a fault nothing is due, and a fault stays.
     pub fn drop_frame(&mut self)
         ensures goes { (u : StreamUnit) → Waits self.old u → IsEmptied self.old self.new (due_after u) }
         ensures stays { (IsOne self.old.limit self.old.stage self.old.filled → ⊥) → IsUnchanged self.old self.new }
@@ -184,8 +191,8 @@ impl<A: Allocator + Copy> Splitter<A> {
         }
     }
 
-    /// How many bytes are in the buffer: SIZE while a frame waits, 4 or 8 while a fault does. All fields are named, so
-    /// that one which comes to hold bytes does not compile until it is counted here.
+    /// Returns how many bytes are in the buffer: SIZE while a frame waits, 4 or 8 while a fault does. All fields are named,
+    /// so a new one does not compile until it is counted here.
     pub fn len(&self) -> usize
         ensures { result ≡ length self.now.filled }
     {
@@ -198,15 +205,16 @@ impl<A: Allocator + Copy> Splitter<A> {
         bytes.len()
     }
 
-    /// Whether the buffer is empty.
+    /// Returns whether the buffer is empty.
     pub fn is_empty(&self) -> bool
         ensures { IsTrue result ↔ (self.now.filled ≡ []) }
     {
         self.bytes.len() == 0
     }
 
-    /// Empties the buffer at the end of the input, and answers how many bytes it had, if any. A
-    /// unit that waits goes as by [`Splitter::drop_frame`], and of less than a unit only the bytes.
+    /// Empties the buffer at the end of the input, and returns how many bytes it had; `None` if none.
+    ///
+    /// A unit that waits is dropped as by [`Splitter::drop_frame`]. An incomplete unit stays due.
     pub fn finish(&mut self) -> Option<usize>
         ensures some { IfSome result (λ n. (n ≡ length self.old.filled) × (0 < n)) }
         ensures none { IfNone result (self.old.filled ≡ []) }
@@ -230,8 +238,8 @@ impl<A: Allocator + Copy> Splitter<A> {
     }
 }
 
-/// How many bytes more may come before the unit that is due is judged again; 0 where it waits, or
-/// where nothing is taken any more.
+/// Returns how many more bytes may come before the unit that is due is judged again; 0 if it waits, or
+/// if nothing is taken any more.
 fn wanted(max: usize, stage: Stage, progress: Progress, bytes: &[u8]) -> usize
     requires least { 8 ≤ max }
     requires held { IsHeld max stage bytes.now }
@@ -250,7 +258,7 @@ fn wanted(max: usize, stage: Stage, progress: Progress, bytes: &[u8]) -> usize
     }
 }
 
-/// Takes bytes up to where the unit that is due is judged again, and judges it.
+/// Takes bytes up to the place where the unit that is due is judged again, and judges it.
 fn fill_once<A: Allocator + Copy>(
     max: usize,
     stage: Stage,
@@ -317,7 +325,7 @@ fn fill<A: Allocator + Copy>(
     }
 }
 
-/// SIZE of the frame that is due, where none of it is held and all of it is at the front of the
+/// Returns SIZE of the frame that is due, if none of it is held and all of it is at the front of the
 /// piece.
 fn whole_in(max: usize, stage: Stage, held: &[u8], piece: &[u8]) -> Option<usize>
     ensures { IsWholeIn max stage held.now piece.now result }
@@ -328,7 +336,7 @@ fn whole_in(max: usize, stage: Stage, held: &[u8], piece: &[u8]) -> Option<usize
     }
 }
 
-/// What is due once the unit that waits is gone, if one waits.
+/// Returns what is due once the unit that waits is dropped; `None` if none waits.
 fn next_stage(max: usize, stage: Stage, progress: Progress, bytes: &[u8]) -> Option<Stage>
     requires least { 8 ≤ max }
     requires held { IsHeld max stage bytes.now }
@@ -354,7 +362,7 @@ fn next_stage(max: usize, stage: Stage, progress: Progress, bytes: &[u8]) -> Opt
     }
 }
 
-/// The channel and the body of a whole frame.
+/// Returns the channel and the body of a whole frame.
 #[tactic(auto, unfolding(crate::specs::Units::channel_of))]
 fn frame_in(bytes: &[u8]) -> Frame<'_>
     requires header { 8 ≤ length bytes.now }

@@ -5,27 +5,27 @@ ghost use Rattle.amqp_frame.specs.Splits.{IsHeld, IsProgress, IsWholeFront};
 
 use byteorder::{BigEndian, ByteOrder};
 
-/// The protocol header of AMQP 1.0 without a security layer (part 2, section 2.2).
+/// The protocol header of AMQP 1.0 without a security layer. [2.2]
 pub const HEADER: [u8; 8] = [0x41, 0x4d, 0x51, 0x50, 0, 1, 0, 0];
 
-/// How many bytes the fixed part of a frame's header has (part 2, section 2.3.1).
+/// How many bytes the fixed part of a frame's header has. [2.3.1]
 const FRAME_HEADER: usize = 8;
 
-/// Why the bytes at a frame's place are no frame (part 2, section 2.3.1).
+/// Why the bytes at a frame's place are no frame. [2.3.1]
 #[derive(Clone, Copy, Debug, PartialEq, Eq)]
 pub enum FrameFault {
     /// SIZE is below the eight bytes of a frame header. It shows at the fourth byte.
     TooSmall,
     /// SIZE is above the largest frame that is accepted. It shows at the fourth byte.
     TooLarge,
-    /// DOFF is below 2, or the body would begin behind the frame. It shows at the eighth byte.
+    /// DOFF is below 2, or the body would begin after the frame's end. It shows at the eighth byte.
     BadOffset,
     /// TYPE is not 0, that of an AMQP frame. It shows at the eighth byte.
     BadType,
 }
 
 impl FrameFault {
-    /// Its name.
+    /// Returns the name of the fault.
     pub fn name(self) -> &'static str {
         match self {
             FrameFault::TooSmall => "TooSmall",
@@ -36,7 +36,7 @@ impl FrameFault {
     }
 }
 
-/// A whole frame, lent from the buffer that it came in (part 2, section 2.3.1).
+/// A whole frame, borrowed from the buffer that it came in. [2.3.1]
 #[derive(Clone, Copy, Debug)]
 pub struct Frame<'a> {
     /// The channel number.
@@ -61,11 +61,11 @@ pub enum Stage {
 /// How far a frame has come.
 #[derive(Clone, Copy)]
 pub enum Progress {
-    /// Less than a frame: so many bytes more are wanted before it is judged again.
+    /// Less than a frame: this many more bytes are wanted before it is judged again.
     Wants(usize),
     /// A whole frame.
     Whole,
-    /// No frame.
+    /// No frame: it has this fault.
     Fails(FrameFault),
 }
 
@@ -74,7 +74,7 @@ impl Progress {
     pub const START: Progress = Progress::Wants(4);
 }
 
-/// SIZE, once its four bytes are there.
+/// Returns SIZE, whose four bytes are there.
 #[tactic(auto, unfolding(crate::specs::Units::size_of))]
 fn size_in(bytes: &[u8]) -> usize
     requires { 4 ≤ length bytes.now }
@@ -115,7 +115,7 @@ pub fn progress_of(max: usize, bytes: &[u8]) -> Progress
     Progress::Whole
 }
 
-/// SIZE of the whole frame at the front of these bytes, if one is there.
+/// Returns SIZE of the whole frame at the front of these bytes, if one is there.
 pub fn whole_size(max: usize, bytes: &[u8]) -> Option<usize>
     ensures { IsWholeFront max bytes.now result }
 {

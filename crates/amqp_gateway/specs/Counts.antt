@@ -19,7 +19,7 @@ abbrev pub recorded_by : Result Done ServeFault → Option Received
 recorded_by (Ok done) = recorded done.receipt
 recorded_by (Err fault) = None
 
--- a number that counts no further than 64 bits
+-- a number that stops at the highest that 64 bits hold
 abbrev pub up_to : ℕ → ℕ
 up_to n = min n (2 ^ 64 - 1)
 

@@ -9,7 +9,7 @@ use Rattle.amqp_gateway.specs.declared.counts.Counts.{Counts}
 use Rattle.amqp_gateway.specs.Outlets.{OutletState, IsSettled}
 use Rattle.amqp_gateway.specs.declared.settings.Settings.{Settings}
 
--- A step that came to this broke off.
+-- A step with this result broke off.
 abbrev pub is_broken : Result Done ServeFault → Bool
 is_broken (Ok d) = false
 is_broken (Err lost.NoMemory) = false
@@ -17,7 +17,7 @@ is_broken (Err lost.Read) = true
 is_broken (Err lost.Write) = true
 is_broken (Err lost.Sink) = true
 
--- what it was set up with, what it counted, the connections of its hub, the records that wait, how many peers there are, and since when it is to end, if it is
+-- its settings, what it counted, the connections of its hub, the records that wait, how many peers there are, and since when it is to end, if it is to
 pub record GatewayState : Type 0 where
   pub settings : Settings
   pub counts : Counts
@@ -34,7 +34,7 @@ is_some (Some n) = true
 abbrev pub is_last : GatewayState → Bool
 is_last s = is_some s.stopped || (nat_lt 0 s.settings.connections && nat_le s.settings.connections s.counts.accepted)
 
--- none is left then
+-- no more peers are accepted, and none is left
 abbrev pub is_done : GatewayState → Bool
 is_done s = is_last s && (s.peers == 0)
 
@@ -43,7 +43,7 @@ pub record MayOpen (s : GatewayState) : Type 0 where
   pub goes_on : is_last s ≡ false
   pub room : s.peers < s.settings.peers
 
--- one that has begun: of these settings, without peers, and nothing waits
+-- a new gateway: of these settings, without peers, and nothing waits
 pub record IsNewGateway (asked : Settings) (s : GatewayState) : Type 0 where
   pub settings : s.settings ≡ asked
   pub none : s.peers ≡ 0
@@ -51,7 +51,7 @@ pub record IsNewGateway (asked : Settings) (s : GatewayState) : Type 0 where
   pub accepted : s.counts.accepted ≡ 0
   pub settled : IsSettled true s.outlet
 
--- it is to end, from now on where it was not before, and nothing else changed
+-- it is to end, from now on if it was not before, and nothing else changed
 pub record IsStopping (old new : GatewayState) : Type 0 where
   pub settings : new.settings ≡ old.settings
   pub counts : new.counts ≡ old.counts
@@ -68,7 +68,7 @@ pub record IsGoneOn (old new : GatewayState) : Type 0 where
   pub accepted : new.counts.accepted ≡ old.counts.accepted
   pub fewer : new.peers ≤ old.peers
 
--- Where it is to end, or has accepted as many as it was to, no peer was accepted; and never are there more than there may be.
+-- If it is to end, or has accepted as many as it was to, no peer was accepted. There are never more peers than there may be.
 pub record IsTurned (old new : GatewayState) : Type 0 where
   pub settings : new.settings ≡ old.settings
   pub stopped : new.stopped ≡ old.stopped

@@ -5,7 +5,8 @@ use Rattle.amqp_records.specs.Blocks.{BlocksState}
 use Rattle.amqp_gateway.specs.declared.outlet.Progress.{Progress}
 use Rattle.amqp_gateway.specs.declared.outlet.Progress.TheVariants as progress
 
--- what the sink holds, where that is known; the blocks that wait, and how many of their bytes were written; whether something was written and not brought to the disk; whether the sink has failed
+-- what the sink holds, if that is known; the blocks that wait, and how many of their bytes were written; whether something was written and not synced to the disk;
+-- whether the sink has failed
 pub record OutletState : Type 0 where
   pub sink : Option (List ℕ)
   pub blocks : BlocksState
@@ -21,20 +22,20 @@ waiting s = drop s.written s.blocks.bytes
 abbrev pub WritesOn : OutletState → OutletState → Type 0
 WritesOn old new = (went : List ℕ) × Appends old.sink new.sink went × (waiting old ≡ went ++ waiting new)
 
--- Each record that came is written, and, where that is asked, on the disk: so its sender may hear of it.
+-- Each record that came is written and, if `sync` is set, on the disk: so its sender may hear of it.
 pub record IsSettled (sync : Bool) (s : OutletState) : Type 0 where
   pub none : s.blocks.bytes ≡ []
   pub written : s.written ≡ 0
   pub synced : sync ≡ true → s.is_fresh ≡ false
   pub goes_on : s.has_failed ≡ false
 
--- what holds where all that waited was written
+-- what holds if all that waited was written
 abbrev pub WhereOut : Progress → Type 0 → Type 0
 WhereOut progress.Out P = P
 WhereOut progress.Stuck P = Unit {0}
 WhereOut progress.Failed P = Unit {0}
 
--- it has failed exactly where it says so
+-- it has failed exactly if it says so
 abbrev pub has_failed_by : Progress → Bool
 has_failed_by progress.Out = false
 has_failed_by progress.Stuck = false

@@ -10,25 +10,25 @@ use crate::peer::{ANSWERS, PIECE};
 use amqp_endpoint::Config;
 use amqp_link::LinkBounds;
 
-/// What is kept of a peer and for it besides its endpoint and the answers to a unit: its first bytes, a piece that is not heard yet,
-/// answers, and a close or an empty frame.
+/// How many bytes are kept of a peer and for it besides its endpoint and the answers to a unit. These are its
+/// first bytes, a piece that is not heard yet, answers, and a close or an empty frame.
 const SOCKET: u64 = (LONGEST + PIECE + ANSWERS) as u64 + 64;
 
-/// What an endpoint keeps besides a frame, sessions and links: its output.
+/// How many bytes an endpoint keeps besides a frame, sessions and links: its output.
 const OUTPUT: u64 = 8192;
 
-/// The room for the answer to a call.
+/// The room for the answer to a call, in bytes.
 const REPLY: u64 = 2560;
 
-/// What a link with these bounds keeps at most.
+/// Returns how many bytes a link with these bounds keeps at most.
 pub fn link_most(bounds: LinkBounds) -> u64
     ensures { result ≡ link_most bounds }
 {
     1407 + bounds.allowed() as u64 * (bounds.max_message_size() as u64 + 96)
 }
 
-/// What a peer of an endpoint with these settings holds at most, where no link keeps more than `link` ([`link_most`]), whatever its
-/// name; at most 2^64 - 1.
+/// Returns a bound of the bytes that a peer of an endpoint with these settings holds; `u64::MAX` if that is more.
+/// The bound holds if no link keeps more than `link` bytes ([`link_most`]), whatever its name.
 pub fn peer_most(config: &Config, link: u64) -> u64
     ensures { any_link_most config.now ≤ link → min (peer_most config.now) (2 ^ 64 - 1) ≤ result }
 {

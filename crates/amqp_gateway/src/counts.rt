@@ -6,12 +6,12 @@ ghost use Rattle.amqp_gateway.specs.Counts.{counted, recorded_by};
 use crate::ending::Ending;
 use amqp_serve::{Receipt, Stepped};
 
-/// What a gateway has counted since it began.
+/// What a gateway has counted since it began. Each number stops at `u64::MAX`.
 #[derive(Clone, Copy, Debug, PartialEq, Eq)]
 pub struct Counts {
     /// Connections that were accepted.
     pub accepted: u64,
-    /// Connections that ended, by how they did: in the order of [`Ending::ALL`].
+    /// Connections that ended, by how they ended: in the order of [`Ending::ALL`].
     pub ended: [u64; 11],
     /// Messages that were recorded, and their bytes.
     pub messages: u64,
@@ -26,7 +26,7 @@ impl Counts {
         bytes: 0,
     };
 
-    /// A connection ended.
+    /// Counts a connection that ended.
     pub fn end(&mut self, ending: Ending)
         ensures accepted { self.new.accepted ≡ self.old.accepted }
         ensures messages { self.new.messages ≡ self.old.messages }
@@ -37,7 +37,7 @@ impl Counts {
         }
     }
 
-    /// What a step recorded.
+    /// Counts what a step recorded.
     pub fn step(&mut self, stepped: &Stepped)
         ensures counted { self.new ≡ counted self.old (recorded_by stepped.now.done) }
         ensures accepted { self.new.accepted ≡ self.old.accepted }

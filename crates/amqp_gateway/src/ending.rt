@@ -14,7 +14,7 @@ pub enum Ending {
     Failed,
     /// The input ended between two frames.
     Between,
-    /// It ended within one.
+    /// The input ended inside a frame.
     Inside,
     /// It could not be read.
     Read,
@@ -28,7 +28,7 @@ pub enum Ending {
     Idle,
     /// The peer took none of its answers for too long.
     Slow,
-    /// The gateway ended.
+    /// The gateway stopped.
     Stopped,
 }
 
@@ -48,7 +48,7 @@ impl Ending {
         Ending::Stopped,
     ];
 
-    /// How the endpoint stood at the end of its input.
+    /// Returns how a connection ended whose endpoint stood so at the end of its input.
     pub fn of(end: End) -> Ending {
         match end {
             End::Closed => Ending::Closed,
@@ -58,7 +58,7 @@ impl Ending {
         }
     }
 
-    /// Its place among all.
+    /// Returns its place in [`Ending::ALL`].
     pub fn place(self) -> usize
         ensures { result < 11 }
     {

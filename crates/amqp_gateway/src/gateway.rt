@@ -1,4 +1,4 @@
-//! All peers, turn by turn.
+//! The gateway: all peers, turn by turn.
 
 ghost use Rattle.slab.specs.Slab.{slab_len};
 ghost use Rattle.std.specs.Prelude.{◌≡◌, ◌≤◌, ◌^◌, ◌-◌, false, min, IsTrue, IfOk};
@@ -33,28 +33,28 @@ const LISTENER: usize = usize::MAX;
 
 const INPUT: usize = usize::MAX - 1;
 
-/// So many connections are accepted in a turn, at most.
+/// How many connections are accepted in a turn, at most.
 const ACCEPTS: usize = 64;
 
-/// How often it is looked whose time is up, in milliseconds.
+/// How often the peers are checked for time-outs, in milliseconds.
 const SWEEP: u64 = 250;
 
-/// How often it is tried whether a sink takes records again, in milliseconds.
+/// How often a sink that took nothing is tried again, in milliseconds.
 const RETRY: u64 = 20;
 
-/// So many events are told at a time.
+/// How many events are reported at a time, at most.
 const EVENTS: usize = 1024;
 
-/// Why a gateway goes on no more.
+/// Why a gateway can't go on.
 #[derive(Clone, Copy, Debug, PartialEq, Eq, Drop, Error)]
 pub enum GatewayFault {
-    /// The system does not tell which sockets are ready.
+    /// The system does not report which sockets are ready.
     #[error("Poll")]
     Poll,
-    /// A record could not be written, or not be brought to the disk.
+    /// A record could not be written, or not be synced to the disk.
     #[error("Sink")]
     Sink,
-    /// Memory was refused that the gateway itself wants.
+    /// Memory was refused that the gateway itself needs.
     #[error("NoMemory")]
     NoMemory,
 }
@@ -83,7 +83,7 @@ pub struct Gateway<S: Sink + Drop, W: Watcher + Drop> {
     may_accept: bool,
     peers: Slab<Peer>,
     desk: Desk<S, W>,
-    /// Whether its records wait for the sink, so that no peer is read.
+    /// Whether records wait for the sink, so that no peer is read.
     is_stuck: bool,
     piece: Vec<u8>,
     now: Vec<usize>,
@@ -91,7 +91,7 @@ pub struct Gateway<S: Sink + Drop, W: Watcher + Drop> {
     passed: Passed,
     swept: u64,
     has_input: bool,
-    /// Since when it is to end, if it is.
+    /// Since when it is to end, if it is to.
     stopped: Option<u64>,
 }
 
@@ -108,9 +108,13 @@ impl<S: Sink + Drop, W: Watcher + Drop> Model for Gateway<S, W> {
 }
 
 impl<S: Sink + Drop, W: Watcher + Drop> Gateway<S, W> {
-    /// One that accepts peers at a listener, which does not block. Each is served by an endpoint of these settings and this rule.
-    /// Records go to the sink, and the watcher is told of what passes. It is this moment, in milliseconds, from whichever moment they
-    /// are counted.
+    /// Makes a gateway that accepts peers at a listener, which must not block. Each peer is served by an endpoint
+    /// of these settings and this rule. Records go to the sink, and the watcher is told what passes. `now` is this
+    /// moment in milliseconds, counted from any fixed moment.
+    ///
+    /// # Errors
+    ///
+    /// `Poll` if the system can't watch the listener, and `NoMemory` if memory is refused.
     pub fn new<R: Net + AllocGlobal>(
         rt: &R,
         listener: TcpListener,
@@ -163,12 +167,12 @@ impl<S: Sink + Drop, W: Watcher + Drop> Gateway<S, W> {
         })
     }
 
-    /// From here on [`Gateway::input_came`] tells when standard input can be read. Called again, it tells again of what is there
-    /// already.
+    /// Lets [`Gateway::input_came`] tell from here on when standard input can be read. Another call makes it tell
+    /// again of what is there already.
     ///
     /// # Errors
     ///
-    /// `Poll` where the system can't wait for it, as for a file.
+    /// `Poll` if the system can't wait for standard input, as for a file.
     pub fn watch_input(&mut self) -> Result<(), GatewayFault>
         ensures { self.new ≡ self.old }
     {
@@ -186,15 +190,15 @@ impl<S: Sink + Drop, W: Watcher + Drop> Gateway<S, W> {
         }
     }
 
-    /// Whether standard input is to be read since this was asked last.
+    /// Returns whether standard input can be read, if it was reported since the last call.
     pub fn input_came(&mut self) -> bool
         ensures { self.new ≡ self.old }
     {
         mem::replace(&mut self.has_input, false)
     }
 
-    /// It is to end: no more peers are accepted, and each is closed in the next turn. What waits may go out for the time of grace,
-    /// from the last turn on. Nothing changes where it is to end already.
+    /// Makes the gateway end: no more peers are accepted, and each is closed in the next turn. What waits may go
+    /// out for the time of grace, from the last turn on. Nothing changes if it is to end already.
     pub fn stop(&mut self)
         ensures { IsStopping self.old self.new }
     {
@@ -204,14 +208,14 @@ impl<S: Sink + Drop, W: Watcher + Drop> Gateway<S, W> {
         }
     }
 
-    /// Whether it has ended: all peers are gone, and no more come.
+    /// Returns whether it has ended: all peers are gone, and no more come.
     pub fn is_done(&self) -> bool
         ensures { result ≡ is_done self.entry.now }
     {
         self.is_last() && self.peers.is_empty()
     }
 
-    /// Whether no more peers are accepted.
+    /// Returns whether no more peers are accepted.
     fn is_last(&self) -> bool
         ensures { result ≡ is_last self.entry.now }
     {
@@ -219,21 +223,22 @@ impl<S: Sink + Drop, W: Watcher + Drop> Gateway<S, W> {
         self.stopped.is_some() || most > 0 && self.desk.counts.accepted >= most
     }
 
-    /// How many peers there are.
+    /// Returns how many peers there are.
     pub fn open(&self) -> usize
         ensures { result ≡ self.entry.now.peers }
     {
         self.peers.len()
     }
 
-    /// What it counted.
+    /// Returns what it counted.
     pub fn counts(&self) -> Counts
         ensures { result ≡ self.entry.now.counts }
     {
         self.desk.counts
     }
 
-    /// The bytes that the endpoints of all peers hold, and what waits for them and of them. It goes over all of them.
+    /// Returns how many bytes the endpoints of all peers hold, with what waits for the peers and what came from
+    /// them; `u64::MAX` if more. It visits all peers.
     pub fn held(&self) -> u64
         ensures { min (all_held self.entry.now.members) (2 ^ 64 - 1) ≤ result }
     {
@@ -244,15 +249,16 @@ impl<S: Sink + Drop, W: Watcher + Drop> Gateway<S, W> {
         sum
     }
 
-    /// One turn at this moment: takes what ready peers sent, writes their records, and then sends the answers. It waits for nothing,
-    /// but where the sink does. No answer is sent before the record that it answers is written, and on the disk where that is asked.
+    /// Makes one turn at the moment `now`, in milliseconds: takes what ready peers sent, writes their records, and
+    /// then sends the answers. It does not wait, unless the sink does. No answer is sent before the record that it
+    /// answers is written, and synced to the disk if `Settings::sync` is set.
     ///
-    /// Once it is to end no peer is accepted, and behind the time of grace all that are left are closed.
+    /// Once it is to end, no peer is accepted, and after the time of grace all that are left are closed.
     ///
     /// # Errors
     ///
-    /// `Sink` where the sink has failed, or has not taken all within the time of grace: each peer is gone then, and none
-    /// was sent an answer to a record that waits. `NoMemory` where that is refused for the gateway itself.
+    /// `Sink` if the sink has failed, or has not taken all within the time of grace. Each peer is gone then, and
+    /// none was sent an answer to a record that waits. `NoMemory` if memory for the gateway itself is refused.
     pub fn turn<R: Eprint>(&mut self, rt: &R, now: u64) -> Result<(), GatewayFault>
         ensures { IsTurned self.old self.new }
     {
@@ -279,7 +285,7 @@ impl<S: Sink + Drop, W: Watcher + Drop> Gateway<S, W> {
         Ok(())
     }
 
-    /// Ends all that are left behind the time of grace, and looks whose time is up.
+    /// Ends all that are left once the time of grace is over, or else checks the peers for time-outs.
     fn look_at_times<R: Eprint>(&mut self, rt: &R) -> Result<(), GatewayFault>
         ensures { IsGoneOn self.old self.new }
     {
@@ -289,11 +295,11 @@ impl<S: Sink + Drop, W: Watcher + Drop> Gateway<S, W> {
         self.sweep()
     }
 
-    /// Waits for what comes next, but no longer than so many milliseconds, and not at all where a turn is due.
+    /// Waits for what comes next, but at most `most` milliseconds, and not at all if a turn is due.
     ///
     /// # Errors
     ///
-    /// `Poll` where the system does not tell which sockets are ready.
+    /// `Poll` if the system does not report which sockets are ready.
     pub fn wait(&mut self, most: u64) -> Result<(), GatewayFault>
         ensures { self.new ≡ self.old }
     {
@@ -309,7 +315,7 @@ impl<S: Sink + Drop, W: Watcher + Drop> Gateway<S, W> {
         }
     }
 
-    /// For how many milliseconds it may wait, at most so many.
+    /// Returns for how many milliseconds it may wait, at most `most`.
     fn pause(&self, most: u64) -> u64
         ensures { result ≤ most }
     {
@@ -322,7 +328,7 @@ impl<S: Sink + Drop, W: Watcher + Drop> Gateway<S, W> {
         }
     }
 
-    /// Takes note of which sockets are ready.
+    /// Notes which sockets are ready.
     fn note_events(&mut self) -> Result<(), GatewayFault>
         ensures { self.new ≡ self.old }
     {
@@ -332,7 +338,7 @@ impl<S: Sink + Drop, W: Watcher + Drop> Gateway<S, W> {
         Ok(())
     }
 
-    /// Whether another peer may be accepted.
+    /// Returns whether another peer may be accepted.
     fn may_open(&self) -> bool
         ensures { IsTrue result → MayOpen self.entry.now }
     {
@@ -351,7 +357,8 @@ impl<S: Sink + Drop, W: Watcher + Drop> Gateway<S, W> {
                 Ok((stream, address)) => self.open_one(rt, stream, address)?,
                 Err(error) if error.kind() == ErrorKind::Interrupted => {}
                 Err(error) if error.kind() == ErrorKind::ConnectionAborted => {}
-                // None waits; or there are too few descriptors, and it is tried again when a peer ends, and from time to time.
+                // None waits, or there are too few descriptors. It is tried again when a peer ends, and from time
+                // to time.
                 Err(_) => self.may_accept = false,
             }
         }
@@ -380,7 +387,7 @@ impl<S: Sink + Drop, W: Watcher + Drop> Gateway<S, W> {
         Ok(())
     }
 
-    /// Makes a peer of a stream, and answers where it stands.
+    /// Makes a peer of a stream, and returns its place.
     fn place(&mut self, number: u64, stream: TcpStream) -> Result<usize, AllocError>
         ensures opened { IsPlaced self.old self.new }
         ensures outlet { self.new.outlet ≡ self.old.outlet }
@@ -405,7 +412,7 @@ impl<S: Sink + Drop, W: Watcher + Drop> Gateway<S, W> {
         Ok(at)
     }
 
-    /// Takes what each ready peer sent, as long as the records are taken.
+    /// Takes what each ready peer sent, as long as the sink takes the records.
     fn hear_all<R: Eprint>(&mut self, rt: &R)
         requires { self.old.outlet.written ≡ 0 }
         ensures { IsGoneOn self.old self.new }
@@ -477,7 +484,7 @@ impl<S: Sink + Drop, W: Watcher + Drop> Gateway<S, W> {
         Ok(())
     }
 
-    /// Sends what waits for a peer: no record waits that it may speak of.
+    /// Sends what waits for a peer. No record waits that the answers may speak of.
     fn send<R: Eprint>(&mut self, rt: &R, at: usize) -> Result<(), GatewayFault>
         requires { IsSettled self.old.settings.sync self.old.outlet }
         ensures gone_on { IsGoneOn self.old self.new }
@@ -517,7 +524,7 @@ impl<S: Sink + Drop, W: Watcher + Drop> Gateway<S, W> {
         let _ = eprintln!(rt; "connection {number}: {ending}");
     }
 
-    /// Whether it is to end, and the time of grace is over.
+    /// Returns whether it is to end and the time of grace is over.
     fn has_no_grace(&self) -> bool {
         match self.stopped {
             Some(since) => self.passed.seen().saturating_sub(since) >= self.settings.grace,
@@ -525,7 +532,7 @@ impl<S: Sink + Drop, W: Watcher + Drop> Gateway<S, W> {
         }
     }
 
-    /// Ends all that are left behind the time of grace.
+    /// Ends all that are left once the time of grace is over.
     fn end_stopped<R: Eprint>(&mut self, rt: &R) -> Result<(), GatewayFault>
         ensures { IsGoneOn self.old self.new }
     {
@@ -538,7 +545,7 @@ impl<S: Sink + Drop, W: Watcher + Drop> Gateway<S, W> {
         }
     }
 
-    /// Looks whose time is up.
+    /// Checks the peers for time-outs.
     fn sweep(&mut self) -> Result<(), GatewayFault>
         ensures { IsGoneOn self.old self.new }
     {
@@ -574,7 +581,8 @@ impl<S: Sink + Drop, W: Watcher + Drop> Gateway<S, W> {
         Ok(())
     }
 
-    /// Ends all peers, as a gateway does that goes on no more, and waits for none. Where no records wait each is told by a close.
+    /// Ends all peers at once, for a gateway that goes on no more, and waits for none. If no records wait, each
+    /// open peer is sent a close.
     pub fn end_all<R: Eprint>(&mut self, rt: &R, ending: Ending)
         ensures { IsGoneOn self.old self.new }
     {
@@ -585,7 +593,8 @@ impl<S: Sink + Drop, W: Watcher + Drop> Gateway<S, W> {
         self.next.clear();
     }
 
-    /// Closes one, and waits for nothing. Where records wait it is left without a word, since its answers may speak of them.
+    /// Closes one peer, and waits for nothing. If records wait, the peer is dropped without a word, since its
+    /// answers may speak of them.
     fn end_one<R: Eprint>(&mut self, rt: &R, at: usize, ending: Ending)
         ensures gone_on { IsGoneOn self.old self.new }
         ensures outlet { self.new.outlet ≡ self.old.outlet }
@@ -620,7 +629,7 @@ struct Besides {
     input: bool,
 }
 
-/// Puts the peers that are ready into a queue. Answers what else is.
+/// Puts the peers that are ready into a queue. Returns what else is ready.
 fn note_all(
     events: &Events,
     peers: &mut Slab<Peer>,
@@ -642,7 +651,7 @@ fn note_all(
     Ok(besides)
 }
 
-/// Puts a peer that is ready into a queue, unless it stands there.
+/// Puts a peer that is ready into a queue, unless it is in one.
 fn note_peer(
     event: &Event,
     at: usize,
@@ -661,7 +670,7 @@ fn note_peer(
     Ok(())
 }
 
-/// Puts a peer behind the others of a queue.
+/// Puts a peer at the end of a queue.
 fn put(queue: &mut Vec<usize>, at: usize) -> Result<(), GatewayFault> {
     match queue.push(at) {
         Ok(()) => Ok(()),

@@ -9,18 +9,19 @@ use std::alloc::Global;
 /// How deep the field of a body may be.
 const DEPTH: usize = 31;
 
-/// How many bytes of a peer are looked through for its open.
+/// How many bytes of a peer are searched for its open.
 pub const LONGEST: usize = 1024;
 
 /// What a peer says of itself.
 #[derive(Drop)]
 pub struct Opening {
     pub container_id: String,
-    /// It wants to hear something at least each so many milliseconds; 0 where it does not care.
+    /// It wants to hear something at least every so many milliseconds; 0 if it does not care.
     pub idle_time_out: u64,
 }
 
-/// What the open says among the first bytes of a peer; none where it stands in none of the first [`LONGEST`], or memory is refused.
+/// Returns what the open among the first bytes of a peer says. Returns `None` if they have no open of at most
+/// [`LONGEST`] bytes, or memory is refused.
 pub fn opening_in(alloc: Global, bytes: &[u8]) -> Option<Opening> {
     let mut splitter = Splitter::new(alloc, LONGEST).ok()?;
     let mut rest = bytes;
@@ -44,7 +45,7 @@ fn opening_of(alloc: Global, open: &Open<'_>) -> Option<Opening> {
     })
 }
 
-/// The number of milliseconds that a field spells; 0 where it is absent, or no uint.
+/// Returns the number of milliseconds that a field spells; 0 if it is absent, or no uint.
 fn millis_of(field: &[u8]) -> u64 {
     match skip(field, DEPTH) {
         Ok(_) => number_at(field),
@@ -52,7 +53,7 @@ fn millis_of(field: &[u8]) -> u64 {
     }
 }
 
-/// The uint at the front of bytes that begin with a value; 0 where they begin with another.
+/// Returns the uint at the front of bytes that begin with a value; 0 if that is another value.
 fn number_at(field: &[u8]) -> u64
     requires { BeginsWithValue field.now }
 {

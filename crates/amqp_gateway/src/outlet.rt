@@ -12,7 +12,7 @@ use std::marker::Model;
 
 /// Where records go.
 pub trait Sink: Write {
-    /// Brings what was written to the disk.
+    /// Syncs what was written to the disk.
     fn sync(&mut self) -> io::Result<()>
         ensures { Keeps (Self.contents self.old) (Self.contents self.new) };
 }
@@ -37,7 +37,7 @@ impl<W: Write> Sink for Unsynced<W> {
     }
 }
 
-/// Once so many bytes of records wait they are written, also in the middle of a turn.
+/// How many bytes of records may wait; from this many on they are written, even in the middle of a turn.
 const MOST: usize = 262_144;
 
 /// How far writing has come.
@@ -57,7 +57,7 @@ pub struct Outlet<S: Sink + Drop> {
     sink: S,
     alloc: Global,
     blocks: Blocks,
-    /// So many bytes of the blocks were written.
+    /// How many bytes of the blocks were written.
     written: usize,
     /// Whether something was written that was not synced.
     is_fresh: bool,
@@ -86,8 +86,9 @@ impl<S: Sink + Drop> Outlet<S> {
         }
     }
 
-    /// Puts records of a peer behind those that wait, of which none has begun to be written: the size of a block that has can't
-    /// change any more.
+    /// Adds records of a peer to those that wait. None of these may have begun to be written, since the size of a
+    /// block can't change after that. Returns `AllocError` if memory is refused, or there are 2^32 bytes or more;
+    /// nothing was added then.
     pub fn put(&mut self, number: u64, records: &[u8]) -> Result<(), AllocError>
         requires { self.old.written ≡ 0 }
         ensures written { self.new.written ≡ 0 }
@@ -106,12 +107,12 @@ impl<S: Sink + Drop> Outlet<S> {
         self.blocks.put(number, records)
     }
 
-    /// Whether so much waits that it is to be written.
+    /// Returns whether so much waits that it is to be written.
     pub fn is_full(&self) -> bool {
         self.blocks.as_bytes().len().saturating_sub(self.written) >= MOST
     }
 
-    /// Whether nothing waits, and, where that is asked, all is on the disk.
+    /// Returns whether nothing waits, the sink has not failed and, if `sync` is set, all is on the disk.
     pub fn is_settled(&self, sync: bool) -> bool
         ensures { IsTrue result ↔ IsSettled sync self.now }
     {
@@ -121,7 +122,7 @@ impl<S: Sink + Drop> Outlet<S> {
             && !self.has_failed
     }
 
-    /// Writes what waits, and brings it to the disk where that is asked. `Out` is that nothing waits any more.
+    /// Writes what waits, and syncs it to the disk if `sync` is set. `Out` means that nothing waits any more.
     pub fn settle(&mut self, sync: bool) -> Progress
         ensures stays { self.old.has_failed ≡ true → (result ≡ Progress.Failed) × (self.new ≡ self.old) }
         ensures went { WritesOn self.old self.new }
@@ -134,7 +135,7 @@ impl<S: Sink + Drop> Outlet<S> {
         }
     }
 
-    /// Writes what waits, without bringing it to the disk.
+    /// Writes what waits, without syncing it to the disk. `Out` means that nothing waits any more.
     #[tactic(auto, using(crate::proofs::Outs::on_here))]
     pub fn write_out(&mut self) -> Progress
         ensures stays { self.old.has_failed ≡ true → (result ≡ Progress.Failed) × (self.new ≡ self.old) }
@@ -154,7 +155,7 @@ impl<S: Sink + Drop> Outlet<S> {
         Progress::Stuck
     }
 
-    /// Writes once of what waits, or says that it can't go on.
+    /// Writes once from what waits. Returns `None` if it can go on.
     #[tactic(auto, using(crate::proofs::Outs::on_here, crate::proofs::Outs::on_still, crate::proofs::Outs::on_flushed, crate::proofs::Outs::on_more))]
     fn write_once(&mut self) -> Option<Progress>
         requires { self.old.has_failed ≡ false }
@@ -180,7 +181,7 @@ impl<S: Sink + Drop> Outlet<S> {
         }
     }
 
-    /// Brings what was written to the disk, where something was since the last time.
+    /// Syncs what was written to the disk, if something was written since the last time.
     fn sync(&mut self) -> Progress
         requires { self.old.has_failed ≡ false }
         ensures bytes { self.new.blocks ≡ self.old.blocks }
@@ -201,7 +202,7 @@ impl<S: Sink + Drop> Outlet<S> {
         }
     }
 
-    /// All that waited was written. Where it was much its memory is given back.
+    /// Flushes the sink after all that waited was written. If that was much, its memory is given back.
     fn flush(&mut self) -> Progress
         requires { self.old.has_failed ≡ false }
         ensures bytes { self.new.blocks.bytes ≡ [] }
@@ -232,7 +233,7 @@ impl<S: Sink + Drop> Outlet<S> {
     }
 }
 
-/// What of blocks is still to be written, where so many bytes of them were.
+/// Returns what of the blocks is still to be written, if `written` bytes of them were.
 fn rest_of(blocks: &Blocks, written: usize) -> &[u8]
     ensures rest { result.now ≡ drop written blocks.now.bytes }
     ensures fits { length blocks.now.bytes < 2 ^ 64 }

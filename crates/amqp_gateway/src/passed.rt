@@ -2,11 +2,11 @@
 
 ghost use Rattle.std.specs.Prelude.{◌≡◌, ◌≤◌, ◌+◌, ◌-◌};
 
-/// How much longer than it was to wait a turn may take before its time counts for nobody.
+/// How much longer than it was to wait a turn may take before the time counts for nobody, in milliseconds.
 const SLACK: u64 = 1000;
 
-/// The time that counts for the peers, in milliseconds: that of the caller, but for what passed while the gateway could not look at
-/// them, be it that its records were not taken or that it was held up itself.
+/// The time that counts for the peers, in milliseconds. It is the caller's time, without what passed while the
+/// gateway could not look at them, since its records were not taken or it was held up itself.
 #[derive(Clone, Copy, Debug)]
 pub struct Passed {
     millis: u64,
@@ -23,21 +23,21 @@ impl Passed {
         }
     }
 
-    /// So many count until now.
+    /// Returns how many milliseconds count until now.
     pub fn millis(self) -> u64
         ensures { result ≡ self.millis }
     {
         self.millis
     }
 
-    /// The caller's time when it was told last.
+    /// Returns the caller's time as it was given last.
     pub fn seen(self) -> u64
         ensures { result ≡ self.seen }
     {
         self.seen
     }
 
-    /// The caller's time is this now. It counts up to what was awaited.
+    /// Takes the caller's time. What passed counts, up to what the turn was to wait and [`SLACK`] more.
     pub fn go_on(&mut self, now: u64)
         ensures seen { self.new.seen ≡ now }
         ensures least { self.old.millis ≤ self.new.millis }
@@ -50,7 +50,7 @@ impl Passed {
         self.seen = now;
     }
 
-    /// The caller's time is this now, and none of it counts.
+    /// Takes the caller's time. Nothing of what passed counts.
     pub fn stand_still(&mut self, now: u64)
         ensures seen { self.new.seen ≡ now }
         ensures millis { self.new.millis ≡ self.old.millis }
@@ -58,7 +58,7 @@ impl Passed {
         self.seen = now;
     }
 
-    /// The turn waits for so long at most.
+    /// Notes how many milliseconds the turn waits at most.
     pub fn wait(&mut self, millis: u64)
         ensures awaited { self.new.awaited ≡ millis }
         ensures millis { self.new.millis ≡ self.old.millis }

@@ -22,13 +22,13 @@ use std::io::{self, ErrorKind, Read, Write};
 use std::net::Shutdown;
 use std::{mem, str};
 
-/// Once so many bytes of answers wait no more of a peer's bytes are heard.
+/// How many bytes of answers may wait before no more of a peer's bytes are heard.
 pub const ANSWERS: usize = 8192;
 
-/// So many bytes are read of a peer in a turn, at most: what one may do bounds what the others wait.
+/// How many bytes are read of a peer in a turn, at most. What one peer may do bounds what the others wait.
 pub const PIECE: usize = 8192;
 
-/// So many ends by this side are told of a peer, so that one that errs without end fills no log.
+/// How many ends by this side are reported of a peer, so that one that errs without end fills no log.
 const MOST_TOLD: u32 = 100;
 
 /// What comes next of a peer.
@@ -67,12 +67,12 @@ pub struct Desk<S: Sink + Drop, W: Watcher + Drop> {
 #[derive(Drop)]
 pub struct Peer {
     number: u64,
-    /// Where it stands among the peers.
+    /// Its place among the peers.
     at: usize,
-    /// In the hub.
+    /// Its key in the hub.
     key: usize,
     stream: TcpStream,
-    /// What the hub handed out for it, of which so many bytes were written.
+    /// What the hub handed out for it, and how many bytes of that were written.
     answers: Vec<u8>,
     written: usize,
     /// What came and was not heard, since memory was refused or too many answers wait.
@@ -85,7 +85,7 @@ pub struct Peer {
     is_deaf: bool,
     /// Whether a unit waits in the hub, for which memory was refused.
     is_starved: bool,
-    /// Whether the hub has it no more.
+    /// Whether the hub has dropped it.
     is_gone: bool,
     ending: Option<Ending>,
     /// How its endpoint stood at the end of its input.
@@ -94,14 +94,15 @@ pub struct Peer {
     is_open: bool,
     /// Whether this side has ended its connection.
     has_failed: bool,
-    /// How often it was told that this side ended something of it.
+    /// How often it was reported that this side ended something of it.
     told: u32,
-    /// When it came, when something of it did, when something was written, and since when its socket takes nothing.
+    /// When it came, when something came from it, when something was written, and since when its socket takes
+    /// nothing.
     came: u64,
     heard: u64,
     said: u64,
     blocked: Option<u64>,
-    /// An empty frame is due so long behind the last one; 0 is never.
+    /// How long after the last write an empty frame is due; 0 is never.
     beat: u64,
 }
 
@@ -138,17 +139,17 @@ impl Peer {
         self.number
     }
 
-    /// How it ended, if it has.
+    /// Returns how it ended, if it has.
     pub fn ending(&self) -> Option<Ending> {
         self.ending
     }
 
-    /// How its endpoint stood at the end of its input, if it was brought there.
+    /// Returns how its endpoint stood at the end of its input, if it was brought there.
     pub fn end(&self) -> Option<End> {
         self.end
     }
 
-    /// The bytes that wait here: its answers, and what came of it and was not heard.
+    /// Returns how many bytes wait here: its answers, and what came from it and was not heard.
     pub fn held(&self) -> u64 {
         let first = match &self.first {
             Some(first) => first.len() as u64,
@@ -166,7 +167,7 @@ impl Peer {
         }
     }
 
-    /// Has it reported by its place when its socket is ready.
+    /// Registers it, so that its place is reported when its socket is ready.
     pub fn register(&mut self, registry: &Registry, at: usize) -> io::Result<()> {
         self.at = at;
         let _ = self.stream.set_nodelay(true);
@@ -183,7 +184,7 @@ impl Peer {
         }
     }
 
-    /// Puts it into the queue, unless it stands there. True where it did not.
+    /// Puts it into the queue. Returns whether it was not there before.
     pub fn queue(&mut self) -> bool {
         !mem::replace(&mut self.is_queued, true)
     }
@@ -192,27 +193,28 @@ impl Peer {
         self.is_queued = false;
     }
 
-    /// Whether answers wait for its socket.
+    /// Returns whether answers wait for its socket.
     fn is_blocked(&self) -> bool {
         self.written < self.answers.len()
     }
 
-    /// Whether something of it is kept to be heard again.
+    /// Returns whether something of it is kept to be heard again.
     fn has_unheard(&self) -> bool {
         self.is_starved || !self.unheard.is_empty()
     }
 
-    /// Whether it may be heard: it has not ended, and no answers wait.
+    /// Returns whether it may be heard: it has not ended, and no answers wait.
     pub fn may_be_heard(&self) -> bool {
         self.ending.is_none() && !self.is_blocked()
     }
 
-    /// Whether more of it may be read.
+    /// Returns whether more of it may be read.
     pub fn may_be_read(&self) -> bool {
         self.is_readable && !self.has_unheard() && self.may_be_heard()
     }
 
-    /// Whether it is to have another turn at once. One for which memory was refused is tried again from time to time.
+    /// Returns whether it is to have another turn at once. One for which memory was refused is tried again from
+    /// time to time.
     fn has_more(&self) -> bool {
         !self.is_starved && (self.is_readable || !self.unheard.is_empty())
     }
@@ -258,7 +260,8 @@ impl Peer {
         }
     }
 
-    /// Lets the hub hear what came, unit by unit, until so much waits for the peer that its socket is to take it first.
+    /// Lets the hub hear what came, unit by unit, until so much waits for the peer that its socket has to take it
+    /// first.
     pub fn hear<S: Sink + Drop, W: Watcher + Drop>(
         &mut self,
         alloc: Global,
@@ -293,7 +296,7 @@ impl Peer {
         desk.watcher.waits(self.at);
     }
 
-    /// Goes on behind a step that took these bytes. False where no more is to be heard now.
+    /// Goes on after a step that took these bytes. Returns `false` if no more is to be heard now.
     fn go_on<S: Sink + Drop, W: Watcher + Drop>(
         &mut self,
         alloc: Global,
@@ -339,7 +342,8 @@ impl Peer {
         }
     }
 
-    /// Keeps the first bytes that came, until the open is found in them. Where memory is refused it is not looked for.
+    /// Keeps the first bytes that came, until the open is found in them. If memory is refused, the open is not
+    /// searched for.
     pub fn keep_first(&mut self, bytes: &[u8]) {
         if let Some(first) = &mut self.first {
             let count = bytes.len().min(LONGEST.saturating_sub(first.len()));
@@ -352,7 +356,8 @@ impl Peer {
         }
     }
 
-    /// Says on standard error what concerns the operator: its open, and what this side ended, [`MOST_TOLD`] times at most.
+    /// Reports on standard error what concerns the operator: its open, and what this side ended, at most
+    /// [`MOST_TOLD`] times.
     fn tell(&mut self, alloc: Global, told: Outcome, rt: &impl Eprint) {
         match told {
             Outcome::Event(Event::Opened) => self.opened(alloc, rt),
@@ -373,7 +378,7 @@ impl Peer {
         }
     }
 
-    /// Says what this side ended, or that no more of it is said.
+    /// Reports what this side ended, or that no more of it is reported.
     fn tell_failure(&self, scope: Scope, condition: Condition, rt: &impl Eprint) {
         let number = self.number;
         let name = str::from_utf8(condition.name()).unwrap_or("");
@@ -391,7 +396,7 @@ impl Peer {
         };
     }
 
-    /// Its open came.
+    /// Notes that its open came.
     fn opened(&mut self, alloc: Global, rt: &impl Eprint) {
         self.is_open = true;
         let Some(first) = self.first.take() else {
@@ -420,8 +425,9 @@ impl Peer {
         Ok(())
     }
 
-    /// Whether it is over behind what was told. One that this side ended with an error is over at once where a frame was none, and else
-    /// awaits the peer's close [2.4.3]: what a piece of nothing comes to tells which.
+    /// Returns whether it is over after this outcome. If this side ended it with an error, it is over at once if
+    /// what came was no frame. Else it awaits the peer's close [2.4.3]. What a piece of no bytes results in shows
+    /// which.
     fn is_over(&mut self, alloc: Global, told: Outcome, hub: &mut Hub) -> bool {
         match told {
             Outcome::Dead | Outcome::Event(Event::Closed { .. }) => true,
@@ -444,7 +450,7 @@ impl Peer {
         }
     }
 
-    /// Its input has ended, or its connection is over.
+    /// Ends it, since its input has ended or its connection is over.
     pub fn finish(&mut self, hub: &mut Hub) {
         if self.ending.is_some() {
             return;
@@ -459,7 +465,7 @@ impl Peer {
         });
     }
 
-    /// Closes it, where it is open, and ends it.
+    /// Closes it if it is open, and ends it.
     pub fn close(&mut self, hub: &mut Hub, watcher: &mut impl Watcher, ending: Ending) {
         if self.ending.is_some() {
             return;
@@ -482,7 +488,7 @@ impl Peer {
         self.written = 0;
     }
 
-    /// Judges it by the time. True where it has something to say, or is over, or is to be tried again.
+    /// Checks it for time-outs. Returns whether it has something to say, is over, or is to be tried again.
     pub fn judge(
         &mut self,
         hub: &mut Hub,
@@ -516,13 +522,14 @@ impl Peer {
         self.is_starved
     }
 
-    /// Whether it said nothing for so long, or has been here for so long and its open has not come.
+    /// Returns whether it was silent for `idle` milliseconds, or has been here for as long and its open has not
+    /// come.
     fn is_late(&self, now: u64, idle: u64) -> bool {
         let is_silent = now.saturating_sub(self.heard) >= idle;
         is_silent || !self.is_open && now.saturating_sub(self.came) >= idle
     }
 
-    /// Says that this side is there [2.4.5]. True where that is to be written.
+    /// Sends an empty frame, which says that this side is there [2.4.5]. Returns whether there is one to write.
     fn say_beat(&mut self, hub: &mut Hub, watcher: &mut impl Watcher, now: u64) -> bool {
         let Ok(frame) = hub.heartbeat(self.key) else {
             return false;
@@ -535,7 +542,7 @@ impl Peer {
         true
     }
 
-    /// Its socket takes nothing more.
+    /// Notes that its socket takes nothing more.
     fn block(&mut self, now: u64) -> Next {
         self.is_deaf = true;
         if self.blocked.is_none() {
@@ -544,7 +551,8 @@ impl Peer {
         Next::Wait
     }
 
-    /// Writes what the socket takes of its answers, and tells what comes next. The records that they answer are settled.
+    /// Writes what the socket takes of its answers, and returns what comes next. The records that they answer must
+    /// be settled.
     pub fn send<S: Sink + Drop>(
         &mut self,
         alloc: Global,
@@ -592,10 +600,10 @@ impl Peer {
     }
 }
 
-/// Once the room for a record is larger it is given back.
+/// If the room for a record is larger than this, in bytes, it is given back.
 const LARGE: usize = 262_144;
 
-/// Puts the record of a step to those that wait. Where the step broke off there is none: its peer hears nothing of it.
+/// Adds the record of a step to those that wait. A step that broke off has none: its peer hears nothing of it.
 fn keep_record<S: Sink + Drop, W: Watcher + Drop>(
     alloc: Global,
     number: u64,
@@ -617,7 +625,7 @@ fn keep_record<S: Sink + Drop, W: Watcher + Drop>(
     is_kept
 }
 
-/// Whether a step that came to this broke off, so that the hub has removed its connection.
+/// Returns whether a step with this result broke off, so that the hub has removed its connection.
 fn is_broken(done: Result<Done, ServeFault>) -> bool
     ensures { result ≡ is_broken done }
 {
@@ -627,7 +635,7 @@ fn is_broken(done: Result<Done, ServeFault>) -> bool
     }
 }
 
-/// Takes the first bytes that the hub has for a peer, as many as lie in one piece. False where it has none.
+/// Takes the first bytes that the hub has for a peer, as many as lie in one piece. Returns `false` if it has none.
 fn take_front(hub: &mut Hub, key: usize, answers: &mut Vec<u8>) -> Result<bool, AllocError> {
     let front = hub.unsent_front(key);
     let count = front.len();

@@ -1,30 +1,31 @@
-//! Who is told of what passes at each peer.
+//! Watching what passes at each peer.
 
 use crate::ending::Ending;
 use amqp_endpoint::End;
 use amqp_serve::Stepped;
 use std::net::SocketAddr;
 
-/// Is told of what passes at each peer. A peer is named by its place, below [`crate::Settings::peers`]: until it is gone no other has
-/// it.
+/// Gets a report of what passes at each peer. A peer is named by its place, below [`crate::Settings::peers`].
+/// Until it is gone no other peer has that place.
 pub trait Watcher {
     /// A peer came.
     fn met(&mut self, at: usize, number: u64, address: SocketAddr);
 
-    /// A step took these bytes of it, and answered with these.
+    /// A step took these bytes of the peer, and answered with these.
     fn stepped(&mut self, at: usize, taken: &[u8], stepped: &Stepped, answers: &[u8]);
 
-    /// It is sent this besides.
+    /// The peer is sent this besides.
     fn said(&mut self, at: usize, answers: &[u8]);
 
-    /// No more of it is heard in this turn: what was told may be passed on.
+    /// No more of the peer is heard in this turn: what was reported may be passed on.
     fn waits(&mut self, at: usize);
 
-    /// It is gone: how, and how its endpoint stood at the end of its input, if it was brought there.
+    /// The peer is gone: how it ended, and how its endpoint stood at the end of its input, if it was brought
+    /// there.
     fn ended(&mut self, at: usize, ending: Ending, end: Option<End>);
 }
 
-/// Is told, and keeps nothing.
+/// A watcher that does nothing.
 #[derive(Clone, Copy, Debug, Drop)]
 pub struct Unwatched;
 

@@ -21,18 +21,19 @@ use Rattle.amqp_hub.specs.declared.member.Status.TheVariants as status
 use Rattle.amqp_hub.specs.Lives.{Life, ByPeer, BySelf, new_life, heard_on, starved_on, told_on, ended_on, IsToldBut, IsAlone, IsOver, IsOpen, IsNotOpen}
 use Rattle.amqp_hub.specs.Members.{MemberState, unsent_of, hear_fault, IsNew, IsHeard, IsSame, IsSent, IsFinishedSo, IsClosed}
 
--- a new endpoint of this configuration came to this by some calls
+-- some calls led a new endpoint of this configuration to this state
 pub record IsInUse (config : Configured) (s : EndpointState) : Type 0 where
   pub granted : ℕ
   pub messages : ℕ
   pub is : IsUsed config 0 0 granted messages s
 
--- Since an endpoint was at rest memory was refused to these steps, or nothing was done.
+-- Since an endpoint was at rest, memory was refused to these steps (`true`), or nothing was done (`false`).
 abbrev pub Since : Bool → Rule → EndpointState → List Step → EndpointState → Type 0
 Since false r mid steps s = (steps ≡ []) × (s ≡ mid)
 Since true r mid steps s = Interrupted r mid (Some []) (Some []) steps s (Some []) (Some [])
 
--- A new endpoint of this configuration was served these bytes by this rule, wrote and recorded these, and no answer and no unit waited then. Memory was refused since for the unit that these end, if any.
+-- A new endpoint of this configuration was served `has` by this rule, wrote `wrote` and recorded `noted`, and no answer and no unit waited then. If it is starved, memory
+-- was refused since for the unit that `untried` ends.
 pub record IsServing (r : Rule) (config : Configured) (has wrote noted untried : List ℕ) (starved : Bool) (s : EndpointState) : Type 0 where
   pub start : EndpointState
   pub mid : EndpointState
@@ -72,20 +73,20 @@ pub record IsLife (r : Rule) (config : Configured) (l : Life) (m : MemberState) 
   pub room : length m.waiting ≤ answers_room config
   pub goes : IsGoing r config l m ⊎ IsOff r config l m
 
--- the connection under a key came by this life, or there is neither
+-- the connection under a key has this life, or there is neither
 abbrev pub IsLiving : Rule → Configured → Option MemberState → Option Life → Type 0
 IsLiving r config None None = Unit {0}
 IsLiving r config (Some m) (Some l) = IsLife r config l m
 IsLiving r config None (Some l) = ⊥
 IsLiving r config (Some m) None = ⊥
 
--- each connection came by what the turns say of it
+-- each connection has the life that the turns say
 abbrev pub AreLiving : Rule → Configured → Slab MemberState → (ℕ → Option Life) → Type 0
 AreLiving r config s life = (key : ℕ) → IsLiving r config (get s key) (life key)
 
 -- That it is so. ------------------------------------------------------------------------------------------------------
 
--- A life begins, and goes on by what a call does.
+-- A life begins, and goes on with what a call does.
 pub record LifeGoesOn (r : Rule) (config : Configured) : Type 0 where
   pub starts : (m : MemberState) → IsNew config r m → IsLife r config new_life m
   pub hears : (l : Life) (a b : MemberState) (piece : List ℕ) (s : Stepped) (d : Done) (noted : List ℕ) → hear_fault a ≡ None → IsHeard a b piece s (Some []) (Some noted) → s.done ≡ Ok d → IsLife r config l a →
@@ -97,7 +98,7 @@ pub record LifeGoesOn (r : Rule) (config : Configured) : Type 0 where
   pub finishes : (l : Life) (a b : MemberState) (how : End) → IsFinishedSo a b how → IsLife r config l a → IsLife r config (ended_on l (ByPeer how)) b
   pub closes : (l : Life) (a b : MemberState) → IsClosed a b → IsLife r config l a → IsLife r config (ended_on l BySelf) b
 
--- It is what its own bytes alone give, and these say whether it is over, and whether it is open. What it holds is bounded.
+-- A life is what its own bytes alone give, and these say whether it is over, and whether it is open. What its endpoint holds is bounded.
 pub record LifeIsAlone (r : Rule) (config : Configured) : Type 0 where
   pub alone : (l : Life) (m : MemberState) → IsLife r config l m → IsAlone r config l
   pub over : (l : Life) (m : MemberState) → IsLife r config l m → l.ended ≡ None → is_dead m.endpoint.connection.phase ≡ true → IsOver r config l

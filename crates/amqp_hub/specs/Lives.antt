@@ -8,13 +8,14 @@ use Rattle.amqp_endpoint.specs.Replies.{joined}
 use Rattle.amqp_serve.specs.declared.rules.Rule.{Rule}
 use Rattle.amqp_serve.specs.Cuts.{Made, IsMade}
 
--- How it came that a connection hears nothing any more.
+-- Why a connection hears nothing any more.
 pub data Ending : Type 0 where
   ByPeer : End → Ending  -- its peer's input ended, and it stood so [2.4.6]
   BySelf : Ending  -- this side closed it [2.4.3]
 
--- Since it was opened: the bytes of its peer that were served; those that were taken since memory was refused for the unit that they end, and whether it was; all that was handed out for its peer, but for
--- heartbeats; all that was recorded; how many bytes wait for its peer; and how it ended.
+-- A connection since it was opened. `heard`: the bytes of its peer that were served. `untried`, `starved`: the bytes taken since memory was refused for the unit that
+-- they end, and whether it was. `told`: all that was handed out for its peer, except heartbeats. `noted`: all that was recorded. `due`: how many bytes wait for its peer.
+-- `ended`: how it ended.
 pub record Life : Type 0 where
   pub heard : List ℕ
   pub untried : List ℕ
@@ -33,16 +34,16 @@ last_words (Some BySelf) = joined close_call_spoken
 last_words (Some (ByPeer end)) = []
 last_words None = []
 
--- these came and were served, so much waits then for its peer, and this was recorded
+-- these bytes came and were served, this many wait then for its peer, and this was recorded
 abbrev pub heard_on : Life → List ℕ → ℕ → List ℕ → Life
 heard_on l bytes due noted =
     record { heard = l.heard ++ (l.untried ++ bytes); untried = []; starved = false; told = l.told; noted = l.noted ++ noted; due = due; ended = l.ended }
 
--- these came, and memory was refused for the unit that they end
+-- these bytes came, and memory was refused for the unit that they end
 abbrev pub starved_on : Life → List ℕ → Life
 starved_on l bytes = record { heard = l.heard; untried = l.untried ++ bytes; starved = true; told = l.told; noted = l.noted; due = l.due; ended = l.ended }
 
--- these were handed out
+-- these bytes were handed out
 abbrev pub told_on : Life → List ℕ → Life
 told_on l bytes = record { heard = l.heard; untried = l.untried; starved = l.starved; told = l.told ++ bytes; noted = l.noted; due = l.due - length bytes; ended = l.ended }
 
@@ -50,8 +51,9 @@ told_on l bytes = record { heard = l.heard; untried = l.untried; starved = l.sta
 abbrev pub ended_on : Life → Ending → Life
 ended_on l e = record { heard = l.heard; untried = l.untried; starved = l.starved; told = l.told; noted = l.noted; due = l.due + length (last_words (Some e)); ended = Some e }
 
--- It is what its own bytes alone give, but for these last bytes for its peer. Let the units of the bytes that were served, one by one by this rule, make this of a new connection: then its records are all
--- recorded, its answers are told, with the own close last where this side closed it; and if its input ended it ended as those units do.
+-- A life is what its own bytes alone give, except these last bytes for its peer. The units of the bytes that were served, one by one by this rule, make `made` of a new
+-- connection. All its records are recorded. Its answers were handed out, except these last bytes; the close comes last if this side closed it. If its input ended, it
+-- ended as those units do.
 pub record IsToldBut (r : Rule) (config : Configured) (l : Life) (rest : List ℕ) : Type 0 where
   pub made : Made
   pub end : End
@@ -60,7 +62,7 @@ pub record IsToldBut (r : Rule) (config : Configured) (l : Life) (rest : List �
   pub told : l.told ++ rest ≡ made.written ++ last_words l.ended
   pub ended : (e : End) → l.ended ≡ Some (ByPeer e) → e ≡ end
 
--- and so many last bytes wait
+-- and as many last bytes wait as the life says
 pub record IsAlone (r : Rule) (config : Configured) (l : Life) : Type 0 where
   pub rest : List ℕ
   pub is : IsToldBut r config l rest
@@ -80,7 +82,7 @@ pub record IsOpen (r : Rule) (config : Configured) (l : Life) : Type 0 where
   pub is : IsMade r config l.heard made end
   pub is_open : open_call_fault made.connection [] ≡ None
 
--- or it is not
+-- By its own bytes it is not open.
 pub record IsNotOpen (r : Rule) (config : Configured) (l : Life) : Type 0 where
   pub made : Made
   pub end : End

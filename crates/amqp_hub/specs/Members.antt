@@ -28,7 +28,7 @@ use Rattle.amqp_hub.specs.declared.member.Status.TheVariants as status
 abbrev pub answered : {A : Type 0} → Answers A → List ℕ
 answered w = w.bytes.items
 
--- its endpoint, the answers that wait for its peer, the rule by which it is served, and how it is
+-- its endpoint, the answers that wait for its peer, the rule by which it is served, and its status
 pub record MemberState : Type 0 where
   pub endpoint : EndpointState
   pub waiting : List ℕ
@@ -39,7 +39,7 @@ pub record MemberState : Type 0 where
 abbrev pub unsent_of : MemberState → List ℕ
 unsent_of m = m.waiting ++ m.endpoint.unsent
 
--- what it holds
+-- how many bytes it holds
 abbrev pub member_held : MemberState → ℕ
 member_held m = held m.endpoint + length m.waiting
 
@@ -50,7 +50,7 @@ is_ended status.Starved = false
 is_ended status.Ended = true
 is_ended status.Broken = true
 
--- how it is behind a step that came out so
+-- its status after a step with this result
 abbrev pub status_behind : Result Done ServeFault → Status
 status_behind (Ok d) = status.Serving
 status_behind (Err lost.Read) = status.Broken
@@ -65,33 +65,33 @@ pub record IsMember (s : EndpointState) (course : Course) (status : Status) : Ty
 
 -- Refusals, in their order. -------------------------------------------------------------------------------------------
 
--- to hear
+-- why it refuses to hear
 abbrev pub hear_fault : MemberState → Option HubFault
 hear_fault m = if is_ended m.status || is_dead m.endpoint.connection.phase then Some fault.Over else (if length m.waiting == 0 then None else Some fault.Unsent)
 
--- what a connection that is not open refuses
+-- the refusal of a connection that is not open
 abbrev pub not_open : Option CallFault → Option HubFault
 not_open None = None
 not_open (Some f) = Some fault.NotOpen
 
--- an empty frame
+-- why it refuses an empty frame
 abbrev pub beat_fault : MemberState → Option HubFault
 beat_fault m = if is_ended m.status then Some fault.NotOpen else (if length m.waiting == 0 then not_open (open_call_fault m.endpoint.connection []) else Some fault.Unsent)
 
--- to end
+-- why it refuses to end its input
 abbrev pub finish_fault : Status → Option HubFault
 finish_fault status.Serving = None
 finish_fault status.Starved = Some fault.Starved
 finish_fault status.Ended = Some fault.Over
 finish_fault status.Broken = Some fault.Over
 
--- to be closed
+-- why it refuses to be closed
 abbrev pub close_fault : MemberState → Option HubFault
 close_fault m = if is_ended m.status then Some fault.NotOpen else not_open (open_call_fault m.endpoint.connection [])
 
 -- What a call does. ---------------------------------------------------------------------------------------------------
 
--- it is as it was opened
+-- it was just opened
 pub record IsNew (config : Configured) (r : Rule) (m : MemberState) : Type 0 where
   pub within : IsConfigured config.container_id config.max_frame config.window
   pub begins : IsStart config m.endpoint
@@ -110,7 +110,8 @@ pub record HasHeard (old new : MemberState) (piece : List ℕ) (s : Stepped) (e 
   pub least : 8 ≤ new.endpoint.input.limit
   pub stepped : IsStepped old.rule (take s.used piece) s.told s.done old.endpoint new.endpoint e f
 
--- The same, where nothing waited for its peer, and its answers wait then.
+-- It took the first bytes of a piece, and made a step with them. Nothing waited for its peer before, and its answers
+-- wait now.
 pub record IsHeard (old new : MemberState) (piece : List ℕ) (s : Stepped) (kept keeps : Option (List ℕ)) : Type 0 where
   pub rule : new.rule ≡ old.rule
   pub status : new.status ≡ status_behind s.done
@@ -126,14 +127,14 @@ pub record IsHeard (old new : MemberState) (piece : List ℕ) (s : Stepped) (kep
   pub noted : after.sink ≡ keeps
   pub stepped : IsStepped old.rule (take s.used piece) s.told s.done old.endpoint new.endpoint before after
 
--- it is the same, but for bytes of its buffer that say nothing
+-- it is the same, except bytes of its buffer that do not count
 pub record IsSame (old new : MemberState) : Type 0 where
   pub endpoint : IsKept old.endpoint new.endpoint
   pub waiting : new.waiting ≡ old.waiting
   pub rule : new.rule ≡ old.rule
   pub status : new.status ≡ old.status
 
--- the first so many bytes that wait were sent
+-- the first `n` bytes that waited were sent
 pub record IsSent (old new : MemberState) (n : ℕ) : Type 0 where
   pub bound : n ≤ length (unsent_of old)
   pub waiting : new.waiting ≡ drop n old.waiting

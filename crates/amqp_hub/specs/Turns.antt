@@ -23,19 +23,19 @@ use Rattle.amqp_hub.specs.Lives.{Life, ByPeer, BySelf, IsOver, IsOpen, IsNotOpen
 use Rattle.amqp_hub.specs.Members.{MemberState, unsent_of, member_held, status_behind, hear_fault, beat_fault, finish_fault, close_fault, IsNew, IsHeard, IsSame, IsSent, IsFinishedSo, IsClosed}
 
 pub data Turn : Type 0 where
-  Open : Turn  -- a connection
-  Hear : ℕ → List ℕ → Turn  -- these bytes came of the peer of the connection under this key
-  Hand : ℕ → ℕ → Turn  -- so many bytes at most that wait for the peer under this key are handed out
-  Heartbeat : ℕ → Turn  -- an empty frame for it is asked for [2.4.5]
+  Open : Turn  -- a connection is opened
+  Hear : ℕ → List ℕ → Turn  -- these bytes came from the peer of the connection under this key
+  Hand : ℕ → ℕ → Turn  -- at most this many of the bytes that wait for the peer under this key are handed out
+  Heartbeat : ℕ → Turn  -- an empty frame for its peer is requested [2.4.5]
   Finish : ℕ → Turn  -- its input has ended
   Close : ℕ → Turn  -- this side closes the connection [2.4.3]
-  Remove : ℕ → Turn  -- it is removed, and its key given back
+  Remove : ℕ → Turn  -- it is removed, and its key freed
   Held : Turn  -- how many bytes all hold
   Count : Turn  -- how many are open
 
 pub data Answer : Type 0 where
   Opened : ℕ → Answer  -- under this key
-  Heard : Stepped → ℕ → List ℕ → Answer  -- this step was made, so many bytes wait then for the peer, and this is recorded
+  Heard : Stepped → ℕ → List ℕ → Answer  -- this step was made, this many bytes wait then for the peer, and this is recorded
   Handed : List ℕ → Answer
   Beat : List ℕ → Answer
   Ended : of_end.End → Answer  -- it stood so
@@ -74,7 +74,7 @@ abbrev pub went_on : (Life → Life) → Option Life → Option Life
 went_on f None = None
 went_on f (Some l) = Some (f l)
 
--- behind a step with these bytes that came out so: where serving broke off there is none any more
+-- after a step with these bytes and this result; if serving broke off, there is no life any more
 abbrev pub stepped_on : Result Done ServeFault → List ℕ → ℕ → List ℕ → Option Life → Option Life
 stepped_on (Ok d) bytes due noted life = went_on (λ l. heard_on l bytes due noted) life
 stepped_on (Err lost.NoMemory) bytes due noted life = went_on (λ l. starved_on l bytes) life
@@ -82,7 +82,7 @@ stepped_on (Err lost.Read) bytes due noted life = None
 stepped_on (Err lost.Write) bytes due noted life = None
 stepped_on (Err lost.Sink) bytes due noted life = None
 
--- the life under a key behind one turn
+-- the life under a key after one turn
 abbrev pub lived : ℕ → Turn → Answer → Option Life → Option Life
 lived key Open (Opened k) life = if nat_eq k key then Some new_life else life
 lived key (Hear k piece) (Heard s due noted) life = if nat_eq k key then stepped_on s.done (take s.used piece) due noted life else life
@@ -92,7 +92,7 @@ lived key (Close k) Closed life = if nat_eq k key then went_on (λ l. ended_on l
 lived key (Remove k) Removed life = if nat_eq k key then None else life
 lived key t a life = life
 
--- and behind these turns
+-- and after these turns
 abbrev pub life_after : ℕ → List Turn → List Answer → Option Life → Option Life
 life_after key (t ∷ turns) (a ∷ answers) life = life_after key turns answers (lived key t a life)
 life_after key turns answers life = life
@@ -106,7 +106,7 @@ open_stepped (Err lost.Read) n = n - 1
 open_stepped (Err lost.Write) n = n - 1
 open_stepped (Err lost.Sink) n = n - 1
 
--- behind one turn
+-- after one turn
 abbrev pub open_behind : Answer → ℕ → ℕ
 open_behind (Opened key) n = n + 1
 open_behind (Heard s due noted) n = open_stepped s.done n
@@ -169,7 +169,7 @@ abbrev pub RemoveRefused : HubFault → Option Life → Type 0
 RemoveRefused fault.NoKey life = life ≡ None
 RemoveRefused f life = ⊥
 
--- An open is refused where so many are open as may be, and for want of memory at any time.
+-- An open is refused if as many connections are open as may be, and for want of memory at any time.
 abbrev pub OpenRefused : ℕ → ℕ → HubFault → Type 0
 OpenRefused limit n fault.Full = limit ≤ n
 OpenRefused limit n fault.NoMemory = Unit {0}
@@ -216,7 +216,7 @@ pub record IsOpened (r : Rule) (config : Configured) (old new : Slab MemberState
   pub updates : Updates old new key (Some member)
   pub count : slab_len new ≡ slab_len old + 1
 
--- the one under a key went from this to that, and no other changed
+-- the connection under a key went from this to that, and no other changed
 pub record IsChanged (old new : Slab MemberState) (key : ℕ) (before after : MemberState) : Type 0 where
   pub was : get old key ≡ Some before
   pub updates : Updates old new key (Some after)
@@ -242,7 +242,7 @@ pub record IsHeardAt (old new : Slab MemberState) (key : ℕ) (piece : List ℕ)
   pub hears : hear_fault before ≡ None
   pub heard : IsHeard before after piece s kept keeps
 
--- it is gone behind a step in which it broke off
+-- it is gone after a step at which serving broke off
 pub record IsLostAt (old new : Slab MemberState) (key : ℕ) (piece : List ℕ) (s : Stepped) : Type 0 where
   pub gone : IsGone old new key
   pub hears : hear_fault gone.before ≡ None
@@ -254,7 +254,7 @@ HearsBy status.Starved old new key piece s kept keeps = IsHeardAt old new key pi
 HearsBy status.Ended old new key piece s kept keeps = ⊥
 HearsBy status.Broken old new key piece s kept keeps = IsLostAt old new key piece s
 
--- so many bytes wait for its peer
+-- at least this many bytes wait for its peer
 abbrev pub IsDueAt : Option MemberState → ℕ → Type 0
 IsDueAt None n = n ≡ 0
 IsDueAt (Some m) n = n ≤ length (unsent_of m)
@@ -275,7 +275,7 @@ abbrev pub SendsAt : Option MemberState → Slab MemberState → Slab MemberStat
 SendsAt None old new key n = AreSame old new
 SendsAt (Some m) old new key n = IsSentAt old new key n
 
--- and handed out, at most so many: some, where some waited
+-- the first bytes that waited were handed out: at most `room`, and some if some waited and there was room
 pub record IsHandedAt (old new : Slab MemberState) (key room : ℕ) (bytes : List ℕ) : Type 0 where
   pub count : ℕ
   pub sent : IsSentAt old new key count
@@ -284,7 +284,7 @@ pub record IsHandedAt (old new : Slab MemberState) (key room : ℕ) (bytes : Lis
   pub bound : length bytes ≤ room
   pub some : 0 < room → 0 < length (unsent_of sent.before) → 0 < length bytes
 
--- it may be sent an empty frame, and is as it was
+-- its peer may be sent an empty frame, and the connection is as it was
 pub record IsBeatAt (old new : Slab MemberState) (key : ℕ) : Type 0 where
   pub before : MemberState
   pub after : MemberState
@@ -309,7 +309,7 @@ SameSlot None None = Unit {0}
 SameSlot (Some a) (Some b) = IsSame a b
 SameSlot a b = ⊥
 
--- all are as they were, but for bytes of buffers that say nothing
+-- all are as they were, except bytes of buffers that do not count
 pub record AreAlike (old new : Slab MemberState) : Type 0 where
   pub values : (key : ℕ) → SameSlot (get old key) (get new key)
   pub count : slab_len new ≡ slab_len old
@@ -319,17 +319,18 @@ abbrev pub refusal_at : Option MemberState → (MemberState → Option HubFault)
 refusal_at None f = Some fault.NoKey
 refusal_at (Some m) f = f m
 
--- a hand is refused where there is none, or for want of memory
+-- a hand is refused if there is no connection, or for want of memory
 abbrev pub HandRefusedAt : HubFault → Option MemberState → Type 0
 HandRefusedAt fault.NoKey slot = slot ≡ None
 HandRefusedAt fault.NoMemory slot = Unit {0}
 HandRefusedAt f slot = ⊥
 
--- what all hold
+-- how many bytes all connections hold
 abbrev pub all_held : Slab MemberState → ℕ
 all_held s = sum_by (λ e. member_held e.1) (entries s)
 
--- It made a step, what it recorded is this, and so many bytes wait for its peer then; or it is gone.
+-- The connection made a step, recorded this, and this many bytes wait for its peer then. If serving broke off, it is
+-- gone.
 abbrev pub HeardSo : Status → Slab MemberState → Slab MemberState → ℕ → List ℕ → Stepped → ℕ → List ℕ → Type 0
 HeardSo status.Serving old new key piece s due noted = (x : IsHeardAt old new key piece s (Some []) (Some noted)) × (due ≡ length (unsent_of x.after))
 HeardSo status.Starved old new key piece s due noted = (x : IsHeardAt old new key piece s (Some []) (Some noted)) × (due ≡ length (unsent_of x.after))

@@ -6,21 +6,21 @@ use amqp_frame::HoldsBack;
 use std::alloc::{Allocator, Global};
 use std::io::{self, Write};
 
-/// A writer to memory. It passes nothing on, so that no record need be flushed before it is written to.
+/// A writer to memory. It passes nothing on, so no record needs to be flushed before a write to it.
 #[derive(Drop)]
 pub struct Answers<A: Allocator = Global> {
     bytes: Vec<u8, A>,
 }
 
 impl<A: Allocator> Answers<A> {
-    /// One that holds these.
+    /// Makes a writer that holds these bytes.
     pub fn new(bytes: Vec<u8, A>) -> Self
         ensures { answered result ≡ bytes.items }
     {
         Answers { bytes }
     }
 
-    /// All that it holds.
+    /// Returns all bytes that it holds.
     pub fn into_bytes(self) -> Vec<u8, A>
         ensures { result.items ≡ answered self }
     {

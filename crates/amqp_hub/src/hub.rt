@@ -1,4 +1,4 @@
-//! All connections.
+//! The hub: connections under keys.
 ghost use Rattle.std.specs.Prelude.{◌≡◌, ◌↔◌, ◌<◌, ◌^◌, ◌-◌, [], min, IsTrue, IsSome, None, Some, IfOk, IfErr, OnOk};
 ghost use Rattle.amqp_endpoint.specs.Calls.{heartbeat};
 ghost use Rattle.amqp_frame.specs.Devices.{device_inner, has_failed};
@@ -17,7 +17,7 @@ use std::alloc::{Allocator, Global};
 use std::io::Write;
 use std::marker::Model;
 
-/// Connections under keys, at most so many.
+/// Connections under keys, up to a limit.
 #[derive(Drop)]
 pub struct Hub<A: Allocator + Copy = Global> {
     members: Slab<Member<A>, A>,
@@ -34,7 +34,8 @@ impl<A: Allocator + Copy> Model for Hub<A> {
 }
 
 impl<A: Allocator + Copy> Hub<A> {
-    /// One with no connection, for so many at most. It takes memory for each as it is opened.
+    /// Makes a hub with no connection, for at most `limit`. It takes memory for each connection when that is
+    /// opened.
     pub fn new(alloc: A, limit: usize) -> Self
         ensures members { result.members.slots ≡ [] }
         ensures limit { result.limit ≡ limit }
@@ -46,33 +47,34 @@ impl<A: Allocator + Copy> Hub<A> {
         }
     }
 
-    /// How many connections are open: that were opened and not removed.
+    /// Returns how many connections are open: those that were opened and not removed.
     pub fn len(&self) -> usize
         ensures { result ≡ slab_len self.now.members }
     {
         self.members.len()
     }
 
-    /// Whether none is.
+    /// Returns whether no connection is open.
     pub fn is_empty(&self) -> bool
         ensures { IsTrue result ↔ (slab_len self.now.members ≡ 0) }
     {
         self.members.len() == 0
     }
 
-    /// Whether there is a connection under a key.
+    /// Returns whether there is a connection under a key.
     pub fn contains(&self, key: usize) -> bool
         ensures { IsTrue result ↔ IsSome (get self.now.members key) }
     {
         self.members.contains(key)
     }
 
-    /// Opens a connection, before its peer's header [2.2], and answers its key: that of none that is open. It is served by this
-    /// rule.
+    /// Opens a connection, which waits for its peer's header [2.2], and returns its key, which no other open
+    /// connection has. It is served by `rule`.
     ///
     /// # Errors
     ///
-    /// `Full` where as many are open as may be, and else `NoMemory` where memory is refused for it. No connection has changed then.
+    /// `Full` if as many connections are open as may be, else `NoMemory` if memory is refused for it. No
+    /// connection has changed then.
     pub fn open(&mut self, config: Config<A>, rule: Rule) -> Result<usize, HubFault>
         ensures limit { self.new.limit ≡ self.old.limit }
         ensures opened { IfOk result (λ key. IsOpened rule config self.old.members self.new.members key × (slab_len self.old.members < self.old.limit)) }
@@ -91,17 +93,18 @@ impl<A: Allocator + Copy> Hub<A> {
     }
 
     /// Takes a piece of what the peer under a key sent, up to the end of one unit at most, and serves it as
-    /// [`amqp_serve::serve_piece`] does. The answers wait for the peer, and records go to the sink, which is not flushed: the host flushes it before
-    /// it sends what waits, so that no answer is sent before the record that it answers. The rest of the piece is for the next call,
-    /// once nothing waits. No other connection changes.
+    /// [`amqp_serve::serve_piece`] does. The answers wait for the peer, and records go to the sink, which is not
+    /// flushed. The host flushes it before it sends what waits, so that no answer is sent before the record that
+    /// it answers. The rest of the piece is for the next call, once nothing waits. No other connection changes.
     ///
-    /// Where the step came to `NoMemory` the unit waits, and the next call, also one of no bytes, tries it again. Where it came to
-    /// `Sink`, or to `Write`, since memory was refused for an answer, the connection is removed: it has no key any more.
+    /// If the step results in `NoMemory`, the unit waits, and the next call, also one of no bytes, tries it again.
+    /// If it results in `Sink`, or in `Write` since memory was refused for an answer, the connection is removed:
+    /// it has no key any more.
     ///
     /// # Errors
     ///
-    /// The first of `NoKey`; `Over` where the connection is over, its input has ended, or this side has closed it; and `Unsent` where
-    /// bytes wait for its peer.
+    /// The first that holds of `NoKey`; `Over` if the connection is over, its input has ended, or this side has
+    /// closed it; and `Unsent` if bytes wait for its peer. No connection has changed then.
     pub fn hear<S: Write + Drop>(
         &mut self,
         key: usize,
@@ -122,7 +125,8 @@ impl<A: Allocator + Copy> Hub<A> {
         Ok(stepped)
     }
 
-    /// The same, but where serving it breaks off it stands there broken.
+    /// Takes a piece of what the peer under a key sent, and serves it. If serving breaks off, the connection keeps
+    /// its key, and is broken.
     fn hear_there<S: Write + Drop>(
         &mut self,
         key: usize,
@@ -145,8 +149,8 @@ impl<A: Allocator + Copy> Hub<A> {
         Ok(member.hear(alloc, piece, sink))
     }
 
-    /// The first bytes that wait for the peer under a key, as many as lie in one piece: some, where some wait, and none where there
-    /// is no connection.
+    /// Returns the first bytes that wait for the peer under a key, as many as lie in one piece. If any wait, it
+    /// returns some; if there is no connection, it returns none.
     pub fn unsent_front(&self, key: usize) -> &[u8]
         ensures { IsFrontAt (get self.now.members key) result.now }
     {
@@ -156,7 +160,7 @@ impl<A: Allocator + Copy> Hub<A> {
         member.unsent_front()
     }
 
-    /// Drops the first `n` bytes that wait for the peer under a key, which were sent. No other connection changes.
+    /// Drops the first `n` bytes that wait for the peer under a key: they were sent. No other connection changes.
     pub fn sent(&mut self, key: usize, n: usize)
         requires { IsDueAt (get self.old.members key) n }
         ensures limit { self.new.limit ≡ self.old.limit }
@@ -168,13 +172,15 @@ impl<A: Allocator + Copy> Hub<A> {
         member.sent(n);
     }
 
-    /// The eight bytes of an empty frame for the peer under a key [2.4.5], to be sent before anything else: it tells that this side is
-    /// there. They stand between two frames, since nothing waits. No other connection changes.
+    /// Returns the eight bytes of an empty frame for the peer under a key [2.4.5], which tells it that this side
+    /// is there. Send them before anything else. They come between two frames, since nothing waits. No other
+    /// connection changes.
     ///
     /// # Errors
     ///
-    /// The first of `NoKey`; `NotOpen` where its input has ended or this side has closed it; `Unsent` where bytes wait for its peer,
-    /// which tell as much; and `NotOpen` where its peer's open has not come, or it is over.
+    /// `NoKey`; or `NotOpen` if its input has ended or this side has closed it; or `Unsent` if bytes wait for its
+    /// peer, which tell it as much. Else `NotOpen` if its peer's open has not come, or it is over. The first that
+    /// holds is named, and no connection has changed then.
     pub fn heartbeat(&mut self, key: usize) -> Result<[u8; 8], HubFault>
         ensures limit { self.new.limit ≡ self.old.limit }
         ensures beat { IfOk result (λ frame. IsBeatAt self.old.members self.new.members key × (frame ≡ heartbeat)) }
@@ -186,13 +192,14 @@ impl<A: Allocator + Copy> Hub<A> {
         member.heartbeat()
     }
 
-    /// The input of the connection under a key has ended. Answers how it stood [2.4.6], as `Endpoint::finish` does. It hears nothing
-    /// any more, and stays for what waits for its peer. No other connection changes.
+    /// Ends the input of the connection under a key, and returns how it stood [2.4.6], as `Endpoint::finish` does.
+    /// It hears nothing any more, and stays for what waits for its peer. No other connection changes.
     ///
     /// # Errors
     ///
-    /// The first of `NoKey`; `Over` where it has ended before, or this side has closed it; and `Starved` where a unit waits for which
-    /// memory was refused: a piece of no bytes tries it again.
+    /// `NoKey`; or `Over` if its input has ended before, or this side has closed it; or `Starved` if a unit waits
+    /// for which memory was refused. A piece of no bytes tries that again. The first that holds is named, and no
+    /// connection has changed then.
     pub fn finish(&mut self, key: usize) -> Result<End, HubFault>
         ensures limit { self.new.limit ≡ self.old.limit }
         ensures ended { IfOk result (λ how. IsEndedAt self.old.members self.new.members key how) }
@@ -204,13 +211,13 @@ impl<A: Allocator + Copy> Hub<A> {
         member.finish()
     }
 
-    /// Closes the connection under a key [2.4.3]: its close waits behind what waits for its peer. It hears nothing any more, and stays
-    /// for what waits. No other connection changes.
+    /// Closes the connection under a key [2.4.3]: its close follows what waits for its peer. It hears nothing any
+    /// more, and stays for what waits. No other connection changes.
     ///
     /// # Errors
     ///
-    /// The first of `NoKey`; and `NotOpen` where its peer's open has not come, it is over, its input has ended, or this side has
-    /// closed it: then there is no close to be sent.
+    /// The first that holds of `NoKey`; and `NotOpen` if its peer's open has not come, it is over, its input has
+    /// ended, or this side has closed it: then there is no close to send. No connection has changed then.
     pub fn close(&mut self, key: usize) -> Result<(), HubFault>
         ensures limit { self.new.limit ≡ self.old.limit }
         ensures closed { OnOk result (IsClosedAt self.old.members self.new.members key) }
@@ -222,12 +229,12 @@ impl<A: Allocator + Copy> Hub<A> {
         member.close()
     }
 
-    /// Removes the connection under a key, with what waits for its peer, and gives back the key, which another may have then.
-    /// No other connection changes.
+    /// Removes the connection under a key, with what waits for its peer, and frees the key, which another may then
+    /// get. No other connection changes.
     ///
     /// # Errors
     ///
-    /// `NoKey`.
+    /// `NoKey` if there is no connection under it.
     pub fn remove(&mut self, key: usize) -> Result<(), HubFault>
         ensures limit { self.new.limit ≡ self.old.limit }
         ensures gone { OnOk result (IsGone self.old.members self.new.members key) }
@@ -239,7 +246,8 @@ impl<A: Allocator + Copy> Hub<A> {
         Ok(())
     }
 
-    /// The bytes that all hold: those of each endpoint, and the answers that wait. It goes over all of them.
+    /// Returns how many bytes all connections hold, or `u64::MAX` if more: those of each endpoint, and the answers
+    /// that wait. It visits every connection.
     pub fn held(&self) -> u64
         ensures { result ≡ min (all_held self.now.members) (2 ^ 64 - 1) }
     {
@@ -250,7 +258,7 @@ impl<A: Allocator + Copy> Hub<A> {
         sum
     }
 
-    /// Makes one turn.
+    /// Makes one turn, and returns its answer. A connection that it opens has these settings and this rule.
     pub fn make(&mut self, config: &Config<A>, rule: Rule, turn: &Turn<'_>) -> TurnAnswer<A>
         ensures limit { self.new.limit ≡ self.old.limit }
         ensures done { TurnDone rule config.now self.old.limit self.old.members self.new.members (turn_of turn.now) (answer_of result) }
@@ -268,7 +276,7 @@ impl<A: Allocator + Copy> Hub<A> {
         }
     }
 
-    /// Opens a connection of a copy of these settings.
+    /// Opens a connection with a copy of these settings.
     fn open_one(&mut self, config: &Config<A>, rule: Rule) -> TurnAnswer<A>
         ensures limit { self.new.limit ≡ self.old.limit }
         ensures done { TurnDone rule config.now self.old.limit self.old.members self.new.members turn.Open (answer_of result) }
@@ -282,7 +290,7 @@ impl<A: Allocator + Copy> Hub<A> {
         }
     }
 
-    /// Hears a piece, with its records to memory.
+    /// Hears a piece, and writes its records to memory.
     fn hear_one(
         &mut self,
         config: &Config<A>,
@@ -304,7 +312,7 @@ impl<A: Allocator + Copy> Hub<A> {
         }
     }
 
-    /// Hands bytes out.
+    /// Hands out at most `room` of the bytes that wait.
     fn hand_one(&mut self, config: &Config<A>, rule: Rule, key: usize, room: usize) -> TurnAnswer<A>
         ensures limit { self.new.limit ≡ self.old.limit }
         ensures done { TurnDone rule config.now self.old.limit self.old.members self.new.members (turn.Hand key room) (answer_of result) }
@@ -321,7 +329,7 @@ impl<A: Allocator + Copy> Hub<A> {
         TurnAnswer::Handed(bytes)
     }
 
-    /// Asks for an empty frame.
+    /// Requests an empty frame.
     fn beat_one(&mut self, config: &Config<A>, rule: Rule, key: usize) -> TurnAnswer<A>
         ensures limit { self.new.limit ≡ self.old.limit }
         ensures done { TurnDone rule config.now self.old.limit self.old.members self.new.members (turn.Heartbeat key) (answer_of result) }

@@ -18,7 +18,7 @@ use amqp_serve::step_laws::{
     steps_follow_the_units, what_is_made_is_one,
 };
 
-/// A connection's life goes on by each call for it.
+/// A connection's life goes on with each call for it.
 pub fn lives_go_on()
     ensures { (r : Rule) (config : Configured) → LifeGoesOn r config }
 {
@@ -31,7 +31,8 @@ pub fn lives_go_on()
     a_step_is_answered_within();
 }
 
-/// What a connection of a hub told and recorded is what its own bytes alone give.
+/// What was handed out for the peer of a connection, and recorded of it, is what its own bytes alone give. They
+/// also say whether it is over and whether it is open. What its endpoint holds is bounded.
 pub fn lives_are_alone()
     ensures { (r : Rule) (config : Configured) → LifeIsAlone r config }
 {
@@ -39,8 +40,9 @@ pub fn lives_are_alone()
     steps_follow_the_units();
 }
 
-/// So it is what `serve` tells and records of a reader that has these bytes, however it cuts them, but for the last bytes,
-/// which wait for the peer, and for a close of this side. Where its input has ended it ended so.
+/// What was handed out for the peer of a connection, and recorded of it, is what `serve` writes and records over
+/// the same bytes, however its reader cuts them. Only the last bytes, which wait for the peer, and a close of this
+/// side differ. If the connection's input has ended, it ended as `serve` does.
 pub fn alone_is_as_served()
     ensures { (p : Policy) (config : Configured) (l : Life) (end : End) (ended : Bool) (old new : EndpointState) (held now kept keeps : Option (List ℕ)) → IsConfigured config.container_id config.max_frame config.window → IsAlone (rule_of p) config l → IsStart config old → (y : IsServed p end l.heard ended old new held now kept keeps) → (l.noted ≡ recorded y.steps) × ((rest : List ℕ) × (l.told ++ rest ≡ moved y.steps ++ last_words l.ended) × (length rest ≡ l.due)) × ((e : End) → l.ended ≡ Some (ByPeer e) → e ≡ end) }
 {

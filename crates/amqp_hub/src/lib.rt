@@ -1,13 +1,14 @@
 //! Many connections, served in turn by one thread: no sockets, no clock.
 //!
-//! A [`Hub`] keeps an endpoint under a key for each connection. Its host brings what came of each peer by [`Hub::hear`], one unit
-//! at most a call, and writes what waits for each by [`Hub::unsent_front`] and [`Hub::sent`]. Nothing is heard of a peer for which
-//! bytes wait, so that one that does not read holds up itself alone, and what waits for it is bounded. Behind the end of its peer's
-//! input ([`Hub::finish`]), or once this side closed it ([`Hub::close`]), a connection hears nothing any more; its last bytes are
-//! handed out, and [`Hub::remove`] gives back its key.
+//! A [`Hub`] keeps an endpoint under a key for each connection. Its host brings what came from each peer by
+//! [`Hub::hear`], at most one unit a call. It writes what waits for each peer by [`Hub::unsent_front`] and
+//! [`Hub::sent`]. Nothing is heard from a peer while bytes wait for it. So a peer that does not read holds up
+//! itself alone, and what waits for it is bounded. After the end of its input ([`Hub::finish`]), or a close by
+//! this side ([`Hub::close`]), a connection hears nothing any more. Its last bytes are handed out, and
+//! [`Hub::remove`] frees its key.
 //!
-//! `specs/Lives.antt` has what a connection is told and what is recorded of it by its own bytes alone, and [`hub_replay`] the theorem
-//! over all lists of turns.
+//! Begin reading at [`Hub`]. `specs/Lives.antt` has what a connection's own bytes alone give. [`hub_replay`] has
+//! the theorem over all lists of turns.
 #![tactic(auto)]
 
 mod answers;

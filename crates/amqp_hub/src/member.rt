@@ -20,7 +20,7 @@ use std::mem;
 pub enum Status {
     /// It hears what comes.
     Serving,
-    /// The same; memory was refused for the unit that waits, which the next piece tries again.
+    /// It hears what comes. Memory was refused for the unit that waits; the next piece tries it again.
     Starved,
     /// It hears nothing any more: its input has ended, or this side has closed it.
     Ended,
@@ -28,7 +28,7 @@ pub enum Status {
     Broken,
 }
 
-/// A connection that is served in turn with others: an endpoint that was new, the answers that wait for its peer, and the rule
+/// A connection that is served in turn with others: its endpoint, the answers that wait for its peer, and the rule
 /// by which it is served.
 #[derive(Drop)]
 pub struct Member<A: Allocator + Copy = Global> {
@@ -49,7 +49,7 @@ impl<A: Allocator + Copy> Model for Member<A> {
 }
 
 impl<A: Allocator + Copy> Member<A> {
-    /// A connection before its peer's header [2.2].
+    /// Makes a connection that waits for its peer's header [2.2]. Returns `AllocError` if memory is refused.
     pub fn new(alloc: A, config: Config<A>, rule: Rule) -> Result<Self, AllocError>
         ensures { IfOk result (λ m. IsNew config rule m) }
     {
@@ -67,7 +67,7 @@ impl<A: Allocator + Copy> Member<A> {
         })
     }
 
-    /// Whether it hears nothing any more, whatever its peer sends.
+    /// Returns whether it hears nothing any more, whatever its peer sends.
     fn is_ended(&self) -> bool
         ensures { result ≡ is_ended self.now.status }
     {
@@ -77,7 +77,7 @@ impl<A: Allocator + Copy> Member<A> {
         }
     }
 
-    /// Why it takes no bytes of its peer, if it takes none.
+    /// Returns why it takes no bytes of its peer, `Over` or `Unsent`, or `None` if it takes them.
     pub fn hear_fault(&self) -> Option<HubFault>
         ensures { result ≡ hear_fault self.now }
     {
@@ -91,8 +91,8 @@ impl<A: Allocator + Copy> Member<A> {
         }
     }
 
-    /// Takes bytes of its peer, up to the end of a unit, and serves them. The answers wait, and the records go to the sink. Where
-    /// the sink fails, or memory for answers is refused, it is broken.
+    /// Takes bytes of its peer, up to the end of one unit, and serves them. The answers wait, and the records go
+    /// to the sink. If the sink fails, or memory for answers is refused, it is broken.
     pub fn hear<S: Write + Drop>(&mut self, alloc: A, piece: &[u8], sink: &mut Device<S>) -> Stepped
         requires hears { hear_fault self.old ≡ None }
         requires sink { ¬ (IsTrue (has_failed sink.old)) }
@@ -105,7 +105,8 @@ impl<A: Allocator + Copy> Member<A> {
         stepped
     }
 
-    /// The same, but the answers go to the writer.
+    /// Takes bytes of its peer, up to the end of one unit, and serves them. The answers go to the writer, and the
+    /// records to the sink.
     fn hear_to<W: Write + HoldsBack + Drop, S: Write + Drop>(
         &mut self,
         piece: &[u8],
@@ -123,7 +124,8 @@ impl<A: Allocator + Copy> Member<A> {
         stepped
     }
 
-    /// An empty frame for its peer [2.4.5], where nothing waits before it.
+    /// Returns an empty frame for its peer [2.4.5], if nothing waits before it. The errors are, in this order:
+    /// `NotOpen` if it hears nothing any more, `Unsent` if bytes wait, and `NotOpen` if it is not open.
     pub fn heartbeat(&mut self) -> Result<[u8; 8], HubFault>
         ensures fault { IfErr result (λ f. beat_fault self.old ≡ Some f) }
         ensures beat { IfOk result (λ frame. (frame ≡ heartbeat) × (beat_fault self.old ≡ None)) }
@@ -143,7 +145,8 @@ impl<A: Allocator + Copy> Member<A> {
         Ok(frame)
     }
 
-    /// The input of its peer has ended: how it stood [2.4.6]. It hears nothing any more.
+    /// Ends the input of its peer, and returns how it stood [2.4.6]. It hears nothing any more. Returns `Starved`
+    /// if a unit waits for memory, and `Over` if it heard nothing any more before.
     pub fn finish(&mut self) -> Result<End, HubFault>
         ensures fault { IfErr result (λ f. (finish_fault self.old.status ≡ Some f) × (self.new ≡ self.old)) }
         ensures ended { IfOk result (λ end. IsFinishedSo self.old self.new end) }
@@ -158,7 +161,8 @@ impl<A: Allocator + Copy> Member<A> {
         Ok(self.endpoint.finish())
     }
 
-    /// Closes it [2.4.3]: its close waits behind what waits for its peer, and it hears nothing any more.
+    /// Closes it [2.4.3]: its close follows what waits for its peer, and it hears nothing any more. Returns
+    /// `NotOpen` if it is not open, or heard nothing any more before.
     pub fn close(&mut self) -> Result<(), HubFault>
         ensures fault { IfErr result (λ f. (close_fault self.old ≡ Some f) × IsSame self.old self.new) }
         ensures closed { OnOk result (IsClosed self.old self.new) }
@@ -171,7 +175,7 @@ impl<A: Allocator + Copy> Member<A> {
         Ok(())
     }
 
-    /// The first bytes that wait for its peer, as many as lie in one piece: some, where some wait.
+    /// Returns the first bytes that wait for its peer, as many as lie in one piece. If any wait, it returns some.
     pub fn unsent_front(&self) -> &[u8]
         ensures front { (behind : List ℕ) × (unsent_of self.now ≡ result.now ++ behind) }
         ensures some { 0 < length (unsent_of self.now) → 0 < length result.now }
@@ -184,7 +188,7 @@ impl<A: Allocator + Copy> Member<A> {
         }
     }
 
-    /// Drops the first `n` bytes that wait for its peer, which were sent.
+    /// Drops the first `n` bytes that wait for its peer: they were sent.
     pub fn sent(&mut self, n: usize)
         requires { n ≤ length (unsent_of self.old) }
         ensures { IsSent self.old self.new n }
@@ -195,7 +199,8 @@ impl<A: Allocator + Copy> Member<A> {
         self.endpoint.sent(n - count);
     }
 
-    /// The bytes that it holds: those of its endpoint, and the answers that wait for its peer.
+    /// Returns how many bytes it holds, or `u64::MAX` if more: those of its endpoint, and the answers that wait
+    /// for its peer.
     pub fn held(&self) -> u64
         ensures { result ≡ min (member_held self.now) (2 ^ 64 - 1) }
     {
@@ -205,7 +210,7 @@ impl<A: Allocator + Copy> Member<A> {
     }
 }
 
-/// How a connection is behind a step that came out so.
+/// Returns the status of a connection after a step with this result.
 pub fn status_behind(done: Result<Done, ServeFault>) -> Status
     ensures { result ≡ status_behind done }
 {

@@ -1,4 +1,4 @@
-//! A list of turns.
+//! Running a list of turns.
 ghost use Rattle.std.specs.Prelude.{◌≡◌, ℕ, map, take, None, Some, IfOk};
 ghost use Rattle.amqp_hub.specs.Lives.{Life, IsAlone};
 ghost use Rattle.amqp_hub.specs.Turns.{turn_of, answer_of, life_after, AllFit};
@@ -10,11 +10,15 @@ use amqp_endpoint::Config;
 use amqp_serve::Rule;
 use std::alloc::{AllocError, Allocator};
 
-/// Makes these turns on a new hub, in order, and gives their answers. Behind each of them what was recorded of each connection, what
-/// was handed out for its peer, how much waits, and how it ended is what its own bytes alone give, whatever the turns of other keys
-/// were (`alone`). And each answer fits what the turns before it say: a connection hears, ends, is closed and refused as its own bytes
-/// say, a heartbeat is an empty frame between two others, and no more is held, whenever that is asked, than for each connection that
-/// is open what an endpoint of these settings holds and the answers to one unit (`fits`).
+/// Makes these turns on a new hub, in order, and returns their answers. Returns `AllocError` if memory for the
+/// answers is refused.
+///
+/// After each turn, what was recorded of each connection, what was handed out for its peer, how much waits, and
+/// how it ended is what its own bytes alone give. The turns of other keys do not matter (`alone`).
+///
+/// Each answer fits what the turns before it say (`fits`). A connection hears, ends, is closed and refused as its
+/// own bytes say. A heartbeat is an empty frame between two others. The bytes held, whenever requested, are at
+/// most what an endpoint of these settings holds and the answers to one unit, for each open connection.
 pub fn hub_replay<A: Allocator + Copy>(
     alloc: A,
     config: &Config<A>,

@@ -7,52 +7,52 @@ use std::alloc::{Allocator, Global};
 /// One turn of a hub.
 #[derive(Clone, Copy, Debug)]
 pub enum Turn<'a> {
-    /// A connection is opened.
+    /// Opens a connection.
     Open,
-    /// These bytes came of the peer of the connection under this key.
+    /// These bytes came from the peer of the connection under this key.
     Hear { key: usize, piece: &'a [u8] },
-    /// So many bytes at most that wait for this peer are handed out.
+    /// Hands out at most `room` of the bytes that wait for this peer.
     Hand { key: usize, room: usize },
-    /// An empty frame for this peer is asked for [2.4.5].
+    /// Requests an empty frame for this peer [2.4.5].
     Heartbeat { key: usize },
     /// The input of the connection under this key has ended.
     Finish { key: usize },
-    /// The connection under this key is closed by this side [2.4.3].
+    /// Closes the connection under this key [2.4.3].
     Close { key: usize },
-    /// The connection under this key is removed, and its key given back.
+    /// Removes the connection under this key, and frees the key.
     Remove { key: usize },
-    /// How many bytes all connections hold.
+    /// Requests how many bytes all connections hold.
     Held,
-    /// How many connections are open.
+    /// Requests how many connections are open.
     Count,
 }
 
 /// The answer to a [`Turn`].
 #[derive(Drop)]
 pub enum TurnAnswer<A: Allocator + Copy = Global> {
-    /// It has this key.
+    /// The new connection has this key.
     Opened(usize),
-    /// A step was made with what came, so many bytes wait for the peer then, and this is to be recorded. Where it broke off the
-    /// connection is removed.
+    /// A step was made with what came. `due` bytes wait for the peer then, and `noted` is to be recorded. If
+    /// serving broke off, the connection is removed.
     Heard {
         stepped: Stepped,
         due: usize,
         noted: Vec<u8, A>,
     },
-    /// These are for the peer.
+    /// These bytes are for the peer.
     Handed(Vec<u8, A>),
-    /// These too, before all that waits later.
+    /// These bytes are for the peer, before all that waits later.
     Beat([u8; 8]),
-    /// It stood so.
+    /// The input has ended, and the connection stood so.
     Ended(End),
-    /// Its close waits for its peer.
+    /// The close waits for the peer.
     Closed,
-    /// It is removed.
+    /// The connection is removed.
     Removed,
-    /// They hold so many.
+    /// All connections hold this many bytes.
     Holds(u64),
-    /// So many are.
+    /// This many connections are open.
     Counts(usize),
-    /// Nothing has changed.
+    /// The turn is refused for this reason, and nothing has changed.
     Refused(HubFault),
 }

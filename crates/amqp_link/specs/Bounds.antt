@@ -1,12 +1,13 @@
--- What a link may keep, whatever its sender does.
+-- What a link may hold, whatever its sender does.
 use Rattle.std.specs.Prelude.{ℕ, ◌^◌, ◌≤◌}
 
--- so many deliveries, credit and open ones together, and so many bytes in a message
+-- how many deliveries are allowed, credit and open ones together, and how many
+-- bytes a message may have
 pub record Bounds : Type 0 where
   pub allowed : ℕ
   pub max_message_size : ℕ
 
--- the bounds that can be asked for
+-- the bounds that can be requested
 pub record IsBounded (allowed max_message_size : ℕ) : Type 0 where
   pub some_allowed : 1 ≤ allowed
   pub most_allowed : allowed ≤ 1024

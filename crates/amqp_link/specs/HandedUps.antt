@@ -3,7 +3,7 @@ use Rattle.std.specs.Prelude.{◌≡◌}
 use Rattle.amqp_link.specs.declared.link.Taken.{Taken}
 use Rattle.amqp_link.specs.Links.{Delivery}
 
--- this was handed up of a delivery
+-- `taken` is what was handed up of a delivery
 pub record IsHandedUp {A : Type 0} (taken : Taken A) (d : Delivery) : Type 0 where
   pub delivery_id : taken.delivery_id ≡ d.delivery_id
   pub delivery_tag : taken.delivery_tag ≡ d.delivery_tag

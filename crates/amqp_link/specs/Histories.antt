@@ -1,5 +1,5 @@
--- The history of one link: a list of its events, newest first, and what stands in it, by sums and selections over the whole list, in numbers without a limit
--- (AMQP 1.0, part 2, sections 2.6.7 to 2.6.14).
+-- The history of one link: a list of its events, newest first. The link's state follows from it by sums and selections over the whole list, in numbers without a limit (AMQP 1.0, part 2, sections
+-- 2.6.7 to 2.6.14).
 use Rattle.std.specs.Prelude.{◌≡◌, ℕ, suc, ◌+◌, ◌-◌, ◌%◌, ◌^◌, ◌≤◌, Bool, true, false, not, ◌&&◌, ◌||◌, if◌then◌else◌, nat_eq, List, [], ◌∷◌, ◌++◌, length, take, drop, map, filter, find, flat_map}
 use Rattle.std.specs.Prelude.{sum_by, Option, Some, None, option_map, unwrap_or}
 use Rattle.std.specs.List.{list_any, AllByRecursion}
@@ -16,12 +16,12 @@ granted_by e = 0
 abbrev pub grants : List LinkEvent → ℕ
 grants h = sum_by granted_by h
 
--- these, and behind them the one that an event adds, if it does
+-- these, followed by the one that an event adds, if it adds one
 abbrev pub followed_by : {A : Type 0} → List A → Option A → List A
 followed_by xs None = xs
 followed_by xs (Some x) = xs ++ x ∷ []
 
--- the transfer that an event is
+-- the transfer that an event is, if it is one
 abbrev pub transfer_of : LinkEvent → Option Sent
 transfer_of (Transferred t) = Some t
 transfer_of e = None
@@ -31,7 +31,7 @@ abbrev pub transfers : List LinkEvent → List Sent
 transfers [] = []
 transfers (e ∷ h) = followed_by (transfers h) (transfer_of e)
 
--- the delivery that an event hands up
+-- the delivery that an event hands up, if it hands up one
 abbrev pub handed_up_by : LinkEvent → Option Delivery
 handed_up_by (HandedUp d) = Some d
 handed_up_by e = None
@@ -43,11 +43,11 @@ handed_up (e ∷ h) = followed_by (handed_up h) (handed_up_by e)
 
 -- Credit and count. -----------------------------------------------------------------------------------------
 
--- 1 where it is so
+-- 1 if it is so, else 0
 abbrev pub one_if : Bool → ℕ
 one_if b = if b then 1 else 0
 
--- How many of these transfers are heads, where `starts` says whether the first one is: a transfer is a head where there is none before it on the link, or the one before it ends its delivery. [2.6.14]
+-- How many of these transfers are heads, where `starts` says whether the first one is. A transfer is a head if there is none before it on the link, or the one before it ends its delivery. [2.6.14]
 abbrev pub heads_from : Bool → List Sent → ℕ
 heads_from starts [] = 0
 heads_from starts (t ∷ ts) = one_if starts + heads_from (not (goes_on t)) ts
@@ -56,15 +56,15 @@ heads_from starts (t ∷ ts) = one_if starts + heads_from (not (goes_on t)) ts
 abbrev pub heads : List LinkEvent → ℕ
 heads h = heads_from true (transfers h)
 
--- credit: all grants, but what heads and advances used [2.6.7]
+-- the credit: all grants, less what heads and advances used [2.6.7]
 abbrev pub credit_of : List LinkEvent → ℕ → ℕ
 credit_of h advances = grants h - (heads h + advances)
 
--- delivery-count: the first one, and what heads and advances added, round the end at 2^32 [2.6.7]
+-- the delivery-count: the initial one plus heads and advances, modulo 2^32 [2.6.7]
 abbrev pub delivery_count_of : Terms → List LinkEvent → ℕ → ℕ
 delivery_count_of terms h advances = (terms.initial_delivery_count + heads h + advances) % 2 ^ 32
 
--- how far flows moved the count ahead of the heads, all in all [2.6.7]
+-- how far flows moved the count ahead of the heads, in total [2.6.7]
 abbrev pub advances : Terms → List LinkEvent → ℕ
 advances terms [] = 0
 advances terms (FlowStated stated ∷ h) = advances terms h + advance_by (delivery_count_of terms h (advances terms h)) (credit_of h (advances terms h)) stated
@@ -96,18 +96,18 @@ draining terms (e ∷ h) = if asks_to_drain e then true else (if ends_draining t
 
 -- Deliveries. -----------------------------------------------------------------------------------------------
 
--- The transfers of one delivery, the head and those behind it. Deliveries of a link are numbered from 0 on.
+-- The transfers of one delivery: the head and those after it. Deliveries of a link are numbered from 0 on.
 pub record Group : Type 0 where
   pub number : ℕ
   pub head : Sent
   pub behind : List Sent
 
--- one transfer more in front of these, which doesn't end its delivery
+-- one more transfer before these, which doesn't end its delivery
 abbrev pub joined : ℕ → Sent → List Group → List Group
 joined number t [] = record { number = number; head = t; behind = [] } ∷ []
 joined number t (g ∷ gs) = record { number = number; head = t; behind = g.head ∷ g.behind } ∷ gs
 
--- The deliveries that these transfers make, the first with this number: they are cut behind each transfer that ends one. [2.6.14]
+-- The deliveries that these transfers make, numbered from `number` on: the list is cut after each transfer that ends a delivery. [2.6.14]
 abbrev pub groups_from : ℕ → List Sent → List Group
 groups_from number [] = []
 groups_from number (t ∷ ts) = if goes_on t then joined number t (groups_from number ts) else record { number = number; head = t; behind = [] } ∷ groups_from (suc number) ts
@@ -120,12 +120,12 @@ groups h = groups_from 0 (transfers h)
 abbrev pub all_of : Group → List Sent
 all_of g = g.head ∷ g.behind
 
--- the one that came last
+-- the transfer that came last
 abbrev pub last_of : Sent → List Sent → Sent
 last_of t [] = t
 last_of t (u ∷ us) = last_of u us
 
--- of a delivery
+-- the last transfer of a delivery
 abbrev pub latest : Group → Sent
 latest g = last_of g.head g.behind
 
@@ -157,13 +157,13 @@ takes h = length (handed_up h)
 abbrev pub handed_up_groups : List LinkEvent → List Group
 handed_up_groups h = take (takes h) (wholes h)
 
--- those that are ready to be: the other whole ones
+-- the deliveries that are ready to be handed up: the other whole ones
 abbrev pub ready_groups : List LinkEvent → List Group
 ready_groups h = drop (takes h) (wholes h)
 
 -- Settlement [2.6.12]. ----------------------------------------------------------------------------------------
 
--- among these is the delivery with this number
+-- the delivery with this number is among these
 abbrev pub has_number : List Group → ℕ → Bool
 has_number gs number = list_any (λ g. nat_eq g.number number) gs
 
@@ -187,8 +187,8 @@ id_of g = unwrap_or g.head.delivery_id 0
 abbrev pub passes : (Group → Bool) → ℕ → List LinkEvent → Bool
 passes test number h = list_any (λ g. nat_eq g.number number && test g) (groups h)
 
--- An event other than a transfer settles the delivery with this number, where `settled` says whether one before it did: while it is open a disposition of the
--- sender covers its id, or the receiver, to which it was handed up, settles it in mode first.
+-- An event other than a transfer settles the delivery with this number, where `settled` says whether an earlier one did. That is so while the delivery is open, if a disposition of the sender covers
+-- its id, or if it was handed up and the receiver settles it in mode first.
 abbrev pub settles_at : Terms → List LinkEvent → Bool → ℕ → LinkEvent → Bool
 settles_at terms h settled number (ReceiverSettled first last) = passes (λ g. is_handed_up h g && is_open_if h settled g && is_first (mode_at terms g.head) && covers first last (id_of g)) number h
 settles_at terms h settled number (SenderSettled first last) = passes (λ g. is_open_if h settled g && covers first last (id_of g)) number h
@@ -199,7 +199,8 @@ abbrev pub settled_later : Terms → List LinkEvent → ℕ → Bool
 settled_later terms [] number = false
 settled_later terms (e ∷ h) number = settles_at terms h (settled_later terms h number) number e || settled_later terms h number
 
--- An event tells the sender what became of the delivery with this number, which is in mode second, was handed up and is open, where `settled` says whether something other than a transfer settled it.
+-- An event tells the sender what became of the delivery with this number, where `settled` says whether something other than a transfer settled it. The delivery is in mode second, was handed up and is
+-- open.
 abbrev pub tells_at : Terms → List LinkEvent → Bool → ℕ → LinkEvent → Bool
 tells_at terms h settled number (ReceiverSettled first last) = passes (λ g. is_handed_up h g && is_open_if h settled g && not (is_first (mode_at terms g.head)) && covers first last (id_of g)) number h
 tells_at terms h settled number e = false
@@ -235,19 +236,19 @@ shown terms h g = record {
   message = message_of g;
 }
 
--- of a delivery that was handed up no message is kept
+-- the delivery as it awaits settlement: once it is handed up its message is not held
 abbrev pub shown_awaiting : Terms → List LinkEvent → Group → Delivery
 shown_awaiting terms h g = record (shown terms h g) { message = [] }
 
--- what is kept of a delivery while it is open
+-- what is held of a delivery while it is open
 abbrev pub kept : Terms → List LinkEvent → Group → Delivery
 kept terms h g = record (shown terms h g) { message = if is_handed_up h g then [] else message_of g }
 
--- the bytes that count as kept of it: 64 for itself, its tag, and its message unless that was handed up
+-- the bytes held for it: 64 for itself, its tag, and its message unless that was handed up
 abbrev pub kept_bytes : List LinkEvent → Group → ℕ
 kept_bytes h g = 64 + length (unwrap_or g.head.delivery_tag []) + (if is_handed_up h g then 0 else length (message_of g))
 
--- the link that a history leaves
+-- the link that a history results in
 abbrev pub state_of : Terms → List LinkEvent → LinkState
 state_of terms h = record {
   terms = terms;
@@ -259,28 +260,28 @@ state_of terms h = record {
   unfinished = option_map (shown terms h) (find is_unfinished (groups h));
 }
 
--- What the takes gave, in order: each the first of the whole deliveries that were not handed up before it, as the history up to it shows it, settled or not.
+-- What the takes handed up, in order. Each is the first of the whole deliveries that were not handed up before, as the history up to then shows it, settled or not.
 abbrev pub given : Terms → List LinkEvent → List Delivery
 given terms [] = []
 given terms (HandedUp d ∷ h) = given terms h ++ take 1 (map (shown terms h) (ready_groups h))
 given terms (e ∷ h) = given terms h
 
--- what of a delivery never changes once it is whole
+-- the part of a delivery that never changes once it is whole
 pub record Content : Type 0 where
   pub delivery_id : ℕ
   pub delivery_tag : List ℕ
   pub message_format : ℕ
   pub message : List ℕ
 
--- that of a delivery in hand
+-- the content of a delivery of the state
 abbrev pub content_of : Delivery → Content
 content_of d = record { delivery_id = d.delivery_id; delivery_tag = d.delivery_tag; message_format = d.message_format; message = d.message }
 
--- and of one in the history
+-- the content of a delivery of the history
 abbrev pub content : Group → Content
 content g = record { delivery_id = id_of g; delivery_tag = unwrap_or g.head.delivery_tag []; message_format = unwrap_or g.head.message_format 0; message = message_of g }
 
--- What holds of every history of accepted events.
+-- What holds for every history of accepted events.
 pub record Sound (terms : Terms) (h : List LinkEvent) : Type 0 where
   -- no more credit was used than granted
   pub spent : heads h + advances terms h ≤ grants h
@@ -288,7 +289,7 @@ pub record Sound (terms : Terms) (h : List LinkEvent) : Type 0 where
   pub begun : length (groups h) ≡ heads h
   -- what was handed up is the beginning of the whole deliveries, in order, each once
   pub front : map content_of (handed_up h) ≡ map content (handed_up_groups h)
-  -- each of them as it stood when it was handed up
+  -- each of them as it was when it was handed up
   pub stood : handed_up h ≡ given terms h
   -- no more was handed up than came whole
   pub came : takes h ≤ length (wholes h)
@@ -304,7 +305,7 @@ abbrev pub after_all : Terms → List LinkEvent → LinkState
 after_all terms [] = link_begins terms
 after_all terms (e ∷ h) = link_after (after_all terms h) e
 
--- each of them was accepted
+-- each event was accepted
 abbrev pub Accepted : Terms → List LinkEvent → Type 0
 Accepted terms [] = Unit {0}
 Accepted terms (e ∷ h) = Accepted terms h × LinkMay (after_all terms h) e

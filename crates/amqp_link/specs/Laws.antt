@@ -1,4 +1,4 @@
--- What the laws of a link speak of, beside its states and its history.
+-- What the laws of a link use, besides its states and its history.
 use Rattle.std.specs.Prelude.{◌≡◌, ℕ, ◌+◌, Bool, false, ◌&&◌, List, [], ◌∷◌, ◌++◌, map, is_none}
 use Rattle.std.specs.List.{count_by}
 use Rattle.amqp_link.specs.declared.terms.Terms.{Terms}
@@ -9,7 +9,7 @@ use Rattle.amqp_link.specs.Histories.{one_if, ends_draining, Group, id_of, is_op
 abbrev pub id_count : ℕ → LinkState → ℕ
 id_count id s = count_by (has_id id) (deliveries s)
 
--- how many deliveries with this id an event begins: a transfer begins one where none is unfinished [2.6.14]
+-- how many deliveries with this id an event begins: a transfer begins one if none is unfinished [2.6.14]
 abbrev pub begun_with : ℕ → LinkState → LinkEvent → ℕ
 begun_with id s (Transferred t) = one_if (is_none s.unfinished && has_id id (begun s.terms t))
 begun_with id s e = 0
@@ -23,16 +23,16 @@ abbrev pub settle_each : List ℕ → LinkState → LinkState
 settle_each [] s = s
 settle_each (id ∷ ids) s = settle_each ids (link_after s (SenderSettled id id))
 
--- how many open deliveries that settles, all in all
+-- how many open deliveries that settles in total
 abbrev pub settled_each : List ℕ → LinkState → ℕ
 settled_each [] s = 0
 settled_each (id ∷ ids) s = newly_settled id id (open_set s) + settled_each ids (link_after s (SenderSettled id id))
 
--- a settle of the receiver over these ids speaks of the delivery: it is open, was handed up, and has one of the ids
+-- a settle of these ids by the receiver names the delivery: it is open, was handed up, and has one of the ids
 abbrev pub is_named_by : Terms → List LinkEvent → ℕ → ℕ → Group → Bool
 is_named_by terms h first last g = is_open terms h g && is_handed_up h g && covers first last (id_of g)
 
--- none of the later events, the newest first, ended what was asked before them
+-- none of the later events, the newest first, ended what was requested before them
 abbrev pub NoneEnds : Terms → List LinkEvent → List LinkEvent → Type 0
 NoneEnds terms [] before = Unit {0}
 NoneEnds terms (e ∷ later) before = (ends_draining terms (later ++ before) e ≡ false) × NoneEnds terms later before

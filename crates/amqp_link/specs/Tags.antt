@@ -1,10 +1,12 @@
--- A tag in place: its bytes, and then zeros.
+-- A tag in an array of fixed size: its bytes, and then
+-- zeros.
 use Rattle.std.specs.Prelude.{◌≡◌, ℕ, ◌-◌, ◌≤◌, List, ◌++◌, length, take, drop, replicate}
 use Rattle.std.proofs.Common.{refl}
 use Rattle.std.proofs.lemmas.List.{take-append-drop, length-take-le}
 use Rattle.amqp_link.specs.declared.tag.Tag.TheInside.{Inside}
 
--- so many bytes are the tag's, and the others are zeros
+-- the first `len` bytes are the tag's, and the others are
+-- zeros
 pub record IsPadded (bytes : List ℕ) (len : ℕ) : Type 0 where
   pub whole : length bytes ≡ 32
   pub within : len ≤ 32
@@ -14,7 +16,7 @@ pub record IsPadded (bytes : List ℕ) (len : ℕ) : Type 0 where
 abbrev pub padded : List ℕ → List ℕ
 padded tag = tag ++ replicate (32 - length tag) 0
 
--- a tag gives its fields back
+-- a tag's fields can be computed from its bytes
 pub same_again : (a : Inside) → IsPadded a.bytes a.len → record { bytes = padded (take a.len a.bytes); len = length (take a.len a.bytes) } ≡ a
 same_again a h =
     let long : a.len ≤ length a.bytes = rw h.whole h.within in

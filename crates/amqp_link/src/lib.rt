@@ -1,11 +1,11 @@
-//! One link that receives: its credit, its deliveries, how their messages come together, and how the deliveries
+//! One link that receives: its credit, its deliveries, how their messages are joined, and how the deliveries
 //! are settled [2.6.7, 2.6.12, 2.6.14].
 //!
-//! [`Link::attach`], then as they come [`Link::grant`], [`Link::drain`], [`Link::transfer`] and
-//! [`Link::sender_count`]; [`Link::take`] hands a whole delivery up, and [`Link::settle`] or
-//! [`Link::peer_settled`] settles it. `specs/Links.antt` has the state and what each event does to it,
-//! `specs/Histories.antt` what a whole history gives, and [`laws`] that both agree.
-//! The tests stand in `test_layer_rows`.
+//! Begin with `link.rt`. [`Link::attach`] makes a link. [`Link::grant`] and [`Link::drain`] are the receiver's
+//! calls; [`Link::transfer`] and [`Link::sender_count`] take what the sender sends. [`Link::take`] hands up a
+//! whole delivery, and [`Link::settle`] or [`Link::peer_settled`] settles it. `specs/Links.antt` has the state
+//! and what each event does to it, `specs/Histories.antt` what a whole history results in, and [`laws`] says
+//! that both agree. The tests are in `test_layer_rows`.
 #![tactic(auto)]
 
 pub mod laws;

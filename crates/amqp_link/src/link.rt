@@ -19,7 +19,7 @@ use amqp_serial::Serial;
 use std::alloc::{AllocError, Allocator, Global};
 use std::marker::Model;
 
-/// More credit was asked for than the link allows.
+/// More credit was requested than the link allows.
 #[derive(Clone, Copy, Debug, PartialEq, Eq)]
 pub struct TooMuchCredit;
 
@@ -38,8 +38,8 @@ pub struct Taken<A: Allocator + Copy = Global> {
     pub message: Message<A>,
 }
 
-/// A live link from a sender: its credit, and its deliveries until they are both handed up and
-/// settled [2.6.7, 2.6.12].
+/// A live link from a sender: its credit, and its deliveries until they are both handed up and settled, or
+/// given up [2.6.7, 2.6.12].
 #[derive(Drop)]
 pub struct Link<A: Allocator + Copy = Global> {
     terms: Terms,
@@ -62,7 +62,7 @@ impl<A: Allocator + Copy> Model for Link<A> {
 }
 
 impl<A: Allocator + Copy> Link<A> {
-    /// A link at its attach [2.6.3]. Takes no memory.
+    /// Makes a link as it is at its attach, with no credit [2.6.3]. Takes no memory.
     pub fn attach(alloc: A, terms: Terms) -> Self
         ensures { result ≡ link_begins terms }
     {
@@ -77,64 +77,64 @@ impl<A: Allocator + Copy> Link<A> {
         }
     }
 
-    /// How many deliveries and how long messages it allows.
+    /// Returns how many deliveries the link allows, and how long a message may be.
     pub fn bounds(&self) -> LinkBounds
         ensures { result ≡ self.now.terms.bounds }
     {
         self.terms.bounds
     }
 
-    /// The credit that is left [2.6.7].
+    /// Returns the credit that is left [2.6.7].
     pub fn credit(&self) -> u32
         ensures { result ≡ self.now.credit }
     {
         self.credit
     }
 
-    /// The delivery-count [2.6.7].
+    /// Returns the delivery-count [2.6.7].
     pub fn delivery_count(&self) -> u32
         ensures { result ≡ self.now.delivery_count }
     {
         self.delivery_count
     }
 
-    /// Whether the sender was asked to use its credit up, and since then no credit was granted and no flow of
-    /// it left none [2.6.7].
+    /// Returns whether the sender was asked to use its credit up, and since then there was no grant and no flow
+    /// of the sender that left no credit [2.6.7].
     pub fn is_draining(&self) -> bool
         ensures { result ≡ self.now.draining }
     {
         self.draining
     }
 
-    /// Whether the next transfer begins a delivery.
+    /// Returns whether the next transfer begins a delivery.
     pub fn next_is_head(&self) -> bool
         ensures { result ≡ is_none self.now.unfinished }
     {
         !self.deliveries.has_unfinished()
     }
 
-    /// The delivery-id of the delivery whose last transfer has not come.
+    /// Returns the delivery-id of the delivery whose last transfer has not come; `None` if there is none.
     pub fn unfinished_id(&self) -> Option<u32>
         ensures { result ≡ option_map (λ d. d.delivery_id) self.now.unfinished }
     {
         self.deliveries.unfinished_id()
     }
 
-    /// The delivery-ids of its open deliveries, in the order in which these began [2.6.12].
+    /// Returns the delivery-ids of the open deliveries, in the order in which these began [2.6.12].
     pub fn open_ids(&self) -> OpenIds<'_, A>
         ensures { result ≡ map (λ d. d.delivery_id) (deliveries self.now) }
     {
         self.deliveries.ids()
     }
 
-    /// How many deliveries are open: neither given up nor both handed up and settled [2.6.12].
+    /// Returns how many deliveries are open: neither given up nor both handed up and settled [2.6.12].
     pub fn opened(&self) -> u32
         ensures { result ≡ open_count self.now }
     {
         self.deliveries.len() as u32
     }
 
-    /// How many are ready to be handed up: no more than the link allows.
+    /// Returns how many deliveries are ready to be handed up: at most as many as the link allows.
     pub fn ready(&self) -> u32
         ensures value { result ≡ length self.now.ready }
         ensures most { result ≤ self.now.terms.bounds.allowed }
@@ -142,22 +142,22 @@ impl<A: Allocator + Copy> Link<A> {
         self.deliveries.ready() as u32
     }
 
-    /// How much credit can be granted: what is allowed, without the credit and the open deliveries.
+    /// Returns how much credit can be granted: what is allowed, less the credit and the open deliveries.
     pub fn room(&self) -> u32
         ensures { self.now.credit + open_count self.now + result ≡ self.now.terms.bounds.allowed }
     {
         self.terms.bounds.allowed() - self.credit - self.opened()
     }
 
-    /// Whether an open delivery has this id [2.6.12].
+    /// Returns whether an open delivery has this id [2.6.12].
     pub fn has_open(&self, id: u32) -> bool
         ensures { result ≡ list_any (has_id id) (deliveries self.now) }
     {
         self.deliveries.has_id(id)
     }
 
-    /// The bytes that count as kept: for each open delivery 64, its tag, and what is held of its
-    /// message. All fields are named, so that a new one is listed here.
+    /// Returns the bytes held: for each open delivery 64, its tag, and the part of its message that is held.
+    /// The pattern names all fields, so that a new one must be listed here.
     pub fn held(&self) -> u64
         ensures value { result ≡ link_bytes self.now }
         ensures most { result ≤ self.now.terms.bounds.allowed * (self.now.terms.bounds.max_message_size + 96) }
@@ -172,17 +172,19 @@ impl<A: Allocator + Copy> Link<A> {
         deliveries.bytes()
     }
 
-    /// Asks the sender to use its credit up [2.6.7], also where it has none. The flow that says so is the
-    /// caller's to write.
+    /// Asks the sender to use its credit up [2.6.7], even if it has none. The caller has to write the flow that
+    /// says so.
     pub fn drain(&mut self)
         ensures { self.new ≡ link_after self.old DrainAsked }
     {
         self.draining = true;
     }
 
-    /// Grants `n` places of credit; the sender is then no longer asked to use its credit up, where `n` is 0
-    /// too [2.6.7]. The flow that says so is the caller's to write. Refused, with nothing changed, where credit
-    /// and open deliveries would be more than the link allows.
+    /// Grants `n` places of credit. Even if `n` is 0, the sender is then no longer asked to use its credit up
+    /// [2.6.7]. The caller has to write the flow that says so.
+    ///
+    /// It is an error if credit and open deliveries would be more than the link allows. Then nothing has
+    /// changed.
     pub fn grant(&mut self, n: u32) -> Result<(), TooMuchCredit>
         ensures may { OnOk result (LinkMay self.old (Granted n)) }
         ensures new { OnOk result (self.new ≡ link_after self.old (Granted n)) }
@@ -197,10 +199,12 @@ impl<A: Allocator + Copy> Link<A> {
         Ok(())
     }
 
-    /// Follows the delivery-count that a flow of the sender states [2.6.7], and answers whether the
-    /// sender has used its credit up as it was asked to, which it then is no longer. A count that is
-    /// ahead by more than the credit is refused, with nothing changed; one that is behind says nothing.
-    /// For a flow that states none, pass the known one (`laws::absent_count_is_the_known_one`).
+    /// Follows the delivery-count that a flow of the sender states [2.6.7]. Returns whether the sender has used
+    /// its credit up as it was asked to. If so, it is no longer asked to.
+    ///
+    /// A count that is ahead by more than the credit is refused with `TransferLimit`, and nothing has changed.
+    /// A count that is behind changes no count and no credit. For a flow that states none, pass the known count
+    /// (`laws::absent_count_is_the_known_one`).
     pub fn sender_count(&mut self, stated: u32) -> Result<bool, LinkFault>
         ensures may { OnOk result (LinkMay self.old (FlowStated (Some stated))) }
         ensures new { OnOk result (self.new ≡ link_after self.old (FlowStated (Some stated))) }
@@ -223,9 +227,9 @@ impl<A: Allocator + Copy> Link<A> {
         Ok(drained)
     }
 
-    /// Hands up the first ready delivery, in the order in which they began; `None` where none is. Unless its
+    /// Hands up the first ready delivery, in the order in which they began; `None` if none is ready. Unless its
     /// sender has settled it, it stays open until it is settled. Takes no memory.
-    // For `telemetry` and `gateway` (docs/PERF.md).
+    // Inlined for `telemetry` and `gateway` (docs/PERF.md).
     #[inline(always)]
     pub fn take(&mut self) -> Option<Taken<A>>
         ensures none { IfNone result ((first_ready self.old ≡ None) × (self.new ≡ self.old)) }
@@ -234,17 +238,17 @@ impl<A: Allocator + Copy> Link<A> {
         self.deliveries.take()
     }
 
-    /// How the delivery with this id stands, as to its settlement by the receiver. No other open delivery has
-    /// the id: that is the business of the session [2.6.12].
+    /// Returns how the delivery with this id stands as to its settlement by the receiver. The session sees to
+    /// it that no other open delivery has the id [2.6.12].
     pub fn standing(&self, id: u32) -> Standing
         ensures { result ≡ standing_of id (open_set self.now) }
     {
         self.deliveries.standing(id)
     }
 
-    /// Why the receiver can't settle the ids from `first` to `last`: `NotTaken` where an open delivery with
-    /// one of them was not handed up, else `AlreadyTold` where the sender was told of one. `None` where it
-    /// can, also where no open delivery has any of the ids.
+    /// Returns why the receiver can't settle the ids from `first` to `last`; `None` if it can, even if no open
+    /// delivery has any of them. It is `NotTaken` if an open delivery with one of the ids was not handed up,
+    /// else `AlreadyTold` if the sender was told of one.
     pub fn settle_fault(&self, first: u32, last: u32) -> Option<SettleFault>
         ensures { result ≡ settle_fault first last (open_set self.now) }
     {
@@ -258,10 +262,12 @@ impl<A: Allocator + Copy> Link<A> {
         }
     }
 
-    /// The receiver settles the ids from `first` to `last` [2.6.12, 2.8.3]: a delivery in mode first is open
-    /// no longer; of one in mode second the sender is told, who settles it. Answers how many open deliveries
-    /// have one of the ids. The disposition that says so is the caller's to write. Refused, with nothing
-    /// changed, where [`Link::settle_fault`] says why. Takes no memory.
+    /// Settles the ids from `first` to `last` for the receiver [2.6.12, 2.8.3], and returns how many open
+    /// deliveries have one of them. A delivery in mode first is open no longer. Of one in mode second the
+    /// sender is told, and then settles it. The caller has to write the disposition that says so. Takes no
+    /// memory.
+    ///
+    /// It is an error if [`Link::settle_fault`] finds one. Then nothing has changed.
     pub fn settle(&mut self, first: u32, last: u32) -> Result<u32, SettleFault>
         ensures may { OnOk result (LinkMay self.old (ReceiverSettled first last)) }
         ensures new { OnOk result (self.new ≡ link_after self.old (ReceiverSettled first last)) }
@@ -275,7 +281,8 @@ impl<A: Allocator + Copy> Link<A> {
         }
     }
 
-    /// [`Link::settle`] of ids in which [`Link::settle_fault`] finds none.
+    /// Settles the ids from `first` to `last` as [`Link::settle`] does, if [`Link::settle_fault`] finds no
+    /// fault in them. Returns how many open deliveries have one of them.
     pub fn settle_faultless(&mut self, first: u32, last: u32) -> u32
         requires { settle_fault first last (open_set self.old) ≡ None }
         ensures may { LinkMay self.old (ReceiverSettled first last) }
@@ -285,9 +292,9 @@ impl<A: Allocator + Copy> Link<A> {
         self.deliveries.settle_by_receiver(Ids { first, last }) as u32
     }
 
-    /// The sender settles the ids from `first` to `last` [2.6.12, 2.7.6], also those of deliveries that were
-    /// not handed up, which stay open until they are. For a disposition without last, pass the first twice.
-    /// Answers how many open deliveries it settles that were not settled. Takes no memory.
+    /// Settles the ids from `first` to `last` for the sender [2.6.12, 2.7.6]. Deliveries that were not handed
+    /// up are settled too, and stay open until they are handed up. For a disposition without last, pass the
+    /// first twice. Returns how many open deliveries it settles that were not settled. Takes no memory.
     pub fn peer_settled(&mut self, first: u32, last: u32) -> u32
         ensures new { self.new ≡ link_after self.old (SenderSettled first last) }
         ensures count { result ≡ newly_settled first last (open_set self.old) }
@@ -296,16 +303,16 @@ impl<A: Allocator + Copy> Link<A> {
         self.deliveries.settle_by_sender(Ids { first, last }) as u32
     }
 
-    /// The key under which the next delivery is kept, if one begins now.
+    /// Returns the key under which the next delivery is stored, if one begins now.
     ///
-    /// A key is no more than a hint. A call that is given one looks there first, and then for the id; so it does
-    /// the same under every key, and walks over no other delivery under that of the one with the id.
+    /// A key is only a hint. A call that is given one looks there first, and then searches for the id. So the
+    /// call does the same under every key, and under the delivery's own it looks at no other delivery.
     pub fn next_key(&self) -> usize {
         self.deliveries.next_key()
     }
 
-    /// [`Link::standing`] of the delivery with this id, which may be kept under this key. No other open delivery
-    /// of the link has the id.
+    /// Returns how the delivery with this id stands, looking under this key first. At most one open delivery of
+    /// the link may have the id. See [`Link::standing`].
     pub fn standing_at(&self, key: usize, id: u32) -> Standing
         requires { IsOnce id id (open_set self.now) }
         ensures { result ≡ standing_of id (open_set self.now) }
@@ -313,9 +320,10 @@ impl<A: Allocator + Copy> Link<A> {
         self.deliveries.standing_at(key, id)
     }
 
-    /// [`Link::settle`] of the delivery with this id, which may be kept under this key, if it awaits that: it can then be
-    /// settled, and no other open delivery of the link has the id. Else nothing changes. Answers how it stood.
-    // For `telemetry` and `gateway` (docs/PERF.md).
+    /// Settles the delivery with this id for the receiver if it awaits that, looking under this key first.
+    /// Returns how the delivery stood. If it did not await a settle, nothing has changed. At most one open
+    /// delivery of the link may have the id. See [`Link::settle`].
+    // Inlined for `telemetry` and `gateway` (docs/PERF.md).
     #[inline(always)]
     pub fn settle_at(&mut self, key: usize, id: u32) -> Standing
         requires once { IsOnce id id (open_set self.old) }
@@ -328,8 +336,9 @@ impl<A: Allocator + Copy> Link<A> {
         self.deliveries.settle_at(key, id)
     }
 
-    /// [`Link::peer_settled`] of the delivery with this id, which may be kept under this key. No other open
-    /// delivery of the link has the id.
+    /// Settles the delivery with this id for the sender, looking under this key first. At most one open
+    /// delivery of the link may have the id. Returns how many it settles that were not settled: 1 or 0. See
+    /// [`Link::peer_settled`].
     pub fn peer_settled_at(&mut self, key: usize, id: u32) -> u32
         requires { IsOnce id id (open_set self.old) }
         ensures new { self.new ≡ link_after self.old (SenderSettled id id) }
@@ -339,13 +348,16 @@ impl<A: Allocator + Copy> Link<A> {
         self.deliveries.peer_settled_at(key, id) as u32
     }
 
-    /// Takes a transfer and its payload [2.6.14]. A refused one changes nothing. The faults are looked
-    /// for in this order: `NotImplemented` where it resumes a delivery; `InvalidField` where a first
-    /// transfer has no id or tag, a tag above 32 bytes, or asks for mode second on a link of mode first
-    /// without being settled, and where a later one states another id, tag or format; `TransferLimit`
-    /// where a delivery begins without credit; `MessageSize` where the message would be too long.
-    /// `NoMemory` is answered only where none of these holds, and never for an aborted transfer, nor for
-    /// a later one without payload.
+    /// Takes a transfer and its payload [2.6.14]. If it is refused, nothing has changed. The first fault is
+    /// returned, in this order:
+    ///
+    /// - `NotImplemented`: the transfer resumes a delivery.
+    /// - `InvalidField`: a first transfer has no id or tag, has a tag above 32 bytes, or requests mode second on a
+    ///   link of mode first without being settled. Or a later transfer states another id, tag or format.
+    /// - `TransferLimit`: a delivery begins without credit.
+    /// - `MessageSize`: the message would be longer than the link allows.
+    /// - `NoMemory`: memory was refused. It comes neither for an aborted transfer nor for a later one without
+    ///   payload.
     pub fn transfer(&mut self, transfer: &Transfer<'_>, payload: &[u8]) -> Result<Step, LinkFault>
         ensures may { OnOk result (LinkMay self.old (Transferred (sent_of transfer.now payload.now))) }
         ensures new { OnOk result (self.new ≡ link_after self.old (Transferred (sent_of transfer.now payload.now))) }
@@ -359,8 +371,8 @@ impl<A: Allocator + Copy> Link<A> {
         self.transfer_judged(transfer, payload)
     }
 
-    /// [`Link::transfer`] of a transfer in which [`Link::judge`] finds no fault now, and which is not judged again. Nothing
-    /// is then refused but for want of memory.
+    /// Takes a transfer in which [`Link::judge`] finds no fault now, without judging it again. The only
+    /// possible error is `NoMemory`. See [`Link::transfer`].
     pub fn transfer_judged(
         &mut self,
         transfer: &Transfer<'_>,
@@ -382,8 +394,8 @@ impl<A: Allocator + Copy> Link<A> {
         Ok(step)
     }
 
-    /// The fault with which [`Link::transfer`] would refuse a transfer and its payload now, but for want of memory;
-    /// `None` where it would find none. Takes no memory.
+    /// Returns the fault with which [`Link::transfer`] would refuse a transfer and its payload now; `None` if
+    /// it would find none. It never returns `NoMemory`. Takes no memory.
     pub fn judge(&self, transfer: &Transfer<'_>, payload: &[u8]) -> Option<LinkFault>
         ensures { result ≡ fault_of self.now (sent_of transfer.now payload.now) }
     {
@@ -396,10 +408,12 @@ impl<A: Allocator + Copy> Link<A> {
         }
     }
 
-    /// What a transfer and its payload come to now [2.6.14], but for want of memory, where `known` says whether an open
-    /// delivery of the session has the id that the transfer states: none begins under that [2.6.12]. It is refused by the
-    /// first fault in the order of [`Link::transfer`]; a known id is one of the malformed fields. Where a delivery is unfinished
-    /// `known` makes no difference. Takes no memory.
+    /// Returns what a transfer and its payload result in now [2.6.14], if memory is not refused. Takes no
+    /// memory.
+    ///
+    /// `known` says whether an open delivery of the session has the id that the transfer states: no delivery
+    /// may begin under such an id [2.6.12]. The fault is the first in the order of [`Link::transfer`]; a known
+    /// id is an `InvalidField`. If a delivery is unfinished, `known` makes no difference.
     pub fn verdict(&self, known: bool, transfer: &Transfer<'_>, payload: &[u8]) -> Verdict
         ensures { IsVerdict known self.now (sent_of transfer.now payload.now) result }
     {
@@ -412,7 +426,7 @@ impl<A: Allocator + Copy> Link<A> {
         }
     }
 
-    /// [`Link::verdict`] of one that begins a delivery.
+    /// Returns the verdict on a transfer that begins a delivery. See [`Link::verdict`].
     fn verdict_of_head(&self, known: bool, transfer: &Transfer<'_>, payload: &[u8]) -> Verdict
         requires none { self.now.unfinished ≡ None }
         requires anew { IsFalse transfer.now.resume }
@@ -433,7 +447,8 @@ impl<A: Allocator + Copy> Link<A> {
         Verdict::Begins(self.deliveries.next_key())
     }
 
-    /// [`Link::verdict`] of one that belongs to this delivery, which is unfinished.
+    /// Returns the verdict on a transfer that belongs to this delivery, which is unfinished. See
+    /// [`Link::verdict`].
     fn verdict_of_part(
         &self,
         delivery: &OpenDelivery<A>,
@@ -457,8 +472,8 @@ impl<A: Allocator + Copy> Link<A> {
         Verdict::GoesOn
     }
 
-    /// Drops the link with its open deliveries, and answers how many were ready and not handed up. The link's
-    /// life has ended: its history takes no further event.
+    /// Drops the link with its open deliveries, and returns how many were ready and not handed up. The link's
+    /// history then takes no further event.
     pub fn drop_all(self) -> u32
         ensures { result ≡ length self.ready }
     {
@@ -466,8 +481,8 @@ impl<A: Allocator + Copy> Link<A> {
     }
 }
 
-/// Puts an accepted transfer to its delivery.
-// For `telemetry` and `gateway` (docs/PERF.md).
+/// Applies an accepted transfer to its delivery. If memory is refused, nothing has changed.
+// Inlined for `telemetry` and `gateway` (docs/PERF.md).
 #[inline(always)]
 fn apply<A: Allocator + Copy>(
     deliveries: &mut OpenDeliveries<A>,
@@ -497,7 +512,7 @@ fn apply<A: Allocator + Copy>(
     Ok(Step::Ready)
 }
 
-/// Whether a transfer is well formed as the first of a delivery.
+/// Returns whether a transfer is well formed as the first of a delivery.
 fn is_formed_head(terms: &Terms, transfer: &Transfer<'_>) -> bool
     ensures { result ≡ spec.is_formed_head terms.now (sent_of transfer.now []) }
 {
@@ -511,7 +526,7 @@ fn is_formed_head(terms: &Terms, transfer: &Transfer<'_>) -> bool
     transfer.delivery_id.is_some() && tagged && mode
 }
 
-/// Whether a transfer is well formed as a later one of this delivery.
+/// Returns whether a transfer is well formed as a later one of this delivery.
 fn is_formed_continuation<A: Allocator + Copy>(
     delivery: &OpenDelivery<A>,
     transfer: &Transfer<'_>,
@@ -533,7 +548,7 @@ fn is_formed_continuation<A: Allocator + Copy>(
     id && tag && format
 }
 
-/// Whether `a + b` is above `most`.
+/// Returns whether `a + b` is above `most`.
 fn is_above(a: usize, b: usize, most: u32) -> bool
     ensures { result ≡ nat_lt most (a + b) }
 {

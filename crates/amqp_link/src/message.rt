@@ -1,4 +1,4 @@
-//! A message: while it comes, and once it was handed up.
+//! A message, while it comes and after it was handed up.
 ghost use Rattle.std.specs.Prelude.{◌≡◌, ◌<◌, ◌^◌, ◌++◌, ℕ, List, length, drop, IfOk, IsErr, IsOk, OnOk, OnErr, IsTrue, ◌↔◌, [], false, ◌≤◌, ◌+◌, ◌-◌, ◌%◌, take};
 ghost use Rattle.std.specs.Io.KnownBytes.{Appends};
 ghost use Rattle.amqp_frame.specs.Devices.{device_inner, has_failed, has_ended, is_flushed, reads_left, AppendsFront};
@@ -11,27 +11,29 @@ use std::io::{self, Write};
 use std::marker::Model;
 use std::mem;
 
-/// So many bytes fit into memory at most.
+/// The most bytes that fit into memory.
 const MOST: usize = usize::MAX / 2;
 
-/// The bytes of a piece that is whole.
+/// The size of a whole piece, in bytes.
 const PIECE: usize = 4096;
 
-/// The bytes of a message, joined from the payloads of its transfers [2.6.14]. They lie in pieces of 4,096, but for the
-/// last one. What a payload brings beyond the last piece lies in one block, piece behind piece, so that memory is asked
-/// for once; a message that is no longer than a piece lies in one block, which has few bytes of room.
+/// The bytes of a message, joined from the payloads of its transfers [2.6.14].
+///
+/// They are stored in pieces of 4,096 bytes; only the last piece may be shorter. What a payload brings beyond
+/// the last piece is stored in one block, piece after piece, so that memory is requested once. A message no
+/// longer than a piece is stored in one block, with little spare room.
 #[derive(Drop)]
 pub struct Message<A: Allocator + Copy = Global> {
     len: usize,
-    /// All blocks but the last one, whose last piece needn't be whole.
+    /// All blocks but the last one. Only the last one may end with a piece that isn't whole.
     whole: Vec<Block<A>, A>,
     last: Vec<u8, A>,
 }
 
-/// A block that another one stands behind: some whole pieces.
+/// A block that another one follows: one or more whole pieces.
 #[derive(Drop)]
 struct Block<A: Allocator + Copy> {
-    /// So many bytes of the message are before its end, its own among them.
+    /// How many bytes of the message lie before the end of this block, with its own.
     end: usize,
     bytes: Vec<u8, A>,
 }
@@ -48,7 +50,7 @@ impl<A: Allocator + Copy> Model for Message<A> {
 }
 
 impl<A: Allocator + Copy> Message<A> {
-    /// No bytes yet.
+    /// Returns an empty message.
     pub(crate) fn new(alloc: A) -> Self
         ensures { result ≡ [] }
     {
@@ -59,7 +61,7 @@ impl<A: Allocator + Copy> Message<A> {
         }
     }
 
-    /// These bytes.
+    /// Makes a message of these bytes. It is an error if memory is refused.
     pub(crate) fn of(alloc: A, bytes: &[u8]) -> Result<Self, AllocError>
         ensures { IfOk result (λ message. message ≡ bytes.now) }
     {
@@ -76,14 +78,14 @@ impl<A: Allocator + Copy> Message<A> {
         })
     }
 
-    /// How many bytes it has.
+    /// Returns the length of the message, in bytes.
     pub fn len(&self) -> usize
         ensures { result ≡ length self.now }
     {
         self.len
     }
 
-    /// How many bytes it has, which are fewer than 2^63: a sum with others fits.
+    /// Returns the length of the message, in bytes. It is below 2^63, so that a sum with others fits.
     pub(crate) fn size(&self) -> u64
         ensures value { result ≡ length self.now }
         ensures most { result < 2 ^ 63 }
@@ -91,15 +93,15 @@ impl<A: Allocator + Copy> Message<A> {
         self.len as u64
     }
 
-    /// Whether it has none.
+    /// Returns whether the message is empty.
     pub fn is_empty(&self) -> bool
         ensures { IsTrue result ↔ (self.now ≡ []) }
     {
         self.len == 0
     }
 
-    /// A payload more. All the memory that it needs is taken before anything changes: a new block, the list of blocks,
-    /// the last piece.
+    /// Appends a payload. All memory is taken before anything changes: for a new block, the list of blocks, and
+    /// the last piece. If memory is refused, nothing has changed. An empty payload needs none.
     pub(crate) fn extend(&mut self, payload: &[u8]) -> Result<(), AllocError>
         ensures ok { OnOk result (self.new ≡ self.old ++ payload.now) }
         ensures err { OnErr result (self.new ≡ self.old) }
@@ -126,7 +128,8 @@ impl<A: Allocator + Copy> Message<A> {
         Ok(())
     }
 
-    /// Its bytes from `at` on, as many as lie in one piece: some, before its end, and none from there on.
+    /// Returns the message's bytes from `at` on, as many as lie in one piece. There is at least one if `at` is
+    /// before the end, else none.
     pub fn piece(&self, at: usize) -> &[u8]
         ensures front { (behind : List ℕ) × (drop at self.now ≡ result.now ++ behind) }
         ensures some { at < length self.now → 0 < length result.now }
@@ -137,7 +140,7 @@ impl<A: Allocator + Copy> Message<A> {
         }
     }
 
-    /// Its bytes in a new vector; an error where memory for it is refused.
+    /// Returns the message's bytes in a new vector. It is an error if memory is refused.
     pub fn to_vec<B: Allocator>(&self, alloc: B) -> Result<Vec<u8, B>, AllocError>
         ensures { IfOk result (λ v. v.items ≡ self.now) }
     {
@@ -149,8 +152,10 @@ impl<A: Allocator + Copy> Message<A> {
         Ok(bytes)
     }
 
-    /// Writes its bytes. It is an error where the writer is marked, and that is where a write of it failed, was
-    /// interrupted, or took none of some bytes; the writer is asked no more, and what was written is a front of them.
+    /// Writes the message's bytes to the device.
+    ///
+    /// It is an error exactly if the device is then marked as failed: a write failed, was interrupted, or took
+    /// no byte. The writer is then not called again, and what was written is a beginning of the message.
     pub fn write_to<W: Write>(&self, writer: &mut Device<W>) -> io::Result<()>
         ensures marked { IsErr result ↔ IsTrue (has_failed writer.new) }
         ensures ok { OnOk result (Appends (W.contents (device_inner writer.old)) (W.contents (device_inner writer.new)) self.now) }
@@ -168,7 +173,8 @@ impl<A: Allocator + Copy> Message<A> {
     }
 }
 
-/// These bytes in a new block, which has room to make its last piece whole.
+/// Returns these bytes in a new block with room to make its last piece whole. It is an error if memory is
+/// refused.
 fn block_of<A: Allocator + Copy>(alloc: A, bytes: &[u8]) -> Result<Vec<u8, A>, AllocError>
     ensures { IfOk result (λ block. block.items ≡ bytes.now) }
 {
@@ -177,7 +183,8 @@ fn block_of<A: Allocator + Copy>(alloc: A, bytes: &[u8]) -> Result<Vec<u8, A>, A
     Ok(block)
 }
 
-/// How many bytes the last piece of a block of so many lacks to be whole. An empty block has no piece.
+/// Returns how many bytes the last piece of a block of `len` bytes lacks to be whole. An empty block has no
+/// piece, and lacks none.
 fn lacking(len: usize) -> usize
     ensures value { result ≡ lacking_of len }
     ensures whole { (len + result) % 4096 ≡ 0 }
@@ -185,7 +192,8 @@ fn lacking(len: usize) -> usize
     (PIECE - len % PIECE) % PIECE
 }
 
-/// The first block that ends behind a place; their number where there is none. A message may have very many.
+/// Returns the index of the first block that ends after `at`, or the number of blocks if none does. A message
+/// may have very many.
 fn block_at<A: Allocator + Copy>(blocks: &[Block<A>], at: usize) -> usize
     requires { AreBlocks 0 blocks.now }
     ensures bound { result ≤ length blocks.now }
@@ -195,7 +203,7 @@ fn block_at<A: Allocator + Copy>(blocks: &[Block<A>], at: usize) -> usize
     blocks.partition_point(|block| block.end <= at)
 }
 
-/// The bytes of a block from a place on, as many as lie in one piece.
+/// Returns the bytes of a block from `at` on, as many as lie in one piece.
 fn piece_at(block: &[u8], at: usize) -> &[u8]
     ensures { result.now ≡ take (4096 - at % 4096) (drop at block.now) }
 {
@@ -203,8 +211,8 @@ fn piece_at(block: &[u8], at: usize) -> &[u8]
     behind.get(..PIECE - at % PIECE).unwrap_or(behind)
 }
 
-/// Appends to the last piece what it lacks, or less. A block that was not made by [`block_of`] grows by amounts, and takes
-/// the room of a whole piece past the half of it.
+/// Appends to the last piece at most what it lacks. A block that was not made by [`block_of`] grows by
+/// doubling, and takes the room of a whole piece once it is past half of one.
 fn extend_last<A: Allocator + Copy>(last: &mut Vec<u8, A>, payload: &[u8]) -> Result<(), AllocError>
     requires { length payload.now ≤ lacking_of (length last.old.items) }
     ensures ok { OnOk result (last.new.items ≡ last.old.items ++ payload.now) }
@@ -223,8 +231,8 @@ fn extend_last<A: Allocator + Copy>(last: &mut Vec<u8, A>, payload: &[u8]) -> Re
     last.extend_from_slice(payload)
 }
 
-/// Makes the last piece whole, and puts a new block behind it. All the memory that it needs is taken before anything
-/// changes.
+/// Makes the last piece whole, and puts a new block after it. All memory is taken before anything changes. If
+/// memory is refused, nothing has changed.
 fn add_block<A: Allocator + Copy>(
     blocks: &mut Vec<Block<A>, A>,
     last: &mut Vec<u8, A>,

@@ -22,18 +22,18 @@ use std::marker::Model;
 
 /// The open deliveries, each under a key of its own, and their places in link order.
 ///
-/// The place that a delivery needs once it is whole is made when it begins. A delivery that is settled leaves
-/// its place empty, so that no other moves; empty places are closed up once no delivery is open, or three in four
-/// places are empty, so that there are never more than four for each open delivery, and a few.
+/// Room for a delivery's place is made when the delivery begins. When a delivery ends, its place is left empty,
+/// so that no other moves. Empty places are closed up once no delivery is open, or about three in four places
+/// are empty. So there are never more than four places for each open delivery, and a few.
 #[derive(Drop)]
 pub struct OpenDeliveries<A: Allocator + Copy = Global> {
     alloc: A,
     slab: Slab<OpenDelivery<A>, A>,
-    /// Those that are whole, and empty places.
+    /// The keys of the whole deliveries in link order, and empty places.
     order: Vec<Option<usize>, A>,
-    /// So many places are of deliveries that were handed up; those behind them are of ready ones.
+    /// How many places belong to deliveries that were handed up. The later ones belong to ready deliveries.
     handed_up: usize,
-    /// The last transfer has not come.
+    /// The key of the delivery whose last transfer has not come.
     unfinished: Option<usize>,
     bytes: u64,
 }
@@ -52,7 +52,7 @@ impl<A: Allocator + Copy> Model for OpenDeliveries<A> {
 }
 
 impl<A: Allocator + Copy> OpenDeliveries<A> {
-    /// None is open.
+    /// Returns a set with no open delivery.
     pub fn new(alloc: A) -> Self
         ensures { result ≡ record { awaiting = []; ready = []; unfinished = None } }
     {
@@ -66,9 +66,11 @@ impl<A: Allocator + Copy> OpenDeliveries<A> {
         }
     }
 
-    /// A delivery begins with the payload of a first transfer, and is ready unless more is to come. All the memory that it needs
-    /// is taken before anything changes: that for it, for its place among the others, and then for the payload, so that where
-    /// one of the first two is refused no work has grown with the payload.
+    /// Begins a delivery with the payload of its first transfer. It is ready unless more is to come.
+    ///
+    /// All memory is taken before anything changes: first for the delivery and its place, then for the payload.
+    /// So a refusal of one of the first two comes before any work that grows with the payload. If memory is
+    /// refused, nothing has changed.
     pub fn begin(
         &mut self,
         terms: &Terms,
@@ -97,7 +99,8 @@ impl<A: Allocator + Copy> OpenDeliveries<A> {
         Ok(Step::Ready)
     }
 
-    /// One transfer more of the delivery that is unfinished.
+    /// Adds one more transfer to the unfinished delivery. If memory is refused, nothing has changed. An empty
+    /// payload needs none.
     pub fn extend(&mut self, settled: bool, payload: &[u8]) -> Result<(), AllocError>
         requires fits { set_bytes self.old + length payload.now < 2 ^ 64 }
         ensures ok { OnOk result ((d : Delivery) → self.old.unfinished ≡ Some d → self.new ≡ record self.old { unfinished = Some (record d { settled = d.settled || settled; message = d.message ++ payload.now }) }) }
@@ -111,7 +114,7 @@ impl<A: Allocator + Copy> OpenDeliveries<A> {
         Ok(())
     }
 
-    /// The delivery that is unfinished becomes ready.
+    /// Makes the unfinished delivery ready.
     pub fn finish(&mut self)
         ensures { (d : Delivery) → self.old.unfinished ≡ Some d → self.new ≡ record self.old { ready = self.old.ready ++ d ∷ []; unfinished = None } }
     {
@@ -122,7 +125,7 @@ impl<A: Allocator + Copy> OpenDeliveries<A> {
         }
     }
 
-    /// The delivery that is unfinished goes.
+    /// Removes the unfinished delivery.
     pub fn discard(&mut self)
         ensures { self.new ≡ record self.old { unfinished = None } }
     {
@@ -133,8 +136,9 @@ impl<A: Allocator + Copy> OpenDeliveries<A> {
         }
     }
 
-    /// Hands up the first ready delivery. It stays open, without its message, unless it is settled.
-    // For `telemetry` and `gateway` (docs/PERF.md).
+    /// Hands up the first ready delivery; `None` if none is ready. It stays open, without its message, unless
+    /// it is settled.
+    // Inlined for `telemetry` and `gateway` (docs/PERF.md).
     #[inline(always)]
     pub fn take(&mut self) -> Option<Taken<A>>
         ensures none { IfNone result ((slice_get self.old.ready 0 ≡ None) × (self.new ≡ self.old)) }
@@ -150,7 +154,8 @@ impl<A: Allocator + Copy> OpenDeliveries<A> {
         Some(taken)
     }
 
-    /// [`OpenDeliveries::take`] of one that is settled, which is then open no longer.
+    /// Hands up the first ready delivery, which is settled and so open no longer. [`OpenDeliveries::take`]
+    /// calls this.
     #[inline(never)]
     fn take_settled(&mut self) -> Option<Taken<A>>
         requires { IfSome (slice_get self.old.ready 0) (λ d. IsTrue d.settled) }
@@ -166,7 +171,8 @@ impl<A: Allocator + Copy> OpenDeliveries<A> {
         Some(delivery.hand_up(self.alloc))
     }
 
-    /// The bytes that count as kept of all open deliveries. All fields are named, so that a new one is listed here.
+    /// Returns the bytes held for all open deliveries. The pattern names all fields, so that a new one must be
+    /// listed here.
     pub fn bytes(&self) -> u64
         ensures { result ≡ set_bytes self.now }
     {
@@ -181,7 +187,7 @@ impl<A: Allocator + Copy> OpenDeliveries<A> {
         *bytes
     }
 
-    /// The delivery that is unfinished.
+    /// Returns the unfinished delivery; `None` if there is none.
     pub fn unfinished(&self) -> Option<&OpenDelivery<A>>
         ensures { option_map (λ d. delivery_of d.now) result ≡ self.now.unfinished }
     {
@@ -191,56 +197,56 @@ impl<A: Allocator + Copy> OpenDeliveries<A> {
         }
     }
 
-    /// The delivery-ids of all, in the order in which these began.
+    /// Returns the delivery-ids of all open deliveries, in the order in which these began.
     pub fn ids(&self) -> OpenIds<'_, A>
         ensures { result ≡ map (λ d. d.delivery_id) (in_order self.now) }
     {
         OpenIds::new(&self.slab, &self.order, self.unfinished_id())
     }
 
-    /// The delivery-id of the one that is unfinished.
+    /// Returns the delivery-id of the unfinished delivery; `None` if there is none.
     pub fn unfinished_id(&self) -> Option<u32>
         ensures { result ≡ option_map (λ d. d.delivery_id) self.now.unfinished }
     {
         Some(self.unfinished()?.delivery_id)
     }
 
-    /// Whether a delivery is unfinished.
+    /// Returns whether a delivery is unfinished.
     pub fn has_unfinished(&self) -> bool
         ensures { result ≡ is_some self.now.unfinished }
     {
         self.unfinished.is_some()
     }
 
-    /// How many deliveries are open.
+    /// Returns how many deliveries are open.
     pub fn len(&self) -> usize
         ensures { result ≡ how_many self.now }
     {
         self.slab.len()
     }
 
-    /// How many are ready.
+    /// Returns how many deliveries are ready.
     pub fn ready(&self) -> usize
         ensures { result ≡ length self.now.ready }
     {
         self.order.len() - self.handed_up
     }
 
-    /// The first that was handed up of which a question is answered by yes.
+    /// Returns the first delivery that was handed up and answers the question with yes.
     fn find_handed_up(&self, question: Question) -> Option<&OpenDelivery<A>>
         ensures { option_map (λ d. delivery_of d.now) result ≡ find (asks_of question) self.now.awaiting }
     {
         places::find(&self.slab, &self.order[..self.handed_up], question)
     }
 
-    /// The first ready one of which a question is answered by yes.
+    /// Returns the first ready delivery that answers the question with yes.
     fn find_ready(&self, question: Question) -> Option<&OpenDelivery<A>>
         ensures { option_map (λ d. delivery_of d.now) result ≡ find (asks_of question) self.now.ready }
     {
         places::find(&self.slab, &self.order[self.handed_up..], question)
     }
 
-    /// Whether the delivery that is unfinished answers a question by yes.
+    /// Returns whether there is an unfinished delivery and it answers the question with yes.
     fn is_unfinished(&self, question: Question) -> bool
         ensures { result ≡ list_any (asks_of question) (option_to_list self.now.unfinished) }
     {
@@ -250,14 +256,14 @@ impl<A: Allocator + Copy> OpenDeliveries<A> {
         }
     }
 
-    /// Whether one that was not handed up answers a question by yes.
+    /// Returns whether a delivery that was not handed up answers the question with yes.
     fn is_untaken(&self, question: Question) -> bool
         ensures { result ≡ list_any (asks_of question) (untaken self.now) }
     {
         self.find_ready(question).is_some() || self.is_unfinished(question)
     }
 
-    /// Whether an open delivery has this id.
+    /// Returns whether an open delivery has this id.
     pub fn has_id(&self, id: u32) -> bool
         ensures { result ≡ list_any (has_id id) (in_order self.now) }
     {
@@ -265,7 +271,7 @@ impl<A: Allocator + Copy> OpenDeliveries<A> {
         self.find_handed_up(question).is_some() || self.is_untaken(question)
     }
 
-    /// How the delivery with this id stands.
+    /// Returns how the delivery with this id stands as to its settlement by the receiver.
     pub fn standing(&self, id: u32) -> Standing
         ensures { result ≡ standing_of id self.now }
     {
@@ -279,26 +285,27 @@ impl<A: Allocator + Copy> OpenDeliveries<A> {
         }
     }
 
-    /// Whether one that was not handed up has one of these ids.
+    /// Returns whether an open delivery that was not handed up has one of these ids.
     pub fn names_untaken(&self, ids: Ids) -> bool
         ensures { result ≡ names_untaken ids.first ids.last self.now }
     {
         self.is_untaken(Question::IsCovered(ids))
     }
 
-    /// Whether one of these ids is that of a delivery in mode second of which the sender was told.
+    /// Returns whether one of these ids belongs to a delivery in mode second whose outcome the sender was told.
     pub fn names_told(&self, ids: Ids) -> bool
         ensures { result ≡ names_told ids.first ids.last self.now }
     {
         self.find_handed_up(Question::IsTold(ids)).is_some()
     }
 
-    /// The key that the next delivery will have.
+    /// Returns the key that the next delivery will have.
     pub fn next_key(&self) -> usize {
         self.slab.vacant_key()
     }
 
-    /// How the delivery with this id stands, which may be kept under this key. No other has the id.
+    /// Returns how the delivery with this id stands, looking under this key first. At most one open delivery
+    /// may have the id.
     pub fn standing_at(&self, key: usize, id: u32) -> Standing
         requires { IsOnce id id self.now }
         ensures { result ≡ standing_of id self.now }
@@ -318,8 +325,9 @@ impl<A: Allocator + Copy> OpenDeliveries<A> {
         }
     }
 
-    /// The receiver settles the delivery with this id, which may be kept under this key, or tells of it, if it awaits that.
-    /// No other has the id. Answers how it stood.
+    /// Settles the delivery with this id for the receiver, or tells of it, if it awaits that. Looks under this
+    /// key first. At most one open delivery may have the id. Returns how the delivery stood; if it did not
+    /// await a settle, nothing has changed.
     pub fn settle_at(&mut self, key: usize, id: u32) -> Standing
         requires { IsOnce id id self.old }
         ensures standing { result ≡ standing_of id self.old }
@@ -358,7 +366,8 @@ impl<A: Allocator + Copy> OpenDeliveries<A> {
         }
     }
 
-    /// [`OpenDeliveries::settle_at`] where one look found nothing.
+    /// Settles the delivery with this id by a search of all. [`OpenDeliveries::settle_at`] calls this if one
+    /// look under the key found nothing.
     #[inline(never)]
     fn settle_anywhere(&mut self, id: u32) -> Standing
         ensures standing { result ≡ standing_of id self.old }
@@ -375,8 +384,8 @@ impl<A: Allocator + Copy> OpenDeliveries<A> {
         standing
     }
 
-    /// The sender settles the delivery with this id, which may be kept under this key. No other has the id. Answers how many
-    /// it settles that were not settled.
+    /// Settles the delivery with this id for the sender, looking under this key first. At most one open
+    /// delivery may have the id. Returns how many deliveries it settles that were not settled.
     pub fn peer_settled_at(&mut self, key: usize, id: u32) -> usize
         requires { IsOnce id id self.old }
         ensures count { result ≡ newly_settled id id self.old }
@@ -416,7 +425,8 @@ impl<A: Allocator + Copy> OpenDeliveries<A> {
         }
     }
 
-    /// The receiver settles these ids, or tells of them. Answers how many deliveries have one.
+    /// Settles the deliveries with these ids that were handed up, or tells of them, for the receiver. Returns
+    /// how many have one of the ids.
     pub fn settle_by_receiver(&mut self, ids: Ids) -> usize
         ensures count { result ≡ named_count ids.first ids.last self.old }
         ensures new { self.new ≡ receiver_settled_in ids.first ids.last self.old }
@@ -428,7 +438,7 @@ impl<A: Allocator + Copy> OpenDeliveries<A> {
         self.settle_handed_up(settling)
     }
 
-    /// The sender settles these ids. Answers how many deliveries it settles that were not.
+    /// Settles the deliveries with these ids for the sender. Returns how many it settles that were not settled.
     pub fn settle_by_sender(&mut self, ids: Ids) -> usize
         ensures count { result ≡ newly_settled ids.first ids.last self.old }
         ensures new { self.new ≡ sender_settled_in ids.first ids.last self.old }
@@ -441,7 +451,7 @@ impl<A: Allocator + Copy> OpenDeliveries<A> {
         handed_up + self.settle_ready(ids) + self.settle_unfinished(ids)
     }
 
-    /// Settles those that were handed up.
+    /// Settles deliveries that were handed up. Returns how many the settle counts.
     fn settle_handed_up(&mut self, settling: Settling) -> usize
         ensures count { result ≡ count_by (counts settling) self.old.awaiting }
         ensures new { self.new ≡ record self.old { awaiting = settled_list settling self.old.awaiting } }
@@ -454,7 +464,8 @@ impl<A: Allocator + Copy> OpenDeliveries<A> {
         settled.count
     }
 
-    /// The sender settles those that are ready. They stay open.
+    /// Settles the ready deliveries with these ids for the sender; they stay open. Returns how many of them
+    /// were not settled.
     fn settle_ready(&mut self, ids: Ids) -> usize
         ensures count { result ≡ count_by (λ d. not d.settled && is_covered ids.first ids.last d) self.old.ready }
         ensures new { self.new ≡ record self.old { ready = map (sender_settled_by ids.first ids.last) self.old.ready } }
@@ -467,7 +478,8 @@ impl<A: Allocator + Copy> OpenDeliveries<A> {
         places::settle(&mut self.slab, ready, settling).count
     }
 
-    /// The sender settles the one that is unfinished. It stays open.
+    /// Settles the unfinished delivery for the sender, if it has one of these ids; it stays open. Returns 1 if
+    /// that settles it anew, else 0.
     fn settle_unfinished(&mut self, ids: Ids) -> usize
         ensures count { result ≡ count_by (λ d. not d.settled && is_covered ids.first ids.last d) (option_to_list self.old.unfinished) }
         ensures new { self.new ≡ record self.old { unfinished = option_map (sender_settled_by ids.first ids.last) self.old.unfinished } }
@@ -480,7 +492,7 @@ impl<A: Allocator + Copy> OpenDeliveries<A> {
     }
 }
 
-/// The delivery that a transfer begins, with these bytes, whose place would be this one.
+/// Returns the delivery that a transfer begins, with these bytes as its message and this place as its hint.
 fn begun<A: Allocator + Copy>(
     terms: &Terms,
     transfer: &Transfer<'_>,

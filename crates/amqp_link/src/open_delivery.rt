@@ -1,4 +1,4 @@
-//! What is held of one delivery that is open, and what a settle does to it.
+//! What is held of one open delivery, and what a settle does to it.
 ghost use Rattle.std.specs.Prelude.{◌≡◌, ◌||◌, ◌++◌, [], not, OnOk, OnErr, IsOk, Some};
 ghost use Rattle.amqp_link.specs.Links.{delivery_bytes, is_first, standing_at};
 ghost use Rattle.amqp_link.specs.HandedUps.{IsHandedUp};
@@ -13,7 +13,7 @@ use amqp_serial::Serial;
 use std::alloc::{AllocError, Allocator, Global};
 use std::mem;
 
-/// What is held of a delivery.
+/// What is held of an open delivery.
 #[derive(Drop)]
 pub struct OpenDelivery<A: Allocator + Copy = Global> {
     pub delivery_id: u32,
@@ -25,36 +25,36 @@ pub struct OpenDelivery<A: Allocator + Copy = Global> {
     /// The sender was told what became of it.
     pub told: bool,
     pub message: Message<A>,
-    /// The place at which its key stands in link order, as far as it was told: no more than a hint.
+    /// The place of its key in link order when that was last noted: only a hint.
     pub place: usize,
 }
 
-/// Ids from a first to a last one; none where the last is behind the first [2.7.6].
+/// Ids from `first` to `last` in serial-number order; none if `last` is before `first` [2.7.6].
 #[derive(Clone, Copy)]
 pub struct Ids {
     pub first: u32,
     pub last: u32,
 }
 
-/// What is asked of a delivery.
+/// A question about a delivery.
 #[derive(Clone, Copy)]
 pub enum Question {
     /// It has this id.
     HasId(u32),
-    /// It has one of these.
+    /// It has one of these ids.
     IsCovered(Ids),
-    /// It has one of these, is in mode second, and the sender was told of it.
+    /// It has one of these ids, is in mode second, and the sender was told what became of it.
     IsTold(Ids),
 }
 
-/// Who settles a delivery.
+/// Who settles a delivery, and whether it was handed up.
 #[derive(Clone, Copy)]
 pub enum Settler {
-    /// The receiver, one that was handed up.
+    /// The receiver settles a delivery that was handed up.
     Receiver,
-    /// The sender, one that was handed up.
+    /// The sender settles a delivery that was handed up.
     SenderOfHandedUp,
-    /// The sender, one that was not.
+    /// The sender settles a delivery that was not handed up.
     SenderOfUntaken,
 }
 
@@ -66,7 +66,8 @@ pub struct Settling {
 }
 
 impl<A: Allocator + Copy> OpenDelivery<A> {
-    /// The bytes that count as kept of it. All fields are named, so that a new one is listed here.
+    /// Returns the bytes held for the delivery. The pattern names all fields, so that a new one
+    /// must be listed here.
     pub fn bytes(&self) -> u64
         ensures { result ≡ delivery_bytes (delivery_of self.now) }
     {
@@ -83,7 +84,8 @@ impl<A: Allocator + Copy> OpenDelivery<A> {
         64 + delivery_tag.as_bytes().len() as u64 + message.size()
     }
 
-    /// One transfer more.
+    /// Adds one more transfer. If memory is refused, nothing has changed. An empty payload needs
+    /// none.
     pub fn extend(&mut self, settled: bool, payload: &[u8]) -> Result<(), AllocError>
         ensures ok { OnOk result (delivery_of self.new ≡ record (delivery_of self.old) { settled = self.old.settled || settled; message = self.old.message ++ payload.now }) }
         ensures err { OnErr result (delivery_of self.new ≡ delivery_of self.old) }
@@ -94,8 +96,8 @@ impl<A: Allocator + Copy> OpenDelivery<A> {
         Ok(())
     }
 
-    /// Hands it up: its message is moved out, and none is left.
-    // For `telemetry` and `gateway` (docs/PERF.md).
+    /// Hands up the delivery: its message is moved out, and none is left.
+    // Inlined for `telemetry` and `gateway` (docs/PERF.md).
     #[inline(always)]
     pub fn hand_up(&mut self, alloc: A) -> Taken<A>
         ensures taken { IsHandedUp result (delivery_of self.old) }
@@ -110,14 +112,14 @@ impl<A: Allocator + Copy> OpenDelivery<A> {
         }
     }
 
-    /// It is told its place.
+    /// Notes the delivery's place, which is only a hint.
     pub fn stands_at(&mut self, place: usize)
         ensures { delivery_of self.new ≡ delivery_of self.old }
     {
         self.place = place;
     }
 
-    /// How it stands, if it was handed up.
+    /// Returns how the delivery stands if it was handed up.
     pub fn standing(&self) -> Standing
         ensures { result ≡ standing_at (Some (delivery_of self.now)) }
     {
@@ -128,14 +130,14 @@ impl<A: Allocator + Copy> OpenDelivery<A> {
         }
     }
 
-    /// Whether it has one of the ids.
+    /// Returns whether the delivery has one of the ids.
     fn is_covered(&self, ids: Ids) -> bool
         ensures { result ≡ asks_of (Question.IsCovered ids) (delivery_of self.now) }
     {
         Serial(self.delivery_id).in_range(Serial(ids.first), Serial(ids.last))
     }
 
-    /// Whether the question is answered by yes.
+    /// Returns the delivery's answer to the question.
     pub fn answers(&self, question: Question) -> bool
         ensures { result ≡ asks_of question (delivery_of self.now) }
     {
@@ -146,14 +148,14 @@ impl<A: Allocator + Copy> OpenDelivery<A> {
         }
     }
 
-    /// Whether it is in mode second [2.8.3].
+    /// Returns whether the delivery is in mode second [2.8.3].
     fn is_second(&self) -> bool
         ensures { result ≡ not (is_first self.now.rcv_settle_mode) }
     {
         matches!(self.rcv_settle_mode, ReceiverSettleMode::Second)
     }
 
-    /// Whether a settle counts it.
+    /// Returns whether a settle counts the delivery.
     pub fn counts(&self, settling: Settling) -> bool
         ensures { result ≡ counts settling (delivery_of self.now) }
     {
@@ -163,7 +165,7 @@ impl<A: Allocator + Copy> OpenDelivery<A> {
         }
     }
 
-    /// Whether it is open no longer after a settle.
+    /// Returns whether the delivery is open no longer after a settle.
     pub fn ends(&self, settling: Settling) -> bool
         ensures { result ≡ ends settling (delivery_of self.now) }
     {
@@ -174,7 +176,7 @@ impl<A: Allocator + Copy> OpenDelivery<A> {
         }
     }
 
-    /// What a settle does to one that stays open.
+    /// Changes a delivery that stays open by a settle.
     pub fn settle(&mut self, settling: Settling)
         ensures { delivery_of self.new ≡ turned settling (delivery_of self.old) }
     {

@@ -14,9 +14,9 @@ use std::marker::Model;
 pub struct OpenIds<'a, A: Allocator + Copy = Global> {
     slab: &'a Slab<OpenDelivery<A>, A>,
     places: &'a [Option<usize>],
-    /// The place that is looked at next.
+    /// The next place to look at.
     at: usize,
-    /// The id of the one that is unfinished, which comes last.
+    /// The id of the unfinished delivery, which comes last.
     unfinished: Option<u32>,
 }
 
@@ -33,7 +33,8 @@ impl<'a, A: Allocator + Copy> Model for OpenIds<'a, A> {
 }
 
 impl<'a, A: Allocator + Copy> OpenIds<'a, A> {
-    /// Those under the keys at these places, and behind them that of the one that is unfinished.
+    /// Makes an iterator over the ids of the deliveries at these places, followed by that of the
+    /// unfinished one.
     pub fn new(
         slab: &'a Slab<OpenDelivery<A>, A>,
         places: &'a [Option<usize>],
@@ -50,7 +51,7 @@ impl<'a, A: Allocator + Copy> OpenIds<'a, A> {
         }
     }
 
-    /// The next one; `None` where none is left.
+    /// Returns the next id; `None` if none is left.
     pub fn next(&mut self) -> Option<u32>
         ensures none { IfNone result (self.old ≡ []) }
         ensures some { IfSome result (λ id. self.old ≡ id ∷ self.new) }
@@ -65,7 +66,7 @@ impl<'a, A: Allocator + Copy> OpenIds<'a, A> {
     }
 }
 
-/// The next key from a place on, and the place behind it.
+/// Returns the next key from a place on, and the place after it.
 fn next_key(places: &[Option<usize>], from: usize) -> Option<(usize, usize)>
     ensures none { IfNone result (keys_of (drop from places.now) ≡ []) }
     ensures some { IfSome result (λ next. keys_of (drop from places.now) ≡ next.0 ∷ keys_of (drop next.1 places.now)) }

@@ -1,4 +1,4 @@
-//! The places of deliveries in link order, each with the key of its delivery, or empty.
+//! The places of deliveries in link order. Each has the key of its delivery, or is empty.
 ghost use Rattle.std.specs.Prelude.{◌≡◌, ◌<◌, ◌≤◌, ◌+◌, ◌*◌, ◌^◌, ◌∷◌, [], length, drop, find, map, option_map, option_to_list, slice_get, sum_by, vec_capacity, IsSome, IsTrue, Some};
 ghost use Rattle.std.specs.List.{AllByRecursion};
 ghost use Rattle.slab.specs.Slab.{ContainsKey, slab_len};
@@ -9,32 +9,33 @@ use crate::open_delivery::{OpenDelivery, Question, Settling};
 use slab::Slab;
 use std::alloc::Allocator;
 
-/// Open deliveries beyond which empty places are closed up: of fewer places it is not worth while.
+/// Added to the number of open deliveries when places are counted: it isn't worthwhile to close up a few empty
+/// ones.
 const FEW: usize = 4;
 
 /// Where one look found a delivery.
 #[derive(Clone, Copy)]
 pub enum Found {
-    /// It was handed up, and stands at this place.
+    /// It was handed up, and is at this place.
     HandedUp(usize),
-    /// It is ready, and stands at this place.
+    /// It is ready, and is at this place.
     Ready(usize),
     /// It is unfinished.
     Unfinished,
-    /// Not there.
+    /// The look did not find it.
     Unknown,
 }
 
-/// What a settle came to.
+/// What a settle resulted in.
 #[derive(Clone, Copy)]
 pub struct Settled {
-    /// How many deliveries it counts.
+    /// How many deliveries the settle counts.
     pub count: usize,
-    /// The bytes that are no longer kept.
+    /// The bytes that are no longer held.
     pub freed: u64,
 }
 
-/// The first delivery at these places of which a question is answered by yes.
+/// Returns the first delivery at these places that answers the question with yes.
 pub fn find<'a, A: Allocator + Copy>(
     slab: &'a Slab<OpenDelivery<A>, A>,
     places: &[Option<usize>],
@@ -54,7 +55,8 @@ pub fn find<'a, A: Allocator + Copy>(
     None
 }
 
-/// Where the delivery with an id stands, if it is the one under this key: it is looked at once, and at its place.
+/// Returns where the delivery with an id is, if it is the one under this key. Looks only under the key and at
+/// the delivery's noted place.
 pub fn look<A: Allocator + Copy>(
     slab: &Slab<OpenDelivery<A>, A>,
     places: &[Option<usize>],
@@ -85,7 +87,7 @@ pub fn look<A: Allocator + Copy>(
     }
 }
 
-/// Whether this key stands at a place.
+/// Returns whether this key is at a place.
 fn holds(places: &[Option<usize>], place: usize, key: usize) -> bool
     ensures { IsTrue result → slice_get places.now place ≡ Some (Some key) }
 {
@@ -95,7 +97,8 @@ fn holds(places: &[Option<usize>], place: usize, key: usize) -> bool
     }
 }
 
-/// Settles the deliveries at these places, one after another. One that is open no longer leaves its place empty.
+/// Settles the deliveries at these places, one after another. If one is then open no longer, its place becomes
+/// empty.
 pub fn settle<A: Allocator + Copy>(
     slab: &mut Slab<OpenDelivery<A>, A>,
     places: &mut [Option<usize>],
@@ -114,8 +117,8 @@ pub fn settle<A: Allocator + Copy>(
     all
 }
 
-/// Settles the delivery at one place, if there is one.
-// For `bench_functions endpoint`.
+/// Settles the delivery at one place, if there is one. If it is then open no longer, the place becomes empty.
+// Inlined for `bench_functions endpoint`.
 #[inline(always)]
 pub fn settle_at<A: Allocator + Copy>(
     slab: &mut Slab<OpenDelivery<A>, A>,
@@ -138,9 +141,9 @@ pub fn settle_at<A: Allocator + Copy>(
     Settled { count, freed }
 }
 
-/// Closes up empty places, if there are many, and then tells each delivery its place. So many places are of
-/// deliveries that were handed up; those behind them are of ready ones.
-// For `bench_functions endpoint`.
+/// Closes up empty places if there are many, and then notes each delivery's place. The first `handed_up` places
+/// belong to deliveries that were handed up, the later ones to ready deliveries.
+// Inlined for `bench_functions endpoint`.
 #[tactic(auto, using(crate::proofs::Hints::same_deliveries))]
 #[inline(always)]
 pub fn close_up<A: Allocator + Copy>(
@@ -164,7 +167,7 @@ pub fn close_up<A: Allocator + Copy>(
     }
 }
 
-/// Tells each delivery its place.
+/// Notes each delivery's place.
 #[tactic(auto, using(crate::proofs::Hints::same_deliveries, crate::proofs::Hints::same_still))]
 fn number<A: Allocator + Copy>(slab: &mut Slab<OpenDelivery<A>, A>, places: &[Option<usize>])
     ensures { SameDeliveries slab.old slab.new }
@@ -176,7 +179,7 @@ fn number<A: Allocator + Copy>(slab: &mut Slab<OpenDelivery<A>, A>, places: &[Op
     }
 }
 
-/// Tells one delivery its place, if a key is one's.
+/// Notes the place of the delivery under a key, if there is one.
 pub fn number_one<A: Allocator + Copy>(
     slab: &mut Slab<OpenDelivery<A>, A>,
     key: usize,
@@ -189,7 +192,7 @@ pub fn number_one<A: Allocator + Copy>(
     }
 }
 
-/// Closes up empty places: all of them where no delivery is open, else once three in four are empty.
+/// Closes up empty places: all of them if no delivery is open, else once about three in four are empty.
 fn close<A: Allocator + Copy>(
     places: &mut Vec<Option<usize>, A>,
     handed_up: &mut usize,

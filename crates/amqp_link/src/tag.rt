@@ -1,4 +1,4 @@
-//! A delivery-tag in place.
+//! A delivery-tag, stored without an allocation.
 ghost use Rattle.std.specs.Prelude.{◌≡◌, ◌≤◌, length};
 
 use std::marker::Model;
@@ -30,7 +30,7 @@ impl Model for Tag {
 }
 
 impl Tag {
-    /// The tag of these bytes.
+    /// Makes a tag of these bytes.
     pub(crate) fn new(tag: &[u8]) -> Tag
         requires { length tag.now ≤ 32 }
         ensures { result ≡ tag.now }
@@ -41,7 +41,7 @@ impl Tag {
         Tag { bytes, len }
     }
 
-    /// The tag's bytes.
+    /// Returns the tag's bytes, at most 32.
     pub fn as_bytes(&self) -> &[u8]
         ensures value { result.now ≡ self.now }
         ensures within { length self.now ≤ 32 }

@@ -1,18 +1,18 @@
-//! What becomes of a transfer.
+//! What a transfer results in.
 ghost use Rattle.std.specs.Prelude.{◌≡◌, false, unwrap_or};
 ghost use Rattle.amqp_link.specs.declared.transfer.LinkFault.TheVariants.{NoMemory};
 
 use amqp_perform::Transfer;
 use std::alloc::AllocError;
 
-/// Why a link refuses a transfer or a flow. The link is then as it was.
+/// Why a link refuses a transfer or a flow. The link is unchanged.
 #[derive(Clone, Copy, Debug, PartialEq, Eq)]
 pub enum LinkFault {
     /// The sender goes beyond its credit.
     TransferLimit,
     /// The message is longer than the link allows.
     MessageSize,
-    /// A field is missing, too long, or differs from the delivery's first transfer; or mode second is asked for
+    /// A field is missing, too long, or differs from the delivery's first transfer; or mode second is requested
     /// on a link of mode first.
     InvalidField,
     /// A delivery is resumed.
@@ -32,10 +32,10 @@ pub enum Step {
     Aborted,
 }
 
-/// What a transfer comes to on its link, before anything is done [2.6.14].
+/// What a transfer results in on its link, before anything is done [2.6.14].
 #[derive(Clone, Copy, Debug, PartialEq, Eq)]
 pub enum Verdict {
-    /// It begins a delivery, which will be kept under this key: a hint, as [`crate::Link::next_key`] answers.
+    /// It begins a delivery, which will be stored under this key: a hint, as from [`crate::Link::next_key`].
     Begins(usize),
     /// It goes on with the unfinished delivery, or ends it.
     GoesOn,
@@ -43,7 +43,7 @@ pub enum Verdict {
     Passes,
     /// It gives up the unfinished delivery, which has this id.
     GivesUp(u32),
-    /// It is refused with this fault, never for want of memory.
+    /// It is refused with this fault, which is never `NoMemory`.
     Fails(LinkFault),
 }
 
@@ -55,7 +55,7 @@ impl From<AllocError> for LinkFault {
     }
 }
 
-/// Whether a transfer says that its sender settled the delivery.
+/// Returns whether a transfer says that its sender settled the delivery.
 pub fn is_settled(transfer: &Transfer<'_>) -> bool
     ensures { result ≡ unwrap_or transfer.now.settled false }
 {

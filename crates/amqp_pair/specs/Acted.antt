@@ -1,4 +1,4 @@
--- What the words of a sender come to on a connection with one link, on the message level (AMQP 1.0, part 2, sections 2.5.6, 2.6.7 and 2.6.14).
+-- What the words of a sender do to a connection with one link, on the message level. [2.5.6, 2.6.7, 2.6.14]
 use Rattle.std.specs.Prelude.{◌≡◌, ℕ, ◌^◌, ◌<◌, List, [], ◌∷◌, None}
 use Rattle.amqp_session.specs.Sessions.{SessionEvent}
 use Rattle.amqp_endpoint.specs.Connections.{ConnectionState, InSession, connection_after}
@@ -9,7 +9,8 @@ use Rattle.amqp_pair.specs.Stands.{Stands}
 use Rattle.amqp_pair.specs.Words.{Word, frame_in, unit_in, IsRight}
 use Rattle.amqp_pair.specs.World.{World, Frame, To_end, happens, Plain, Inv}
 
--- A line that goes on with the session on channel 0, which then stands so; it tells no failure and is answered by nothing.
+-- A line that goes on with the session on channel 0, and leaves the connection as the message level says; it reports no failure and is not
+-- answered.
 pub record GoesOnAs (s : ConnectionState) (line : Line) (w : World) : Type 0 where
   pub event : SessionEvent
   pub is : event_on s line ≡ InSession 0 event

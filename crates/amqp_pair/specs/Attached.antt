@@ -1,4 +1,4 @@
--- How a connection stands whose session has begun and has no link yet, and what the sender's attach makes of it (AMQP 1.0, part 2, sections 2.6.2, 2.6.3 and 2.7.3).
+-- The state of a connection whose session has begun and has no link yet, and what the sender's attach makes of it. [2.6.2, 2.6.3, 2.7.3]
 use Rattle.std.specs.Prelude.{◌≡◌, ℕ, ◌^◌, ◌<◌, ◌≤◌, List, [], ◌∷◌, length, None}
 use Rattle.amqp_frame.specs.Units.{FrameUnit}
 use Rattle.amqp_perform.specs.Said.{said_frame}
@@ -16,7 +16,7 @@ use Rattle.amqp_pair.specs.Reading.{IsOpened, attaching_of}
 use Rattle.amqp_pair.specs.Stands.{AreFree, Stands}
 use Rattle.amqp_pair.specs.World.{World}
 
--- A session lives on channel 0, and nothing stands at its handles, of which there is one.
+-- A session lives on channel 0, and it has one handle, which is free.
 pub record HasBegun (s : ConnectionState) (w : World) : Type 0 where
   pub opened : IsOpened s
   pub session : SessionState
@@ -29,11 +29,11 @@ pub record HasBegun (s : ConnectionState) (w : World) : Type 0 where
   pub places : session.window ≡ w.places
   pub next : session.next_incoming_id ≡ w.next
 
--- what the message level begins its link with
+-- the link of the message level is new
 abbrev pub IsNew : ConnectionState → World → List ℕ → Type 0
 IsNew s w name = w.link ≡ link_begins (record { initial_delivery_count = 0; rcv_settle_mode = (attaching_of s.config name).rcv_settle_mode; bounds = (attaching_of s.config name).bounds })
 
--- The sender's attach comes: it is answered, and its link stands.
+-- The sender's attach comes: it is answered, and its link lives.
 pub record IsAttachedBy (s : ConnectionState) (t : SessionState) (w : World) (name : List ℕ) : Type 0 where
   pub event : event_on s (SessionFrame 0 t (Attaches (attaching_of s.config name))) ≡ InSession 0 (LinkAttached 0 (attached t.terms (attaching_of s.config name)))
   pub told : failure_in (told_on s (SessionFrame 0 t (Attaches (attaching_of s.config name)))) ≡ None

@@ -1,4 +1,4 @@
--- What the calls of an endpoint with one link are on the message level, and the frames that they write (AMQP 1.0, part 2, sections 2.5.6, 2.6.7 and 2.6.12).
+-- What the calls of an endpoint with one link are on the message level, and the frames that they write. [2.5.6, 2.6.7, 2.6.12]
 use Rattle.std.specs.Prelude.{◌≡◌, ℕ, Bool, true, false, if◌then◌else◌, List, [], ◌∷◌, ◌++◌, None}
 use Rattle.amqp_perform.specs.declared.outcome.Outcome.{Outcome}
 use Rattle.amqp_perform.specs.Said.{Said}
@@ -16,14 +16,14 @@ use Rattle.amqp_pair.specs.World.{World, Flow, Turn, Grant, Widen, Drain, Take, 
 abbrev pub flow_speaks : Flow → Said
 flow_speaks f = if f.of_link then link_flow_said f.next f.window 0 f.count f.credit f.drain else flow_said f.next f.window
 
--- An accepted call goes on with the session, which then stands so, and writes these frames.
+-- An accepted call goes on with the session, leaves the connection as the message level says, and writes these frames.
 pub record IsCalled (s : ConnectionState) (c : call.Call) (w : World) (said : List Said) : Type 0 where
   pub event : SessionEvent
   pub is : call_event s 0 c ≡ InSession 0 event
   pub stands : Stands (connection_after s (InSession 0 event)) w
   pub spoken : call_spoken s 0 c ≡ on_channel 0 said
 
--- one that writes a flow
+-- an accepted call that writes a flow
 pub record IsFlowCalled (s : ConnectionState) (c : call.Call) (w : World) (turn : Turn) (of_link : Bool) : Type 0 where
   pub called : IsCalled s c (happens w turn) (flow_speaks (flow_of (happens w turn) of_link) ∷ [])
   pub on_way : (happens w turn).to_sender ≡ w.to_sender ++ flow_of (happens w turn) of_link ∷ []

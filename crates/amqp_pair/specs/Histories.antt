@@ -1,4 +1,4 @@
--- What became of both ends under a list of turns: each has its run and its history, and the pipes lost and invented nothing (AMQP 1.0, part 2, sections 2.2 to 2.7).
+-- What became of both ends under a list of turns: each has its run and its history, and the pipes lost and invented nothing. [2.2 to 2.7]
 use Rattle.std.specs.Prelude.{◌≡◌, ℕ, List, [], ◌∷◌, ◌++◌}
 use Rattle.std.specs.List.{flat_map}
 use Rattle.amqp_endpoint.specs.Configs.{Configured}
@@ -48,9 +48,9 @@ pub record HasHistories (config : Configured) (terms : SendTerms) (last : Ends) 
   pub parts : Parts start last
   pub endpoint : IsWholeRun config parts.asked parts.told last.endpoint
   pub sender : of_sender.HasHistory terms parts.sent parts.heard last.sender
-  -- the sender also after each of its calls, where no frame is left unwritten that may be written; the endpoint's history has its own moments
+  -- the sender also has one after each of its calls, and no frame that may be written is then left unwritten; the endpoint's history has its own moments
   pub sender_moments : (n : ℕ) → of_sender.HasMoment terms start.sender parts.sent parts.heard last.sender n
-  -- what the sender wrote is what the endpoint took, what lies in the pipe, and what was not moved out; and the other way round
+  -- what the sender moved out is what the endpoint took and what lies in the pipe; and the other way round
   pub to_endpoint : flat_map of_sender.moved_by parts.heard ≡ all_taken parts.asked parts.told ++ last.to_endpoint
   pub to_sender : flat_map trace.moved_by parts.told ≡ of_sender.fed parts.sent parts.heard ++ last.to_sender
   pub taken : last.taken ≡ flat_map handed_by parts.told

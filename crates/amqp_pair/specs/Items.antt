@@ -1,4 +1,4 @@
--- What is on its way between the two ends, unit by unit, from the first byte on (AMQP 1.0, part 2, sections 2.2 to 2.7).
+-- What is on its way between the two ends, unit by unit, from the first byte on. [2.2 to 2.7]
 use Rattle.std.specs.Prelude.{◌≡◌, ℕ, ◌^◌, ◌<◌, Bool, false, List, [], ◌∷◌}
 use Rattle.amqp_frame.specs.Units.{StreamUnit, HeaderUnit}
 use Rattle.amqp_frame.specs.declared.units.Stage.{Stage}
@@ -19,7 +19,7 @@ use Rattle.amqp_pair.specs.Spoken.{frame_unit}
 use Rattle.amqp_pair.specs.Words.{Word, unit_in}
 use Rattle.amqp_pair.specs.World.{Flow}
 
--- How far an end is: what of the other's opening it awaits, or that it awaits none of it.
+-- How far an end is: which part of the other's opening it awaits, or that it awaits none of it.
 pub data Far : Type 0 where
   AwaitsHeader : Far
   AwaitsOpen : Far
@@ -62,7 +62,8 @@ words_in (OwnOpen ∷ items) = words_in items
 words_in (OwnBegin ∷ items) = words_in items
 words_in (OwnAttach ∷ items) = words_in items
 
--- An endpoint that is so far is that far once it has acted upon them: they come in their order, and words behind the opening.
+-- Once an endpoint that is as far as the first has acted upon these items, it is as far as the second. They come in their
+-- order, and words after the opening.
 abbrev pub Leads : Far → List Item → Far → Type 0
 Leads e [] f = e ≡ f
 Leads e (OwnHeader ∷ items) f = (e ≡ AwaitsHeader) × Leads AwaitsOpen items f
@@ -71,7 +72,7 @@ Leads e (OwnBegin ∷ items) f = (e ≡ AwaitsBegin) × Leads AwaitsAttach items
 Leads e (OwnAttach ∷ items) f = (e ≡ AwaitsAttach) × Leads Goes items f
 Leads e (Speaks word ∷ items) f = (e ≡ Goes) × Leads Goes items f
 
--- how far the endpoint comes by all that a sender wrote that is so far
+-- how far the endpoint comes by all that a sender has written that is this far
 abbrev pub written_at : Far → Far
 written_at AwaitsHeader = AwaitsOpen
 written_at AwaitsOpen = Goes
@@ -90,7 +91,7 @@ pub data Reply : Type 0 where
   States : Flow → Reply
   Disposes : ℕ → Bool → Outcome → Reply
 
--- what the endpoint's session begins with, where the other side is the sender [2.7.2]
+-- what the endpoint's session begins with, if the other side is the sender [2.7.2]
 abbrev pub begun_with : Configured → SessionTerms
 begun_with config = record { incoming_window = config.window; next_outgoing_id = 0; handle_max = lesser config.handle_max 0; max_frame_size = 4096 }
 
@@ -113,7 +114,7 @@ flows_in config (ItsOpen ∷ replies) = flows_in config replies
 flows_in config (ItsAttach ∷ replies) = flows_in config replies
 flows_in config (Disposes id settled outcome ∷ replies) = flows_in config replies
 
--- A sender that is so far is that far once it has acted upon them.
+-- Once a sender that is as far as the first has acted upon these replies, it is as far as the second.
 abbrev pub LeadsBack : Far → List Reply → Far → Type 0
 LeadsBack r [] g = r ≡ g
 LeadsBack r (ItsHeader ∷ replies) g = (r ≡ AwaitsHeader) × LeadsBack AwaitsOpen replies g
@@ -123,7 +124,7 @@ LeadsBack r (ItsAttach ∷ replies) g = (r ≡ Goes) × LeadsBack Goes replies g
 LeadsBack r (States f ∷ replies) g = (r ≡ Goes) × LeadsBack Goes replies g
 LeadsBack r (Disposes id settled outcome ∷ replies) g = (r ≡ Goes) × LeadsBack Goes replies g
 
--- how far the sender comes by all that an endpoint wrote that is so far: the attach tells it nothing
+-- how far the sender comes by all that an endpoint has written that is this far; the attach tells it nothing
 abbrev pub answered_at : Far → Far
 answered_at AwaitsHeader = AwaitsHeader
 answered_at AwaitsOpen = AwaitsOpen

@@ -1,4 +1,4 @@
--- How two ends that are joined by two pipes stand to one another and to the message level, and what a turn does to it (AMQP 1.0, part 2, sections 2.2 to 2.7).
+-- How two ends that are joined by two pipes are related to one another and to the message level, and how a turn keeps that. [2.2 to 2.7]
 use Rattle.std.specs.Prelude.{◌≡◌, ℕ, ◌+◌, ◌^◌, ◌≤◌, false, List, [], ◌∷◌, ◌++◌, length, map}
 use Rattle.std.specs.List.{flat_map}
 use Rattle.amqp_frame.specs.Splits.{SplitterState}
@@ -51,7 +51,7 @@ pub record IsUnattached (config : Configured) (terms : SendTerms) (s : Connectio
   pub begun : HasBegun s w
   pub link : w.link ≡ link_begins (link_terms config terms)
 
--- how a connection stands that is so far
+-- the state of a connection that is this far
 abbrev pub IsFar : Configured → SendTerms → ConnectionState → World → Far → Type 0
 IsFar config terms s w AwaitsHeader = (s.phase ≡ phase.Unopened) × IsUnbegun config terms s w
 IsFar config terms s w AwaitsOpen = (s.phase ≡ phase.Unopened) × IsUnbegun config terms s w
@@ -61,7 +61,7 @@ IsFar config terms s w Goes = Stands s w
 
 -- The sender. -----------------------------------------------------------------------------------------------------------
 
--- it awaits the header, or talks
+-- the sender awaits the header, or talks
 abbrev pub talk_at : Far → Talk
 talk_at AwaitsHeader = talk.Silent
 talk_at AwaitsOpen = talk.Talking
@@ -77,7 +77,7 @@ IsUnflowed AwaitsBegin f = f.flowed ≡ false
 IsUnflowed AwaitsAttach f = Unit {0}
 IsUnflowed Goes f = Unit {0}
 
--- how a sender stands that is so far: its frames are no longer than the endpoint accepts [2.7.1]
+-- the state of a sender that is this far; its frames are no longer than the endpoint accepts [2.7.1]
 pub record HasHeard (config : Configured) (terms : SendTerms) (s : Sending) (r : Far) : Type 0 where
   pub terms_are : s.terms ≡ terms
   pub talks : s.talk ≡ talk_at r
@@ -96,7 +96,7 @@ pub record IsOutward (config : Configured) (terms : SendTerms) (input : Splitter
   pub leads : Leads e items f
   pub right : AreRight config.max_frame (words_in items)
 
--- the same the other way
+-- What the sender's splitter holds, what lies in the pipe to it and what its endpoint has not moved out are these replies, joined.
 pub record IsInward (config : Configured) (terms : SendTerms) (input : SplitterState) (pipe unsent : List ℕ) (r : Far) (replies : List Reply) (g : Far) : Type 0 where
   pub joined : input.filled ++ (pipe ++ unsent) ≡ flat_map bytes_of (map (reply_unit config terms) replies)
   pub limit : input.limit ≡ 4096
@@ -136,7 +136,7 @@ abbrev pub offered_by : Turn → TurnAnswer → List (List ℕ)
 offered_by (Offer message) answer.TakenOver = message ∷ []
 offered_by turn a = []
 
--- A turn is answered well, and the ends stand to one another behind it. Credit and window of the sender are within those of the endpoint.
+-- A turn is answered well, and keeps the relation of the ends. Credit and window of the sender are within those of the endpoint.
 pub record IsTurnKept (config : Configured) (terms : SendTerms) (next : Ends) (w : World) (turn : Turn) (a : TurnAnswer) : Type 0 where
   pub well : IsWell a
   pub world : World

@@ -1,4 +1,4 @@
--- What the frames of a sender are to an endpoint (AMQP 1.0, part 2, section 2.7).
+-- What the frames of a sender are to an endpoint. [2.7]
 use Rattle.std.specs.Prelude.{◌≡◌, ℕ, ◌^◌, ◌<◌, ◌≤◌, Bool, true, false, if◌then◌else◌, List, [], length, Some, None}
 use Rattle.byteorder.specs.Endian.{big_bytes}
 use Rattle.amqp_frame.specs.Units.{FrameUnit}
@@ -23,23 +23,23 @@ use Rattle.amqp_send.specs.declared.flow_state.FlowState.{FlowState}
 use Rattle.amqp_send.specs.Frames.{IsText, IsSmall}
 use Rattle.amqp_send.specs.Sendings.{frame, open_said, begin_said, attach_said, flow_said, transfer_said, source_text, target_text}
 
--- A frame that may be said comes to the line of what its fields say, on a connection that awaits no close.
+-- A frame that may be said is read as the line of what its fields say, on a connection that awaits no close.
 abbrev pub LineLaw : Type 0
 LineLaw = (s : ConnectionState) (x : Said) (payload : List ℕ) → MayBeSaid x → length (said_frame 0 x payload) < 2 ^ 32 → is_closing s.phase ≡ false
     → line_of s (FrameUnit (said_frame 0 x payload)) ≡ read_line s 0 (read_in s.config x.type x.cells payload)
 
--- Acceptance of the sender's frames, by how the connection stands. ----------------------------------------------------
+-- Acceptance of the sender's frames, by the state of the connection. --------------------------------------------------
 
 -- the peer's open is awaited
 abbrev pub OpenLaw : Type 0
 OpenLaw = (s : ConnectionState) (container_id : List ℕ) → s.phase ≡ phase.Unopened → IsText container_id → length (frame (open_said container_id)) < 2 ^ 32
     → line_of s (FrameUnit (frame (open_said container_id))) ≡ PeerOpens (record { max_frame_size = 4096; channel_max = 0 })
 
--- it was opened so
+-- it was opened with the sender's open
 abbrev pub IsOpened : ConnectionState → Type 0
 IsOpened s = s.phase ≡ phase.Open 4096 0
 
--- nothing stands at channel 0
+-- channel 0 is free
 abbrev pub BeginLaw : Type 0
 BeginLaw = (s : ConnectionState) → IsOpened s → slot_at s 0 ≡ Free → length (frame begin_said) < 2 ^ 32
     → line_of s (FrameUnit (frame begin_said)) ≡ PeerBegins 0 (record { remote_channel = None; next_outgoing_id = 0; handle_max = 0 })
@@ -58,7 +58,7 @@ attaching_of config name = record {
   bounds = bounds_for config name;
 }
 
--- a session lives there, and nothing stands at its handle 0
+-- a session lives there, and its handle 0 is free
 abbrev pub AttachLaw : Type 0
 AttachLaw = (s : ConnectionState) (t : SessionState) (name : List ℕ) → IsOpened s → slot_at s 0 ≡ Live t → session.slot_at t 0 ≡ Free → IsText name → length name ≤ 255
     → length (frame (attach_said name)) < 2 ^ 32 → line_of s (FrameUnit (frame (attach_said name))) ≡ SessionFrame 0 t (Attaches (attaching_of s.config name))
@@ -92,9 +92,9 @@ abbrev pub TransferLaw : Type 0
 TransferLaw = (s : ConnectionState) (t : SessionState) (l : LiveLink) (id : ℕ) (begun more : Bool) (payload : List ℕ) → IsOpened s → slot_at s 0 ≡ Live t → session.slot_at t 0 ≡ Live l → 0 < t.window → id < 2 ^ 32
     → length (said_frame 0 (transfer_said id begun more) payload) < 2 ^ 32 → line_of s (FrameUnit (said_frame 0 (transfer_said id begun more) payload)) ≡ SessionFrame 0 t (Transfers 0 (sent_by id begun more payload))
 
--- Such a line fails nothing, where neither session nor link finds a fault: ----------------------------------------------
+-- Such a line fails nothing, if neither session nor link finds a fault: -------------------------------------------------
 
--- of a transfer, which is then told as unfinished or ready, and answered by nothing
+-- the line of a transfer, which is then reported as unfinished or ready, and not answered
 pub record IsTaken (s : ConnectionState) (t : SessionState) (w : Sent) : Type 0 where
   pub event : event_on s (SessionFrame 0 t (Transfers 0 w)) ≡ InSession 0 (TransferCame 0 w)
   pub told : told_on s (SessionFrame 0 t (Transfers 0 w)) ≡ report_told 0 (step_report 0 (step_of w))
@@ -103,7 +103,7 @@ pub record IsTaken (s : ConnectionState) (t : SessionState) (w : Sent) : Type 0 
 abbrev pub TakenLaw : Type 0
 TakenLaw = (s : ConnectionState) (t : SessionState) (l : LiveLink) (w : Sent) → session.slot_at t 0 ≡ Live l → is_reused t l.link w ≡ false → fault_of l.link w ≡ None → IsTaken s t w
 
--- of a flow that states no more than the credit
+-- the line of a flow that doesn't go beyond the credit
 pub record IsHeeded (s : ConnectionState) (t : SessionState) (l : LiveLink) (f : FlowState) : Type 0 where
   pub event : event_on s (SessionFrame 0 t (Flows (flowing_of f))) ≡ InSession 0 (LinkFlowCame 0 f.next_outgoing_id (Some f.delivery_count))
   pub told : told_on s (SessionFrame 0 t (Flows (flowing_of f))) ≡ (if is_drained l.link (Some f.delivery_count) then Some (told.Drained 0 0) else None)

@@ -1,4 +1,4 @@
--- The theorem of the pair, under what it holds, and what it says of the answers (AMQP 1.0, part 2, sections 2.5.6, 2.6.7 and 2.6.14).
+-- The theorem of the pair: what it assumes, and what it says of the answers. [2.5.6, 2.6.7, 2.6.14]
 use Rattle.std.specs.Prelude.{◌≡◌, ℕ, ◌^◌, ◌<◌, ◌≤◌, List, [], ◌∷◌, ◌++◌, length, map}
 use Rattle.amqp_endpoint.specs.declared.event.Event.TheVariants as event
 use Rattle.amqp_endpoint.specs.declared.event.Outcome.{Outcome}
@@ -14,7 +14,7 @@ use Rattle.amqp_pair.specs.declared.turn.TurnAnswer.{TurnAnswer}
 use Rattle.amqp_pair.specs.declared.turn.TurnAnswer.TheVariants as answer
 use Rattle.amqp_pair.specs.Turns.{Turn, Offer, ToEndpoint, ToSender, Ask, Ends, IsJoined, offered_in}
 
--- Under what it holds. --------------------------------------------------------------------------------------------------
+-- What it assumes. ------------------------------------------------------------------------------------------------------
 
 -- what types and `Config::checked` give of both ends
 pub record AreTerms (config : Configured) (terms : SendTerms) : Type 0 where
@@ -37,7 +37,7 @@ IsOfLink (Take handle) = handle ≡ 0
 IsOfLink (Settle id outcome) = id < 2 ^ 32
 IsOfLink c = ⊥
 
--- a message is no longer than the link's may be [2.7.3]
+-- a message is at most as long as the link allows [2.7.3]
 abbrev pub IsFair : Configured → SendTerms → Turn → Type 0
 IsFair config terms (Offer message) = length message ≤ (bounds_for config terms.name).max_message_size
 IsFair config terms (ToEndpoint n) = Unit {0}
@@ -48,7 +48,7 @@ abbrev pub AreFair : Configured → SendTerms → List Turn → Type 0
 AreFair config terms [] = Unit {0}
 AreFair config terms (turn ∷ turns) = IsFair config terms turn × AreFair config terms turns
 
--- Of turns in hand this alone is asked: that each message that is offered is short. Their calls are for the one link, and their ids have 32 bits.
+-- Turns in memory have to meet this alone: each message that is offered is short. Their calls are for the one link, and their ids have 32 bits.
 abbrev pub IsShort : Configured → SendTerms → Turn → Type 0
 IsShort config terms (Offer message) = length message ≤ (bounds_for config terms.name).max_message_size
 IsShort config terms (ToEndpoint n) = Unit {0}
@@ -61,12 +61,12 @@ AreShort config terms (turn ∷ turns) = IsShort config terms turn × AreShort c
 
 -- What it says. ---------------------------------------------------------------------------------------------------------
 
--- the endpoint tells no failure
+-- the endpoint reports no failure
 abbrev pub IsNoFailure : Outcome → Type 0
 IsNoFailure (outcome.Event (event.Failed scope condition dropped)) = ⊥
 IsNoFailure o = Unit {0}
 
--- nor is an offer answered Ended
+-- the endpoint reports no failure, and no offer is refused with Ended
 abbrev pub IsWell : TurnAnswer → Type 0
 IsWell (answer.EndpointFed fed) = IsNoFailure fed.outcome
 IsWell (answer.NotTakenOver (fault.Ended condition)) = ⊥
@@ -82,7 +82,7 @@ pub record IsServed (turns : List Turn) (answers : List TurnAnswer) (last : Ends
   pub rest : List (List ℕ)
   pub in_order : map (λ d. d.message) last.taken ++ rest ≡ offered_in turns answers
 
--- There are at most 2^32 messages, so that no id comes again.
+-- There are at most 2^32 messages, so no id is used twice.
 abbrev pub PairLaw : Type 0
 PairLaw = (config : Configured) (terms : SendTerms) (turns : List Turn) (answers : List TurnAnswer) (last : Ends) → AreTerms config terms → AreFair config terms turns → length (offered_in turns answers) ≤ 2 ^ 32
     → IsJoined config terms turns answers last → IsServed turns answers last

@@ -1,4 +1,4 @@
--- What a sender wrote as units of a stream, and how the units of one end are those of the other (AMQP 1.0, part 2, sections 2.2, 2.3 and 2.7).
+-- What a sender wrote, as units of a stream, and how the units of one end are those of the other. [2.2, 2.3, 2.7]
 use Rattle.std.specs.Prelude.{◌≡◌, ℕ, ◌%◌, ◌^◌, ◌≤◌, Bool, true, false, List, [], ◌∷◌, ◌++◌, map}
 use Rattle.std.specs.List.{flat_map}
 use Rattle.amqp_frame.specs.Splits.{SplitterState}
@@ -40,7 +40,8 @@ spoken terms (Gave bytes ∷ h) = spoken terms h
 
 -- On their way. -------------------------------------------------------------------------------------------------------
 
--- The units that one end wrote begin with those that the other one acted upon. What that one holds and has not acted upon, with what lies before it, is the others.
+-- The units that one end wrote begin with those that the other end acted upon. The remaining units are what the other end holds and has not acted upon, and what
+-- lies before it.
 abbrev pub FrontLaw : Type 0
 FrontLaw = (max : ℕ) (stage : Stage) (us vs : List StreamUnit) (on_way : List ℕ) → 8 ≤ max → AreUnits max stage us → AreUnits max stage vs
     → flat_map bytes_of us ++ on_way ≡ flat_map bytes_of vs → (later : List StreamUnit) × (vs ≡ us ++ later) × (on_way ≡ flat_map bytes_of later)

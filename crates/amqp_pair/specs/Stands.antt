@@ -1,4 +1,4 @@
--- How a connection stands whose one link has attached, on the message level (AMQP 1.0, part 2, sections 2.5.6 and 2.6).
+-- The state of a connection whose one link has attached, on the message level. [2.5.6, 2.6]
 use Rattle.std.specs.Prelude.{◌≡◌, ℕ, suc, ◌+◌, ◌-◌, ◌%◌, ◌^◌, List, [], ◌∷◌, unwrap_or}
 use Rattle.amqp_link.specs.Histories.{one_if}
 use Rattle.amqp_link.specs.Links.{LinkEvent}
@@ -28,7 +28,7 @@ pub record Stands (s : ConnectionState) (w : World) : Type 0 where
   pub places : session.window ≡ w.places
   pub next : session.next_incoming_id ≡ w.next
 
--- the message level after an event of the session that leaves this of the link
+-- the message level after an event of the session that leaves this link
 abbrev pub behind : World → SessionEvent → LiveLink → World
 behind w e l = record w {
   link = l.link;
@@ -36,7 +36,7 @@ behind w e l = record w {
   next = (unwrap_or (stated_by e) w.next + one_if (is_transfer e)) % 2 ^ 32;
 }
 
--- It stands so after an event that goes on with the link, and begins none elsewhere.
+-- The connection is still so after an event that goes on with the link, and begins none elsewhere.
 abbrev pub StandsLaw : Type 0
 StandsLaw = (s : ConnectionState) (w : World) (e : SessionEvent) (x : Happens Attached LinkEvent) (l : LiveLink) → (a : Stands s w) → happens e ≡ x
     → slot_after live_begins live_after 0 x (Live a.link) ≡ Live l → ((k : ℕ) → slot_after live_begins live_after (suc k) x Free ≡ Free) → Stands (connection_after s (InSession 0 e)) (behind w e l)

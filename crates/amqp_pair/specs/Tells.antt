@@ -1,4 +1,4 @@
--- What the frames of an endpoint tell a sender (AMQP 1.0, part 2, section 2.7).
+-- What the frames of an endpoint tell a sender. [2.7]
 use Rattle.std.specs.Prelude.{◌≡◌, ℕ, ◌^◌, ◌<◌, List, length}
 use Rattle.amqp_frame.specs.Units.{FrameUnit}
 use Rattle.amqp_perform.specs.Said.{Said, said_frame, MayBeSaid}

@@ -1,4 +1,4 @@
--- A sender and an endpoint, two pipes between them, and what a turn does to them (AMQP 1.0, part 2, sections 2.2 to 2.7).
+-- A sender and an endpoint, two pipes between them, and what a turn does to them. [2.2 to 2.7]
 use Rattle.std.specs.Prelude.{◌≡◌, ℕ, ◌-◌, ◌<◌, min, List, [], ◌∷◌, ◌++◌, length, drop, slice_index, Option}
 use Rattle.amqp_endpoint.specs.declared.event.Fed.{Fed}
 use Rattle.amqp_endpoint.specs.Configs.{Configured}
@@ -20,11 +20,11 @@ use Rattle.amqp_pair.specs.declared.turn.TurnAnswer.TheVariants as answer
 
 pub data Turn : Type 0 where
   Offer : List ℕ → Turn  -- the sender is offered this message
-  ToEndpoint : ℕ → Turn  -- so many bytes at most go from the sender into its pipe, and the whole pipe is fed to the endpoint, once
-  ToSender : ℕ → Turn  -- the same the other way
+  ToEndpoint : ℕ → Turn  -- at most this many bytes go from the sender into its pipe, and the whole pipe is fed to the endpoint, once
+  ToSender : ℕ → Turn  -- at most this many bytes go from the endpoint into its pipe, and the whole pipe is fed to the sender, once
   Ask : session.Call → Turn  -- a call of the endpoint for the session on channel 0
 
--- a turn in hand: the calls of the endpoint are for handle 0 [2.6.2]
+-- a turn in memory: the calls of the endpoint are for handle 0 [2.6.2]
 abbrev pub turn_of : asked.Turn → Turn
 turn_of (turn.Offer message) = Offer message.now
 turn_of (turn.ToEndpoint n) = ToEndpoint n
@@ -49,7 +49,7 @@ pub record Ends : Type 0 where
 abbrev pub pipe_size : ℕ
 pipe_size = 8192
 
--- as many of so many bytes as fit the pipe
+-- at most n bytes, as many as fit the pipe
 abbrev pub room_for : ℕ → List ℕ → ℕ
 room_for n pipe = min n (pipe_size - length pipe)
 
@@ -74,7 +74,7 @@ pub record IsToEndpoint (old new : Ends) (n : ℕ) (came : Fed) : Type 0 where
   pub other : new.to_sender ≡ old.to_sender
   pub taken : new.taken ≡ old.taken
 
--- The first half of it: the sender's bytes went into the pipe.
+-- The first half of that: the sender's bytes went into the pipe.
 pub record IsFilled (old new : Ends) (n : ℕ) : Type 0 where
   pub moved : List ℕ
   pub out : of_sender.Does old.sender new.sender (of_sender.Output (room_for n old.to_endpoint)) (of_sender.MovedOut moved)

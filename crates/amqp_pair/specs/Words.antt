@@ -1,4 +1,4 @@
--- What a sender writes behind its opening, word by word, and how its steps are turns of the message level (AMQP 1.0, part 2, sections 2.6.7, 2.6.14 and 2.7).
+-- What a sender writes after its opening, word by word, and how its steps are turns of the message level. [2.6.7, 2.6.14, 2.7]
 use Rattle.std.specs.Prelude.{◌≡◌, ℕ, ◌^◌, ◌<◌, ◌≤◌, Bool, false, if◌then◌else◌, List, [], ◌∷◌, ◌++◌, length, map, Option, Some, None, option_map}
 use Rattle.std.specs.List.{flat_map}
 use Rattle.amqp_frame.specs.Units.{StreamUnit, FrameUnit}
@@ -13,12 +13,12 @@ pub data Word : Type 0 where
   Sends : (id : ℕ) → (begun more : Bool) → (payload : List ℕ) → Word
   Answers : FlowState → Bool → Word
 
--- on the message level
+-- a word on the message level
 abbrev pub frame_in : Word → Frame
 frame_in (Sends id begun more payload) = if begun then Later payload more else First id payload more
 frame_in (Answers f drain) = Told f.delivery_count f.next_outgoing_id
 
--- its bytes
+-- the bytes of a word
 abbrev pub text_in : Word → List ℕ
 text_in (Sends id begun more payload) = said_frame 0 (transfer_said id begun more) payload
 text_in (Answers f drain) = said_frame 0 (flow_said f drain) []
@@ -49,7 +49,7 @@ with_sender w s = record w { sender = sender_of s }
 abbrev pub adds : World → List Word → World
 adds w words = record w { to_end = w.to_end ++ map frame_in words }
 
--- its numbers have 32 bits, and it is no longer than this
+-- the word's numbers have 32 bits, and it is no longer than this
 abbrev pub IsRight : ℕ → Word → Type 0
 IsRight most (Sends id begun more payload) = (id < 2 ^ 32) × (length (text_in (Sends id begun more payload)) ≤ most)
 IsRight most (Answers f drain) = IsSmall f.peer_next_outgoing_id × (f.next_outgoing_id < 2 ^ 32) × (f.delivery_count < 2 ^ 32) × (length (text_in (Answers f drain)) ≤ most)
@@ -58,7 +58,7 @@ abbrev pub AreRight : ℕ → List Word → Type 0
 AreRight most [] = Unit {0}
 AreRight most (word ∷ words) = IsRight most word × AreRight most words
 
--- the numbers of a sender have 32 bits, and its frames room for its opening
+-- the numbers of a sender have 32 bits, and its frames have room for its opening
 pub record IsNumbered (f : FlowState) : Type 0 where
   pub least : 512 ≤ f.max_frame_size
   pub most : f.max_frame_size < 2 ^ 32
@@ -67,7 +67,7 @@ pub record IsNumbered (f : FlowState) : Type 0 where
   pub count : f.delivery_count < 2 ^ 32
   pub peer : IsSmall f.peer_next_outgoing_id
 
--- What a step that writes leaves of the rest.
+-- A step that only writes leaves these as they are.
 pub record IsKept (s t : Sending) : Type 0 where
   pub terms : t.terms ≡ s.terms
   pub talk : t.talk ≡ s.talk

@@ -1,4 +1,4 @@
--- A sender and a receiving link, and the frames and flows on their way between them, in place of bytes (AMQP 1.0, part 2, sections 2.5.6, 2.6.7 and 2.6.14).
+-- A sender and a receiving link, and the frames and flows on their way between them, in place of bytes. [2.5.6, 2.6.7, 2.6.14]
 use Rattle.std.specs.Prelude.{◌≡◌, ℕ, ◌+◌, ◌-◌, ◌%◌, ◌^◌, ◌<◌, ◌≤◌, ◌&&◌, Bool, true, false, List, [], ◌∷◌, ◌++◌, length, map, take, drop, Option, Some, None, is_none, option_map, option_to_list, if◌then◌else◌, nat_lt, nat_le, nat_eq}
 use Rattle.std.specs.List.{AllByRecursion, list_any}
 use Rattle.byteorder.specs.Endian.{big_bytes}
@@ -23,7 +23,7 @@ pub data Frame : Type 0 where
   Later : (payload : List ℕ) → (more : Bool) → Frame
   Told : (count next : ℕ) → Frame  -- its delivery-count and its next-outgoing-id
 
--- the sender: what of its message is not written, whether some of it is; its numbers, modulo 2 ^ 32; the limits it was told
+-- the sender: the part of its message that is not written, whether some of it is; its numbers, modulo 2 ^ 32; the limits it was told
 pub record Sender : Type 0 where
   pub waiting : Option (List ℕ)
   pub begun : Bool
@@ -33,7 +33,7 @@ pub record Sender : Type 0 where
   pub credit_limit : ℕ
   pub window_limit : ℕ
 
--- how far a limit is ahead, none at or above 2 ^ 31
+-- how far a limit is ahead; 0 if that is 2 ^ 31 or more
 abbrev pub ahead : ℕ → ℕ → ℕ
 ahead limit own = let d = (limit + (2 ^ 32 - own)) % 2 ^ 32 in if nat_lt d (2 ^ 31) then d else 0
 
@@ -64,11 +64,11 @@ pub record World : Type 0 where
 abbrev pub frame_of : Sender → List ℕ → Bool → Frame
 frame_of s payload more = if s.begun then Later payload more else First s.id payload more
 
--- what the next frame of the message takes of the credit: one at its first, and nothing later [2.6.7]
+-- how much credit the next frame of the message takes: one for its first frame, and none for a later one [2.6.7]
 abbrev pub charge : Sender → ℕ
 charge s = if s.begun then 0 else 1
 
--- a frame of the message was written, and this of it is left
+-- a frame of the message was written, and this part of it is left
 abbrev pub sent : Sender → Option (List ℕ) → Bool → Sender
 sent s rest begun = record s { waiting = rest; begun = begun; id = (s.id + charge s) % 2 ^ 32; count = (s.count + charge s) % 2 ^ 32; next = (s.next + 1) % 2 ^ 32 }
 
@@ -80,12 +80,12 @@ abbrev pub cuts : World → List ℕ → ℕ → Bool → World
 cuts w rest n true = puts w (sent w.sender (Some (drop n rest)) true) (take n rest) true
 cuts w rest n false = puts w (sent w.sender None false) rest false
 
--- A frame is written where the window has a place and there is credit; else nothing happens [2.5.6, 2.6.7].
+-- A frame is written if the window has a place and there is credit; else nothing happens [2.5.6, 2.6.7].
 abbrev pub writes : World → Option (List ℕ) → ℕ → Bool → World
 writes w None n more = w
 writes w (Some rest) n more = if nat_lt 0 (window_of w.sender) then (if nat_le (charge w.sender) (credit_of w.sender) then cuts w rest n more else w) else w
 
--- The sender writes a flow; it used its credit up; it answers a flow that asks for either [2.6.7].
+-- The sender writes a flow; it uses its credit up; it answers a flow that asks for either [2.6.7].
 abbrev pub answers : World → World
 answers w = record w { to_end = w.to_end ++ Told w.sender.count w.sender.next ∷ [] }
 
@@ -97,7 +97,7 @@ answered w true echo = answers (record w { sender = drained w.sender })
 answered w false true = answers w
 answered w false false = w
 
--- what a flow tells it: where the credit ends, if it is of the link, and where the window does
+-- what a flow tells the sender: where the credit ends, if it is of the link, and where the window ends
 abbrev pub told : Sender → Flow → Sender
 told s f = record s { credit_limit = if f.of_link then sum_of f.count f.credit else s.credit_limit; window_limit = sum_of f.next f.window }
 
@@ -106,7 +106,7 @@ abbrev pub comes : World → List Flow → World
 comes w [] = w
 comes w (f ∷ fs) = answered (record w { sender = told w.sender f; to_sender = fs }) (f.of_link && f.drain && is_none w.sender.waiting) f.echo
 
--- A message is taken over where none waits.
+-- A message is taken over if none waits.
 abbrev pub offers : World → Option (List ℕ) → List ℕ → World
 offers w None m = record w { offered = w.offered ++ m ∷ []; sender = record w.sender { waiting = Some m; begun = false } }
 offers w (Some rest) m = w
@@ -123,19 +123,19 @@ later_sent payload more = record { delivery_id = None; delivery_tag = None; mess
 abbrev pub fails : World → World
 fails w = record w { failed = true }
 
--- A transfer ends the link where that has a fault for it. Else it takes a place, and the link goes on with it [2.5.6, 2.6.14].
+-- A transfer ends the link if the link finds a fault in it. Else it takes a place, and the link goes on with it [2.5.6, 2.6.14].
 abbrev pub judged : World → List Frame → Sent → Option LinkFault → World
 judged w q t (Some f) = fails w
 judged w q t None = record w { to_end = q; link = link_after w.link (Transferred t); places = w.places - 1; next = (w.next + 1) % 2 ^ 32 }
 
--- It is a fault too where no place is left, or where the id of its delivery is open.
+-- It is a fault too if no place is left, or if the id of its delivery is open.
 abbrev pub takes_in : World → List Frame → Sent → Bool → World
 takes_in w q t used = if nat_eq w.places 0 then fails w else (if used then fails w else judged w q t (fault_of w.link t))
 
 abbrev pub id_open : LinkState → ℕ → Bool
 id_open s id = is_none s.unfinished && list_any (has_id id) (deliveries s)
 
--- A flow of the sender raises the delivery-count, and is a fault where it goes beyond the credit [2.6.7].
+-- A flow of the sender raises the delivery-count; it is a fault if it goes beyond the credit [2.6.7].
 abbrev pub counts : World → List Frame → ℕ → ℕ → World
 counts w q count next = if is_beyond_credit w.link.delivery_count w.link.credit (Some count) then fails w else record w { to_end = q; link = link_after w.link (FlowStated (Some count)); next = next }
 
@@ -146,7 +146,7 @@ acts w (First id payload more ∷ q) = takes_in w q (first_sent id payload more)
 acts w (Later payload more ∷ q) = takes_in w q (later_sent payload more) false
 acts w (Told count next ∷ q) = counts w q count next
 
--- the flow that states how link and session stand
+-- the flow that states the credit of the link and the window of the session
 abbrev pub flow_of : World → Bool → Flow
 flow_of w of_link = record { of_link = of_link; count = w.link.delivery_count; credit = w.link.credit; next = w.next; window = w.places; drain = w.link.draining; echo = false }
 
@@ -183,9 +183,9 @@ happens w Drain = flows (record w { link = link_after w.link DrainAsked }) true
 happens w Take = takes w w.link.ready
 happens w (Settle id) = record w { link = link_after w.link (ReceiverSettled id id) }
 
--- What holds behind each turn. ------------------------------------------------------------------------------------------
+-- What holds after each turn. -------------------------------------------------------------------------------------------
 
--- how far a message has come
+-- the part of a message that has come
 abbrev pub text : Option (List ℕ) → List ℕ
 text None = []
 text (Some m) = m
@@ -203,7 +203,7 @@ wholes part (First id payload more ∷ q) = done None payload more ++ wholes (gr
 wholes part (Later payload more ∷ q) = done part payload more ++ wholes (grown part payload more) q
 wholes part (Told count next ∷ q) = wholes part q
 
--- the message that waits, behind what is written of it
+-- the message that waits: what is written of it, and the rest
 abbrev pub tail : Option (List ℕ) → Option (List ℕ) → List (List ℕ)
 tail last None = []
 tail last (Some rest) = (text last ++ rest) ∷ []
@@ -216,7 +216,7 @@ abbrev pub BegunAs : Bool → Option (List ℕ) → Type 0
 BegunAs true last = IsDeliveryBegun last
 BegunAs false last = last ≡ None
 
--- From what the endpoint has of a message, its plain count, transfers and heads, the frames lead to the sender's.
+-- The frames lead from the endpoint's part of a message and its plain count, transfers and heads to the sender's.
 abbrev pub Walk : List Frame → Option (List ℕ) → ℕ → ℕ → ℕ → Option (List ℕ) → ℕ → ℕ → ℕ → Type 0
 Walk [] part c n k last cs ns ks = (part ≡ last) × (c ≡ cs) × (n ≡ ns) × (k ≡ ks)
 Walk (First id payload more ∷ q) part c n k last cs ns ks = (part ≡ None) × (id ≡ k % 2 ^ 32) × Walk q (grown None payload more) (c + 1) (n + 1) (k + 1) last cs ns ks
@@ -244,7 +244,7 @@ messages ds = map (λ d. d.message) ds
 abbrev pub waits_first : Sender → ℕ
 waits_first s = if is_none s.waiting then 0 else charge s
 
--- The numbers that go round at 2 ^ 32, plain: those that the endpoint has acted upon, and those of the sender.
+-- The numbers that wrap around at 2 ^ 32, without wrapping: those that the endpoint has acted upon, and those of the sender.
 pub record Plain : Type 0 where
   pub ce : ℕ  -- heads and advances at the endpoint
   pub ue : ℕ  -- transfers at the endpoint
@@ -256,9 +256,9 @@ pub record Plain : Type 0 where
   pub ws : ℕ
   pub last : Option (List ℕ)  -- what is written of the message that waits
 
--- Nothing has failed. What is on its way leads from the numbers of the endpoint to those of the sender, and the limits lead from those
--- that the sender was told to the endpoint's. The messages that were taken, those that are ready, those on their way and the one that
--- waits are those that were taken over, in order.
+-- Nothing has failed. What is on its way leads from the numbers of the endpoint to those of the sender. The limits lead from those
+-- that the sender was told to the endpoint's. The messages that were taken over are, in order: those that were taken, those that are
+-- ready, those on their way, and the one that waits.
 pub record Inv (w : World) (x : Plain) : Type 0 where
   pub fine : w.failed ≡ false
   -- the sender's numbers
@@ -294,7 +294,7 @@ pub record IsWithin (w : World) (x : Plain) : Type 0 where
   pub credit : credit_of w.sender + (x.cs - x.ce) ≤ w.link.credit
   pub window : window_of w.sender + (x.ns - x.ue) ≤ w.places
 
--- each message that is offered fits, and there are no more than 2 ^ 32
+-- each message that is offered fits, and at most 2 ^ 32 are taken over
 abbrev pub IsFair : World → Turn → Type 0
 IsFair w (Offer m) = (length m ≤ w.link.terms.bounds.max_message_size) × (length w.offered < 2 ^ 32)
 IsFair w turn = Unit {0}

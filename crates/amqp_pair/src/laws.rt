@@ -1,4 +1,4 @@
-//! What holds of what is on its way between two ends. The calls do nothing: their contracts are the laws.
+//! What holds of what is on its way between two ends. Each function does nothing: its contract is the law.
 ghost use Rattle.std.specs.Prelude.{◌≡◌, ℕ, ◌++◌, ◌∷◌, ◌≤◌, List, take, drop};
 ghost use Rattle.std.specs.List.{flat_map};
 ghost use Rattle.amqp_frame.specs.Splits.{SplitterState, Waits, IsEmptied};
@@ -41,7 +41,7 @@ pub fn what_is_written_is_units()
     ensures { (terms : SendTerms) (h : List Deed) → written terms h ≡ flat_map bytes_of (spoken terms h) }
 {}
 
-/// The units that one end wrote begin with those that the other end acted upon, and the bytes between are the others.
+/// The units that one end wrote begin with those that the other end acted upon, and the bytes between the ends are the others.
 pub fn what_was_acted_upon_comes_first()
     ensures { FrontLaw }
 {
@@ -49,7 +49,7 @@ pub fn what_was_acted_upon_comes_first()
     each_unit_has_bytes();
 }
 
-/// Units stay on their way while their bytes are moved into the pipe and taken out of it; one more may be written behind
+/// Units stay on their way while their bytes are moved into the pipe and taken out of it. More may be written after
 /// them, and the one that waits is the first.
 pub fn units_stay_on_their_way()
     ensures moves { (s : SplitterState) (pipe unsent : List ℕ) (way : List StreamUnit) (n : ℕ) → IsOnWay s pipe unsent way → IsOnWay s (pipe ++ take n unsent) (drop n unsent) way }
@@ -85,7 +85,7 @@ pub fn replies_tell_what_they_say()
     outcomes_are_found();
 }
 
-/// A frame that may be said comes to the line of what its fields say [2.4 to 2.7].
+/// A frame that may be said is read as the line of what its fields say, on a connection that awaits no close [2.4 to 2.7].
 pub fn frames_come_to_their_lines()
     ensures { LineLaw }
 {
@@ -93,9 +93,9 @@ pub fn frames_come_to_their_lines()
     said_is_a_frame();
 }
 
-/// The frames of a sender come to their lines: its open on a connection that awaits one, its begin where nothing stands at its
-/// channel, its attach where nothing stands at its handle, its flows where its link lives, and its transfers where the
-/// window has a place too [2.4.1, 2.5.1, 2.5.6, 2.6.2].
+/// The frames of a sender are read as their lines: its open on a connection that awaits one, its begin if its channel is free,
+/// and its attach if its handle is free. So are its flows if its link lives, and its transfers if the window has a place too
+/// [2.4.1, 2.5.1, 2.5.6, 2.6.2].
 pub fn frames_of_a_sender_are_accepted()
     ensures open { OpenLaw }
     ensures begin { BeginLaw }
@@ -107,15 +107,15 @@ pub fn frames_of_a_sender_are_accepted()
     frames_may_be_said();
 }
 
-/// A transfer in which neither session nor link finds a fault is taken, and told as unfinished or as ready; a flow that
-/// states no more than the credit is heeded. Neither is answered [2.6.7, 2.6.14].
+/// A transfer in which neither session nor link finds a fault is taken, and reported as unfinished or as ready. A flow that
+/// doesn't go beyond the credit is heeded. Neither is answered [2.6.7, 2.6.14].
 pub fn what_has_no_fault_fails_nothing()
     ensures transfer { TakenLaw }
     ensures flow { HeededLaw }
 {}
 
-/// On the message level, where frames and flows are on their way instead of bytes, each turn keeps what holds of all numbers.
-/// So under every list of turns nothing fails, what was given is a beginning of what was offered, and neither credit nor
+/// On the message level frames and flows are on their way instead of bytes. Each fair turn keeps the invariant of all numbers.
+/// So under every list of fair turns nothing fails, and what was given is a beginning of what was offered. Neither credit nor
 /// window of the sender, with what is on its way, is more than the receiver's [2.5.6, 2.6.7].
 pub fn the_message_level_is_sound()
     ensures step { StepLaw }
@@ -134,14 +134,14 @@ pub fn a_sender_makes_turns()
     frames_are_within();
 }
 
-/// A connection with one link stands as the message level says, behind each event of its session that goes on with the link
+/// After each event of its session that goes on with the link, a connection with one link is as the message level says
 /// [2.5.6].
 pub fn a_connection_stands_as_the_message_level()
     ensures { StandsLaw }
 {}
 
 /// The first word of a sender on its way to a connection with one link is acted upon as the message level acts upon its
-/// frame: it ends nothing, is answered by nothing, and session and link are those of the message level [2.5.6, 2.6.7, 2.6.14].
+/// frame: it ends nothing and is not answered, and session and link are those of the message level [2.5.6, 2.6.7, 2.6.14].
 pub fn words_are_acted_upon()
     ensures { ActedLaw }
 {
@@ -152,8 +152,8 @@ pub fn words_are_acted_upon()
 }
 
 /// The accepted calls of an endpoint with one link are turns of the message level. A grant, a drain and a widening write the
-/// flow that the message level sends, a settlement its disposition; a take writes nothing, and hands up what the message level
-/// gives [2.5.6, 2.6.7, 2.6.12].
+/// flow that the message level sends, and a settlement writes its disposition. A take writes nothing, and hands up what the
+/// message level gives [2.5.6, 2.6.7, 2.6.12].
 pub fn calls_are_turns()
     ensures grant { GrantLaw }
     ensures widen { WidenLaw }
@@ -165,8 +165,8 @@ pub fn calls_are_turns()
 }
 
 /// Under every list of turns each end has its run and its history, the pipes lose and invent nothing, and what was taken is
-/// what the endpoint handed up: of each life of a link the first of the deliveries that are whole in the bytes that it took
-/// [2.2 to 2.7].
+/// what the endpoint handed up. In each life of a link these are the first of the deliveries that are whole in the bytes that
+/// it took [2.2 to 2.7].
 pub fn each_end_has_its_history()
     ensures { (config : Configured) (terms : SendTerms) (turns : List Turn) (answers : List TurnAnswer) (last : Ends) → IsConfigured config.container_id config.max_frame config.window → AllInRange turns → IsJoined config terms turns answers last → HasHistories config terms last }
 {
@@ -175,7 +175,7 @@ pub fn each_end_has_its_history()
     each_call_has_its_history();
 }
 
-/// The sender's attach, in a session that has begun and has no link, is answered, and its link stands, where the answer is
+/// The sender's attach, in a session that has begun and has no link, is answered, and its link lives, if the answer is
 /// no longer than the sender's frames [2.6.2, 2.6.3, 2.7.1].
 pub fn the_attach_is_accepted()
     ensures { AttachedLaw }
@@ -184,16 +184,17 @@ pub fn the_attach_is_accepted()
     canonical_spells();
 }
 
-/// The words of a sender are units of the stream to its receiver, where they are no longer than that accepts [2.3.1].
+/// The words of a sender are units of the stream to its receiver, if they are no longer than the receiver accepts [2.3.1].
 pub fn words_are_units()
     ensures { WordUnitsLaw }
 {
     said_is_a_frame();
 }
 
-/// Each turn keeps how both ends, and what is on its way between them, stand as on the message level. It is answered well: no
-/// feed of the endpoint tells a failure, and no offer that its sender has ended. The sender's credit, with the heads and advances
-/// on their way, is at most the endpoint's, and its window, with the transfers on their way, at most the endpoint's places [2.2 to 2.7].
+/// After each turn both ends, and what is on its way between them, are as on the message level. The turn is answered well: no
+/// feed of the endpoint reports a failure, and no offer is refused with `Ended`. The sender's credit, with the heads and
+/// advances on their way, is at most the endpoint's. Its window, with the transfers on their way, is at most the endpoint's
+/// places [2.2 to 2.7].
 pub fn each_turn_keeps_the_pair()
     ensures { TurnLaw }
 {
@@ -212,9 +213,9 @@ pub fn each_turn_keeps_the_pair()
     the_message_level_is_sound();
 }
 
-/// Under every list of turns no feed of the endpoint tells a failure, no offer is answered that the sender has ended, and what
-/// was taken is a beginning of what was offered and taken over, where each message is as long as the link's may be and there are
-/// no more than 2^32 of them [2.5.6, 2.6.7, 2.6.14].
+/// Under every list of turns no feed of the endpoint reports a failure, no offer is refused with `Ended`, and what was taken is
+/// a beginning of what was offered and taken over. This holds if the calls are for the one link, each message that is offered
+/// is at most as long as the link allows, and at most 2^32 are taken over [2.5.6, 2.6.7, 2.6.14].
 pub fn the_pair_is_served()
     ensures { PairLaw }
 {

@@ -41,7 +41,7 @@ impl<A: Allocator + Copy> Model for Pair<A> {
 }
 
 impl<A: Allocator + Copy> Pair<A> {
-    /// New ends, and empty pipes.
+    /// Makes new ends and empty pipes. An error says that memory was refused.
     pub fn new(alloc: A, config: Config<A>, send_config: SendConfig<A>) -> Result<Self, AllocError>
         requires container_id { length (string_bytes send_config.container_id) ≤ 255 }
         requires name { length (string_bytes send_config.name) ≤ 255 }
@@ -56,8 +56,8 @@ impl<A: Allocator + Copy> Pair<A> {
         })
     }
 
-    /// Makes one turn. An error only where memory is refused for the copy of a message, for bytes that are moved, or for
-    /// the list of those that were taken.
+    /// Makes one turn. The only error is that memory is refused: for the copy of a message, for bytes that are moved, or
+    /// for the list of the messages that were taken.
     pub fn make(&mut self, alloc: A, turn: &Turn<'_>) -> Result<TurnAnswer, AllocError>
         ensures { IfOk result (λ answer. TurnDone self.old self.new (turn_of turn.now) answer) }
     {
@@ -114,7 +114,7 @@ impl<A: Allocator + Copy> Pair<A> {
         fed
     }
 
-    /// The same the other way.
+    /// Moves bytes of the endpoint into its pipe, and feeds the whole pipe to the sender.
     fn to_sender(&mut self, alloc: A, n: usize) -> Result<TurnAnswer, AllocError>
         ensures { IfOk result (λ answer. TurnDone self.old self.new (ToSender n) answer) }
     {
@@ -170,7 +170,7 @@ impl<A: Allocator + Copy> Pair<A> {
         }
     }
 
-    /// Tells what became of a delivery.
+    /// Settles a delivery with its outcome.
     fn settle(&mut self, id: u32, outcome: Outcome) -> TurnAnswer
         ensures { TurnDone self.old self.new (Ask (Settle id outcome)) result }
     {
@@ -181,12 +181,12 @@ impl<A: Allocator + Copy> Pair<A> {
     }
 }
 
-/// What a list of turns came to.
+/// What a list of turns resulted in.
 #[derive(Drop)]
 pub struct Joined<A: Allocator + Copy = Global> {
     /// One answer for each turn.
     pub answers: Vec<TurnAnswer, A>,
-    /// The pair behind the last of them.
+    /// The pair after the last turn.
     pub pair: Pair<A>,
 }
 
@@ -200,7 +200,7 @@ fn drop_front<A: Allocator + Copy>(bytes: &mut Vec<u8, A>, count: usize)
     bytes.truncate(left);
 }
 
-/// Moves out the first bytes that wait to be sent, as many as the room holds, and answers how many.
+/// Moves out the first bytes that wait to be sent, as many as the room holds, and returns how many.
 fn output_of<A: Allocator + Copy>(endpoint: &mut Endpoint<A>, room: &mut [u8]) -> usize
     ensures bound { result ≤ length room.old }
     ensures does { of_endpoint.Does endpoint.old endpoint.new (of_endpoint.Output (length room.old)) (of_endpoint.MovedOut (take result room.new)) }

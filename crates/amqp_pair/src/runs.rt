@@ -15,11 +15,14 @@ use amqp_endpoint::laws::{are_bytes, is_id};
 use amqp_send::SendConfig;
 use std::alloc::{AllocError, Allocator};
 
-/// Makes these turns on a new sender and a new endpoint with two empty pipes of 8192 bytes between them, in order. An error
-/// where memory is refused for the ends, the answers, the bytes that are moved, or the messages. The container-id and the
-/// name of the sender's link have at most 255 bytes each. Where each message that is offered is no longer than the link's may be,
-/// and at most 2^32 are taken over, the endpoint tells no failure, no offer is answered that the sender has ended, and the
-/// messages that were taken are a beginning of those taken over.
+/// Makes these turns, in order, on a new sender and a new endpoint with two empty pipes of 8192 bytes between them.
+///
+/// The container-id and the name of the sender's link have at most 255 bytes each. An error says that memory was refused for
+/// the ends, the answers, the bytes that are moved, or the messages.
+///
+/// If each message that is offered is at most as long as the link allows, and at most 2^32 are taken over, then the endpoint
+/// reports no failure, and no offer is refused with `Ended`. The messages that were taken are then a beginning of those taken
+/// over.
 pub fn joined<A: Allocator + Copy>(
     alloc: A,
     config: Config<A>,
@@ -70,7 +73,7 @@ fn are_terms<A: Allocator + Copy>(config: &Config<A>, send_config: &SendConfig<A
     let _bounds = config.bounds_for(name.as_bytes());
 }
 
-/// A law: a text in hand is one.
+/// A law: the bytes of a `str` are those of a text.
 fn is_text(text: &str)
     ensures { IsText text.now }
 {

@@ -8,20 +8,21 @@ use amqp_send::{News, OfferFault};
 pub enum Turn<'a> {
     /// The sender is offered a message.
     Offer(&'a [u8]),
-    /// At most so many bytes, as many as there are and fit, go from the sender into its pipe. Then the whole pipe is fed
-    /// to the endpoint, once, and the bytes that it takes leave the pipe.
+    /// At most this many bytes, as many as there are and fit, go from the sender into its pipe. Then the whole pipe is
+    /// fed to the endpoint, once, and the bytes that it takes leave the pipe.
     ToEndpoint(usize),
-    /// The same the other way.
+    /// At most this many bytes, as many as there are and fit, go from the endpoint into its pipe. Then the whole pipe is
+    /// fed to the sender, once, and the bytes that it takes leave the pipe.
     ToSender(usize),
-    /// The link gets `n` places of credit more.
+    /// The link gets this much more credit.
     Grant(u32),
-    /// The session's window gets `n` places more.
+    /// The session's window gets this many more places.
     Widen(u32),
     /// The sender is asked to use its credit up.
     Drain,
     /// The first ready delivery is handed up.
     Take,
-    /// What became of a delivery.
+    /// A delivery is settled with an outcome.
     Settle { id: u32, outcome: Outcome },
 }
 
@@ -30,9 +31,9 @@ pub enum Turn<'a> {
 pub enum TurnAnswer {
     /// The sender took the message over.
     TakenOver,
-    /// It did not.
+    /// The sender did not take the message over.
     NotTakenOver(OfferFault),
-    /// What the endpoint's feed came to.
+    /// What the endpoint's feed returned.
     EndpointFed(Fed),
     /// How many bytes the sender took, and what they brought.
     SenderFed { used: usize, news: Option<News> },

@@ -1,4 +1,4 @@
--- What the body of a frame says. (part 2, section 2.7)
+-- What the body of a frame says. [2.7]
 use Rattle.std.specs.Prelude.{◌≡◌, ℕ, ◌≤◌, List, ◌++◌, None, Some}
 use Rattle.amqp_types.specs.Misreading.{AValue, Misread}
 use Rattle.amqp_types.specs.InHand.{outermost}
@@ -13,9 +13,9 @@ use Rattle.amqp_perform.specs.Tables.{Field, fields_of}
 use Rattle.amqp_perform.specs.Cells.{Cell, cells_of}
 use Rattle.amqp_perform.specs.Performatives.{type_of, performative_cells}
 
--- The bytes begin with a list that is described as a performative, its items are these cells by the table of
--- the performative, and the payload follows. The list and what describes it are two levels of the 32 that a
--- body may have.
+-- The bytes begin with a list that is described as a performative; by the table of the performative its
+-- items are these cells; and the payload follows. The list and its descriptor take two levels of the 32 that
+-- a body may have.
 abbrev pub BodyOf : List ℕ → Descriptor → List Cell → List ℕ → Type 0
 BodyOf bytes d cells payload =
     (fields : List Field) × (items : List Item) × (text : List ℕ) × (fields_of d ≡ Some fields) × (bytes ≡ text ++ payload)
@@ -34,7 +34,7 @@ pub record IsInvalid (bytes : List ℕ) : Type 0 where
   pub spelled : BeginsWithin 32 bytes
   pub none : (d : Descriptor) (cells : List Cell) (payload : List ℕ) → BodyOf bytes d cells payload → ⊥
 
--- why the bytes begin with no performative: a misspelled value, or one that is too deep, comes first
+-- why the bytes begin with no performative: a value that is misspelled or too deep comes first
 abbrev pub IsFaultOf : List ℕ → BodyFault → Type 0
 IsFaultOf bytes (Decode e) = Misread (AValue 1) 32 (outermost bytes) None bytes e
 IsFaultOf bytes InvalidField = IsInvalid bytes

@@ -1,4 +1,4 @@
--- Reading a performative from left to right. Where nothing is read, the grammar says why (part 1, section 1.2).
+-- Reading a performative from left to right. If nothing is read, the grammar says why. [1.2]
 use Rattle.std.specs.Prelude.{◌≡◌, ◌≢◌, ℕ, zero, suc, ◌-◌, ◌==◌, ◌&&◌, nat_le, false, if◌then◌else◌, List, [], ◌∷◌, length, take, drop, Option, Some, None, Result, Ok, Err}
 use Rattle.std.specs.Result.{result_ok}
 use Rattle.amqp_types.specs.declared.code.Constructor.{Constructor}
@@ -22,7 +22,8 @@ use Rattle.amqp_perform.specs.Items.{Item}
 use Rattle.amqp_perform.specs.Performatives.{type_of, performative_cells}
 use Rattle.amqp_perform.specs.Tables.{FieldType, Absence, Field, fields_of}
 
--- what a call that takes from a cursor answers, seen by view, is what reading gives, and what it leaves is what is left
+-- what a call that takes from a cursor returns, seen through `view`, is what reading gives, and it leaves the same
+-- bytes
 abbrev pub Takes : {X Y : Type 0} → (X → Y) → Option X → List ℕ → Option (Y × List ℕ) → Type 0
 Takes view None left read = read ≡ None
 Takes view (Some x) left read = read ≡ Some (view x, left)
@@ -38,14 +39,14 @@ octets_at n bytes = where_so (nat_le n (length bytes)) (take n bytes, drop n byt
 abbrev pub word_at : List ℕ → Option (ℕ × List ℕ)
 word_at bytes = where_so (nat_le 4 (length bytes)) (big_number 4 bytes, drop 4 bytes)
 
--- as many bytes as the size in front of them says, which takes one byte or four [1.2.2]
+-- a size of one byte or of four, and as many bytes as it says [1.2.2]
 abbrev pub short_at : List ℕ → Option (List ℕ × List ℕ)
 short_at bytes = byte_at bytes >>= λ n. octets_at n.0 n.1
 
 abbrev pub long_at : List ℕ → Option (List ℕ × List ℕ)
 long_at bytes = word_at bytes >>= λ n. octets_at n.0 n.1
 
--- the code of the next of so many items, and what is left; that of null where none is left
+-- the code of the next item, and what is left; that of null if no item is left
 abbrev pub code_at : ℕ → List ℕ → Option (ℕ × ℕ × List ℕ)
 code_at zero bytes = Some (0x40, 0, bytes)
 code_at (suc left) [] = None
@@ -59,7 +60,7 @@ item_from bytes (Err e) = None
 abbrev pub item_at : List ℕ → Option (Item × List ℕ)
 item_at bytes = item_from bytes (value_of 30 None bytes)
 
--- the value of a field of the type, of so many items that are left
+-- the value of the next field, of the type; this many items are left
 unfoldable pub typed_at : FieldType → ℕ → List ℕ → Option (Cell × ℕ × List ℕ)
 typed_at type zero bytes = Some (Absent, 0, bytes)
 typed_at type (suc left) bytes = item_at bytes >>= λ x. typed_cell type x.0 >>= λ c. Some (c, left, x.1)
@@ -75,12 +76,12 @@ fields_at [] left bytes = Some ([], left, bytes)
 fields_at (f ∷ fs) left bytes =
     field_at f left bytes >>= λ x. fields_at fs x.1 x.2 >>= λ xs. Some (x.0 ∷ xs.0, xs.1, xs.2)
 
--- what a reader answers, seen by view, is what reading gives, and what it leaves is what is left
+-- what a reader returns, seen through `view`, is what reading gives, and it leaves the same items and bytes
 abbrev pub TakesFrom : {X Y : Type 0} → (X → Y) → (ℕ → List ℕ → Option (Y × ℕ × List ℕ)) → Fields → Fields → Option X → Type 0
 TakesFrom view read old new None = read old.left old.items.bytes.now ≡ None
 TakesFrom view read old new (Some x) = read old.left old.items.bytes.now ≡ Some (view x, new.left, new.items.bytes.now)
 
--- 00 and what describes a list [1.2, 1.3]
+-- 00 and the descriptor of a list [1.2, 1.3]
 abbrev pub descriptor_from : Part Tree → Option (Descriptor × List ℕ)
 descriptor_from (Ok x) = described_by x.0 >>= λ d. Some (d, x.2)
 descriptor_from (Err e) = None
@@ -115,12 +116,12 @@ list_at (code ∷ rest) = list_by (find_code code) rest
 unfoldable pub described_at : List ℕ → Option (Descriptor × ListAt)
 described_at bytes = descriptor_at bytes >>= λ d. list_at d.1 >>= λ list. Some (d.0, list)
 
--- the fields of a performative of the type, which are all of the items
+-- the fields of a performative of the type, if they are all of the items
 unfoldable pub performative_at : Descriptor → ℕ → List ℕ → Option (List Cell)
 performative_at d left bytes =
     fields_of d >>= λ table. fields_at table left bytes >>= λ read. where_so (read.1 == 0 && (length read.2 == 0)) read.0
 
--- a performative in hand is what is read so
+-- a performative in memory is what is read there
 abbrev pub IsPerformativeAt : Descriptor → ℕ → List ℕ → Option Performative → Type 0
 IsPerformativeAt d left bytes None = performative_at d left bytes ≡ None
 IsPerformativeAt d left bytes (Some p) = (performative_at d left bytes ≡ Some (performative_cells p)) × (type_of p ≡ d)
@@ -132,12 +133,12 @@ body_at bytes =
     performative_at list.0 list.1.count list.1.items >>= λ cells.
     Some (list.0, cells, list.1.behind)
 
--- it is of another type, or none
+-- what is read is of another type, or nothing is read
 abbrev pub IsOfOther : Descriptor → Option (Descriptor × List Cell × List ℕ) → Type 0
 IsOfOther d None = Unit {0}
 IsOfOther d (Some x) = x.0 ≢ d
 
--- why there is none: the value is misspelled or too deep, and else a field is invalid
+-- why there is no performative: the value is misspelled or too deep, or else a field is invalid
 abbrev pub fault_by : Result (List ℕ) ReadFault → BodyFault
 fault_by (Err e) = Decode e
 fault_by (Ok rest) = InvalidField
@@ -145,7 +146,7 @@ fault_by (Ok rest) = InvalidField
 unfoldable pub fault_of : List ℕ → BodyFault
 fault_of bytes = fault_by (after (value_of 32 None bytes))
 
--- what read_body answers of a body
+-- what read_body returns for a body
 abbrev pub IsRead : List ℕ → Result (Performative × ℕ) BodyFault → Type 0
 IsRead bytes (Ok x) = body_at bytes ≡ Some (type_of x.0, performative_cells x.0, drop x.1 bytes)
 IsRead bytes (Err e) = (body_at bytes ≡ None) × (e ≡ fault_of bytes)

@@ -1,4 +1,4 @@
--- What stands in a field, and how it comes from an item. (part 1, section 1.4; part 2, section 2.7)
+-- What a field holds, and how it comes from an item. [1.4, 2.7]
 use Rattle.std.specs.Prelude.{ℕ, ◌==◌, Bool, true, false, nat_le, if◌then◌else◌, List, [], ◌∷◌, Option, Some, None, unwrap_or}
 use Rattle.amqp_types.specs.declared.kind.Kind.TheVariants as kind
 use Rattle.amqp_types.specs.Trees.{Tree, Number, Octets}
@@ -14,20 +14,20 @@ pub data Cell : Type 0 where
   -- the bytes that spell a value of any type
   Span : List ℕ → Cell
 
--- What stands in a field: a number, or none.
+-- the number that a field holds, or none
 abbrev pub number_in : Cell → Option ℕ
 number_in (Whole n) = Some n
 number_in _ = None
 
--- a number that is there, and 0 where it is absent
+-- the number that a field holds; 0 if it is absent
 abbrev pub whole_in : Cell → ℕ
 whole_in c = unwrap_or (number_in c) 0
 
--- a boolean that is there and true
+-- whether a field holds the boolean true
 abbrev pub flag_in : Cell → Bool
 flag_in c = whole_in c == 1
 
--- a span; nothing where it is absent
+-- the span that a field holds; nothing if it is absent
 abbrev pub span_in : Cell → List ℕ
 span_in (Span text) = text
 span_in _ = []
@@ -37,7 +37,7 @@ abbrev pub ◌>>=◌ : {A B : Type 0} → Option A → (A → Option B) → Opti
 (Some x) >>= f = f x
 None >>= f = None
 
--- a value, where it passes
+-- a value, if it passes
 abbrev pub where_so : {A : Type 0} → Bool → A → Option A
 where_so b x = if b then Some x else None
 
@@ -45,7 +45,7 @@ abbrev pub is_null : Tree → Bool
 is_null (Number kind.Null n) = true
 is_null _ = false
 
--- what a value that is not null is to a field of the type, where it is of that type
+-- what a value other than null is in a field of the type, if it is of that type
 abbrev pub value_cell : FieldType → Tree → List ℕ → Option Cell
 value_cell boolean (Number kind.Boolean n) text = Some (Whole n)
 value_cell (ubyte_to most) (Number kind.Ubyte n) text = where_so (nat_le n most) (Whole n)
@@ -57,7 +57,7 @@ value_cell symbol (Octets kind.Symbol octets) text = Some (Bytes octets)
 value_cell spanned t text = Some (Span text)
 value_cell _ _ _ = None
 
--- what an item is to a field of the type: a null is an absent field
+-- what an item is in a field of the type: a null is an absent field
 abbrev pub typed_cell : FieldType → Item → Option Cell
 typed_cell type x = if is_null x.tree then Some Absent else value_cell type x.tree x.text
 
@@ -75,7 +75,7 @@ with_absence absence c = Some c
 abbrev pub field_cell : Field → Item → Option Cell
 field_cell f x = typed_cell f.type x >>= with_absence f.absence
 
--- the fields of a list of items; none where one is wrong, or where there are more items than fields
+-- the fields of a list of items; none if one is wrong, or if there are more items than fields
 abbrev pub cells_of : List Field → List Item → Option (List Cell)
 cells_of [] [] = Some []
 cells_of [] (x ∷ xs) = None

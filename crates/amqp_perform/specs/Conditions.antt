@@ -1,4 +1,4 @@
--- Errors and their conditions. (part 2, sections 2.8.14 to 2.8.18)
+-- Errors and their conditions. [2.8.14 to 2.8.18]
 use Rattle.std.specs.Prelude.{ℕ, Bool, true, false, List, [], ◌∷◌, Option, Some, None, find, codes}
 use Rattle.std.specs.Option.{unwrap_or}
 use Rattle.std.specs.Str.{bytes_eq}
@@ -61,12 +61,12 @@ abbrev pub error_items : Descriptor → ListAt → Option ListAt
 error_items of_type.Error list = Some list
 error_items _ list = None
 
--- the condition that stands first in an error
+-- the condition that comes first in an error
 unfoldable pub condition_of : List ℕ → Condition
 condition_of text =
     unwrap_or (described_at text >>= λ x. error_items x.0 x.1 >>= λ list. typed_at symbol list.count list.items >>= λ read. Some (cell_condition read.0)) condition.Other
 
--- the condition that a value names: a symbol one that is named here, any other value none
+-- the condition that a value names: that of a known symbol, and none for any other value
 abbrev pub tree_condition : Tree → Condition
 tree_condition (Octets kind.Symbol name) = by_name name
 tree_condition _ = condition.Other

@@ -1,4 +1,4 @@
--- What describes the lists that this crate reads and writes. (part 2, sections 2.7 and 2.8.14; part 3, section 3.4)
+-- Descriptors of the lists that this crate reads and writes. [2.7, 2.8.14, 3.4]
 use Rattle.std.specs.Prelude.{ℕ, ◌==◌, List, [], ◌∷◌, Option, None, find, codes}
 use Rattle.std.specs.Str.{bytes_eq}
 use Rattle.amqp_types.specs.declared.kind.Kind.TheVariants as kind

@@ -1,4 +1,4 @@
--- The canonical frame of a performative. (part 2, sections 2.3.1 and 2.7)
+-- The canonical frame of a performative. [2.3.1, 2.7]
 use Rattle.std.specs.Prelude.{◌≡◌, ◌↔◌, ℕ, Bool, false, ◌+◌, ◌^◌, ◌<◌, ◌≤◌, ◌==◌, nat_lt, if◌then◌else◌, List, [], ◌∷◌, ◌++◌, length, take, drop, map, Option, Some, None, IsSome, IfSome, IfNone}
 use Rattle.std.specs.List.{concat}
 use Rattle.std.specs.Option.{unwrap_or}
@@ -33,7 +33,7 @@ kind_of_field string = kind.String
 kind_of_field symbol = kind.Symbol
 kind_of_field spanned = kind.Null
 
--- The canonical spelling of what stands in a field. A span is written as it is, even where it spells its own default or is not
+-- The canonical spelling of what a field holds. A span is written as it is, even if it spells its own default or is not
 -- the shortest.
 abbrev pub cell_text : FieldType → Cell → List ℕ
 cell_text type Absent = null_text
@@ -65,11 +65,11 @@ abbrev pub trimmed : List (List ℕ) → List (List ℕ)
 trimmed [] = []
 trimmed (text ∷ texts) = before_nulls text (trimmed texts)
 
--- the list of items that are spelled so [1.6.22]
+-- the list of items with these spellings [1.6.22]
 abbrev pub list_text : List (List ℕ) → List ℕ
 list_text texts = shortest (shell.List (length texts)) (concat texts)
 
--- a disposition's last is written where it is not the first [2.7.6]
+-- a disposition's last is written if it is not the first [2.7.6]
 abbrev pub last_written : ℕ → Option ℕ → Cell
 last_written first None = Absent
 last_written first (Some last) = if last == first then Absent else Whole last
@@ -86,12 +86,13 @@ written_cells p = performative_cells p
 abbrev pub performative_texts : Performative → List (List ℕ)
 performative_texts p = field_texts (unwrap_or (fields_of (type_of p)) []) (written_cells p)
 
--- bytes behind their size, and the one code for a size of one byte or the other for one of four [1.6.19 to 1.6.21]
+-- bytes after a code and their size: the small code with a size of one byte, or the large one with a size of four [1.6.19 to
+-- 1.6.21]
 abbrev pub octets_text : ℕ → ℕ → List ℕ → List ℕ
 octets_text small large octets =
     if nat_lt (length octets) 256 then small ∷ (big_bytes 1 (length octets) ++ octets) else large ∷ (big_bytes 4 (length octets) ++ octets)
 
--- the spelling of a field in hand
+-- the spelling of a field in memory
 abbrev pub field_spelling : FieldText → List ℕ
 field_spelling value.Null = null_text
 field_spelling (value.Boolean b) = cell_text boolean (flag b)
@@ -109,7 +110,7 @@ field_spellings xs = map field_spelling xs
 abbrev pub number_values : List ℕ → List FieldText
 number_values numbers = map (λ n. value.Uint n) numbers
 
--- new is old with the text put into it at a place
+-- `new` is `old` with the text written over it at a place
 abbrev pub Writes : ℕ → List ℕ → List ℕ → List ℕ → Type 0
 Writes at text old new = new ≡ take at old ++ (text ++ drop (at + length text) old)
 
@@ -117,30 +118,30 @@ Writes at text old new = new ≡ take at old ++ (text ++ drop (at + length text)
 abbrev pub frame_text : ℕ → List ℕ → List ℕ
 frame_text channel body = big_bytes 4 (8 + length body) ++ (2 ∷ 0 ∷ big_bytes 2 channel) ++ body
 
--- the frame header, and what describes the list
+-- the frame header, and the descriptor of the list
 unfoldable pub head_text : ℕ → ℕ → Descriptor → List ℕ
 head_text len channel d = big_bytes 4 len ++ (2 ∷ 0 ∷ big_bytes 2 channel) ++ (0 ∷ 0x53 ∷ code_of d ∷ [])
 
--- what stands in front of the items of a list of so many, which take so many bytes [1.6.22]
+-- what comes before the items of a list of `count` items, which take `content` bytes [1.6.22]
 unfoldable pub list_head : ℕ → ℕ → List ℕ
 list_head count content =
     if count == 0 then 0x45 ∷ []
     else (if nat_lt content 255 then 0xc0 ∷ (big_bytes 1 (1 + content) ++ big_bytes 1 count) else 0xd0 ∷ (big_bytes 4 (4 + content) ++ big_bytes 4 count))
 
--- the list of items that are spelled so, without the nulls at the end, and what describes it [1.4]
+-- the descriptor, and the list of items with these spellings, without the nulls at the end [1.4]
 unfoldable pub described_text : Descriptor → List (List ℕ) → List ℕ
 described_text d texts = 0 ∷ (canonical (Number kind.Ulong (code_of d)) ++ list_text (trimmed texts))
 
--- the frame of such a list with a payload behind it
+-- the frame of such a list with a payload after it
 unfoldable pub list_frame : ℕ → Descriptor → List (List ℕ) → List ℕ → List ℕ
 list_frame channel d texts payload = frame_text channel (described_text d texts ++ payload)
 
--- the text fits these many bytes, and its length four bytes
+-- the text has room in this many bytes, and its length in four
 abbrev pub FitsFrame : List ℕ → ℕ → Type 0
 FitsFrame text room = (length text ≤ room) × (length text < 2 ^ 32)
 
--- What writing the frame over the old bytes answers, and the new ones: its length and the frame at their front where it
--- fits, else nothing and no change.
+-- What writing the frame over the old bytes returns, and the new bytes: its length, and the frame at their front, if it
+-- fits; else nothing and no change.
 pub record IsWritten (frame : List ℕ) (result : Option ℕ) (old new : List ℕ) : Type 0 where
   pub written : IfSome result (λ n. (n ≡ length frame) × (new ≡ frame ++ drop n old))
   pub fits : IsSome result ↔ FitsFrame frame (length old)
@@ -150,6 +151,6 @@ pub record IsWritten (frame : List ℕ) (result : Option ℕ) (old new : List �
 abbrev pub performative_text : Performative → List ℕ
 performative_text p = described_text (type_of p) (performative_texts p)
 
--- the canonical frame of a performative with a payload behind it
+-- the canonical frame of a performative with a payload after it
 abbrev pub frame_of : ℕ → Performative → List ℕ → List ℕ
 frame_of channel p payload = list_frame channel (type_of p) (performative_texts p) payload

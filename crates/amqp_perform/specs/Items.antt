@@ -1,4 +1,4 @@
--- The items of a list, each with the bytes that spell it. (part 1, sections 1.4 and 1.6.22)
+-- The items of a list, each with the bytes that spell it. [1.4, 1.6.22]
 use Rattle.std.specs.Prelude.{◌≡◌, ℕ, ◌⊎◌, List, [], ◌∷◌, ◌++◌, length, Some}
 use Rattle.std.specs.List.{flat_map}
 use Rattle.amqp_types.specs.declared.code.SizeWidth.{SizeWidth}
@@ -32,7 +32,7 @@ SpellsList xs bytes =
     ⊎ ((code : ℕ) × (s : SizeWidth) × (text : List ℕ) × (find_code code ≡ Some (ListIn s)) × (bytes ≡ code ∷ text)
     × SpellsBlock s (length xs) (text_of xs) text × AreSpelled xs)
 
--- the bytes spell the list of these items, described as one of the type [1.2, 1.3]
+-- the bytes spell the list of these items, described as a list of the type [1.2, 1.3]
 abbrev pub SpellsDescribed : Descriptor → List Item → List ℕ → Type 0
 SpellsDescribed d xs bytes =
     (t : Tree) × (first second : List ℕ) × (bytes ≡ 0 ∷ (first ++ second)) × Spells t first × (described_by t ≡ Some d) × SpellsList xs second

@@ -1,4 +1,4 @@
--- Delivery states that are outcomes. (part 3, section 3.4)
+-- Delivery states that are outcomes. [3.4]
 use Rattle.std.specs.Prelude.{ℕ, Bool, true, false, ◌==◌, List, [], ◌∷◌, drop, Option, Some, None}
 use Rattle.std.specs.Option.{option_map_or}
 use Rattle.amqp_types.specs.declared.kind.Kind.TheVariants as kind
@@ -20,7 +20,7 @@ true_tree = Number kind.Boolean 1
 abbrev pub null_tree : Tree
 null_tree = Number kind.Null 0
 
--- the fields delivery-failed and undeliverable-here, of which a false one is absent [3.4.5]
+-- the fields delivery-failed and undeliverable-here; a false one is absent [3.4.5]
 abbrev pub flag_trees : Bool → Bool → Trees
 flag_trees false false = none
 flag_trees true false = more true_tree none
@@ -39,11 +39,11 @@ outcome_span (outcome.Modified failed undeliverable) = state_text of_type.Modifi
 abbrev pub is_true : Option (Cell × ℕ × List ℕ) → Bool
 is_true read = option_map_or (λ (x : Cell × ℕ × List ℕ). flag_in x.0) read false
 
--- whether the next of so many items is a boolean that is true
+-- whether the next item, of this many, is a boolean that is true
 unfoldable pub true_at : ℕ → List ℕ → Bool
 true_at left bytes = is_true (typed_at boolean left bytes)
 
--- whether the one behind it is
+-- whether the item after it is a boolean that is true
 unfoldable pub second_true : ℕ → List ℕ → Bool
 second_true left bytes = option_map_or (λ (x : Cell × ℕ × List ℕ). true_at x.1 x.2) (typed_at spanned left bytes) false
 
@@ -58,7 +58,7 @@ outcome_by of_type.Released rest = Some outcome.Released
 outcome_by of_type.Modified rest = Some (modified_by (list_at rest))
 outcome_by _ rest = None
 
--- the outcome that a state is, by what describes it
+-- the outcome of a state, by its descriptor
 unfoldable pub outcome_of : List ℕ → Option Outcome
 outcome_of text = descriptor_at text >>= λ x. outcome_by x.0 x.1
 
@@ -67,12 +67,12 @@ abbrev pub is_true_tree : Tree → Bool
 is_true_tree (Number kind.Boolean n) = n == 1
 is_true_tree _ = false
 
--- whether the first of these items is
+-- whether the first of these items is the boolean true
 abbrev pub first_is_true : List Item → Bool
 first_is_true [] = false
 first_is_true (x ∷ xs) = is_true_tree x.tree
 
--- the outcome that a list of these items is, described as of the type [3.4]
+-- the outcome of a list of these items, described as of the type [3.4]
 abbrev pub outcome_in : Descriptor → List Item → Option Outcome
 outcome_in of_type.Accepted xs = Some outcome.Accepted
 outcome_in of_type.Rejected xs = Some outcome.Rejected

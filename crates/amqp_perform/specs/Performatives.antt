@@ -1,4 +1,4 @@
--- The fields of a performative in hand, in the order of its table, without where they lie in memory. (part 2, section 2.7)
+-- The fields of a performative in memory, in the order of its table, without where they lie. [2.7]
 use Rattle.std.specs.Prelude.{ℕ, Bool, true, false, if◌then◌else◌, List, [], ◌∷◌, Option}
 use Rattle.amqp_perform.specs.declared.descriptor.Descriptor.{Descriptor}
 use Rattle.amqp_perform.specs.declared.descriptor.Descriptor.TheVariants as of_type
@@ -99,7 +99,7 @@ end_cells p = span p.error.now ∷ []
 abbrev pub close_cells : Close → List Cell
 close_cells p = span p.error.now ∷ []
 
--- which one it is
+-- which performative it is
 abbrev pub type_of : Performative → Descriptor
 type_of (performative.Open p) = of_type.Open
 type_of (performative.Begin p) = of_type.Begin

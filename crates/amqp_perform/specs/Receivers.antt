@@ -1,4 +1,4 @@
--- What a receiver that sends nothing says of its deliveries and its links. (part 2, section 2.7)
+-- What a receiver that sends nothing says of its deliveries and its links. [2.7]
 use Rattle.std.specs.Prelude.{ℕ, Bool, false, nat_eq, if◌then◌else◌, List, [], ◌∷◌}
 use Rattle.amqp_perform.specs.declared.descriptor.Descriptor.TheVariants as of_type
 use Rattle.amqp_perform.specs.declared.modes.Role.TheVariants as of_role
@@ -20,7 +20,7 @@ state_said first last settled state = record {
   cells = role of_role.Receiver ∷ Whole first ∷ last_stated first last ∷ flag settled ∷ span state ∷ Absent ∷ [];
 }
 
--- what became of them [3.4]
+-- what became of the deliveries with the ids from the first to the last [3.4]
 abbrev pub disposition_said : ℕ → ℕ → Bool → Outcome → Said
 disposition_said first last settled outcome = state_said first last settled (outcome_span outcome)
 
@@ -31,6 +31,6 @@ link_flow_said next_id window handle count credit drain = record {
   cells = Whole next_id ∷ Whole window ∷ Whole 0 ∷ Whole 0 ∷ Whole handle ∷ Whole count ∷ Whole credit ∷ Absent ∷ flag drain ∷ flag false ∷ Absent ∷ [];
 }
 
--- the same, by what was stated
+-- the flow of a link, by what was stated
 abbrev pub stated_said : LinkFlow → Said
 stated_said f = link_flow_said f.next_incoming_id f.incoming_window f.handle f.delivery_count f.link_credit f.drain

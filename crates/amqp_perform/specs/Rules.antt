@@ -1,4 +1,4 @@
--- What may stand in the fields of a table, whatever it is. (part 1, section 1.4; part 2, section 2.7)
+-- What the fields of a table may hold, whatever the table is. [1.4, 2.7]
 use Rattle.std.specs.Prelude.{◌≡◌, ℕ, ◌⊎◌, Bool, true, false, not, ◌&&◌, if◌then◌else◌, is_some, List, [], ◌∷◌, Option, Some}
 use Rattle.amqp_perform.specs.declared.rules.FieldType.TheVariants as in_code
 use Rattle.amqp_perform.specs.declared.rules.FieldType.{FieldType as DeclaredType}
@@ -17,11 +17,11 @@ abbrev pub is_mandatory : Absence → Bool
 is_mandatory mandatory = true
 is_mandatory _ = false
 
--- of a field of a table
+-- what a field of a table may be, and whether it has to be there
 abbrev pub asked_of : Field → Asked
 asked_of f = (f.type, is_mandatory f.absence)
 
--- of one in the code
+-- the type that a field in the code may be
 abbrev pub type_in : DeclaredType → FieldType
 type_in in_code.Boolean = boolean
 type_in in_code.SenderSettleMode = sender_settle_mode
@@ -46,15 +46,15 @@ abbrev pub is_there : Cell → Bool
 is_there Absent = false
 is_there _ = true
 
--- whether the value in front, which is of the type, is there, and what follows it
+-- whether the value at the front, which is of the type, is there, and what follows it
 abbrev pub there_at : FieldType → List ℕ → Option (Bool × List ℕ)
 there_at type bytes = typed_at type 1 bytes >>= λ read. Some (is_there read.0, read.2)
 
--- whether an item may stand in such a field
+-- whether such a field may hold an item
 abbrev pub may_be : Asked → Item → Bool
 may_be asked x = if is_null x.tree then not asked.1 else is_some (value_cell asked.0 x.tree x.text)
 
--- whether these items may stand in such fields, one after the other, with no item left
+-- whether such fields may hold these items, one after the other, with no item left
 abbrev pub may_be_all : List Asked → List Item → Bool
 may_be_all [] [] = true
 may_be_all [] (x ∷ xs) = false

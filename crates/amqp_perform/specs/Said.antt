@@ -1,4 +1,4 @@
--- A performative by what stands in its fields, without where it lies in memory, and its canonical frame. (part 2, sections 2.3.1 and 2.7)
+-- A performative by what its fields hold, without where it lies in memory, and its canonical frame. [2.3.1, 2.7]
 use Rattle.std.specs.Prelude.{◌≡◌, ℕ, List, [], Some}
 use Rattle.std.specs.Option.{unwrap_or}
 use Rattle.amqp_perform.specs.declared.descriptor.Descriptor.{Descriptor}
@@ -13,7 +13,7 @@ pub record Said : Type 0 where
   pub type : Descriptor
   pub cells : List Cell
 
--- what is written for a performative in hand
+-- what is written for a performative in memory
 abbrev pub said : Performative → Said
 said p = record { type = type_of p; cells = written_cells p }
 
@@ -25,7 +25,7 @@ said_texts s = field_texts (unwrap_or (fields_of s.type) []) s.cells
 abbrev pub said_text : Said → List ℕ
 said_text s = described_text s.type (said_texts s)
 
--- its canonical frame with a payload behind it
+-- its canonical frame with a payload after it
 abbrev pub said_frame : ℕ → Said → List ℕ → List ℕ
 said_frame channel s payload = list_frame channel s.type (said_texts s) payload
 

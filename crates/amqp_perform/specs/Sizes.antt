@@ -1,4 +1,5 @@
--- What stands behind a constructor's code: data of its width, or a size in front of them. [1.2]
+-- What follows a constructor's code: data of its width, or a size and the data that it counts.
+-- [1.2]
 use Rattle.std.specs.Prelude.{ℕ, List, Option}
 use Rattle.amqp_types.specs.declared.code.Constructor.{Constructor}
 use Rattle.amqp_types.specs.declared.code.Constructor.TheVariants.{Variable, EmptyList, ListIn, MapIn, ArrayIn}
@@ -11,7 +12,7 @@ use Rattle.amqp_perform.specs.BodyReading.{octets_at, short_at, long_at}
 use Rattle.amqp_perform.specs.declared.sizes.Data.{Data}
 use Rattle.amqp_perform.specs.declared.sizes.Data.TheVariants.{Fixed, Short, Long}
 
--- as many bytes as a size of this width says
+-- the data with a size of this width
 abbrev pub sized_data : SizeWidth → Data
 sized_data size.One = Short
 sized_data size.Four = Long
@@ -24,7 +25,7 @@ data_of (ListIn s) = sized_data s
 data_of (MapIn s) = sized_data s
 data_of (ArrayIn s) = sized_data s
 
--- the data in front, and what is behind them
+-- the data at the front, and what follows them
 abbrev pub data_at : Data → List ℕ → Option (List ℕ × List ℕ)
 data_at (Fixed n) bytes = octets_at n bytes
 data_at Short bytes = short_at bytes

@@ -1,4 +1,4 @@
--- The fields of each performative, in order, as the standard's tables have them. (part 2, section 2.7)
+-- The fields of each performative, in order, as in the standard's tables. [2.7]
 use Rattle.std.specs.Prelude.{ℕ, List, [], ◌∷◌, Option, Some, None, codes}
 use Rattle.amqp_perform.specs.declared.descriptor.Descriptor.{Descriptor}
 use Rattle.amqp_perform.specs.declared.descriptor.Descriptor.TheVariants as of_type
@@ -17,7 +17,7 @@ pub data FieldType : Type 0 where
   -- a value of any type, which is only known to be well spelled
   spanned : FieldType
 
--- What an absent field is: a null, or one behind the last item. [1.4]
+-- What an absent field is. A field is absent if it is a null, or comes after the last item. [1.4]
 pub data Absence : Type 0 where
   -- a fault
   mandatory : Absence
@@ -44,7 +44,7 @@ sender_settle_mode = ubyte_to 2
 abbrev pub receiver_settle_mode : FieldType
 receiver_settle_mode = ubyte_to 1
 
--- Fields of which this side makes no use are of any type: hostname, idle-time-out, locales, capabilities,
+-- Fields that this side does not use are of any type: hostname, idle-time-out, locales, capabilities,
 -- properties, unsettled, incomplete-unsettled, max-message-size, batchable. So are source, target, state and
 -- error, which are kept as bytes.
 
@@ -154,7 +154,7 @@ end_fields = field (codes "error") spanned optional ∷ []
 abbrev pub close_fields : List Field
 close_fields = field (codes "error") spanned optional ∷ []
 
--- the fields of a list that is described so, where it is a performative
+-- the fields of a list with this descriptor, if it is a performative
 abbrev pub fields_of : Descriptor → Option (List Field)
 fields_of of_type.Open = Some open_fields
 fields_of of_type.Begin = Some begin_fields

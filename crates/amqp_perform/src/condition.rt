@@ -38,7 +38,7 @@ pub enum Condition {
     Other,
 }
 
-/// Those that have a name.
+/// The conditions that have a name.
 const NAMED: [Condition; 12] = [
     Condition::FramingError,
     Condition::DecodeError,
@@ -58,7 +58,8 @@ impl Condition {
     ghost use Rattle.std.specs.Prelude.{◌≡◌};
     ghost use Rattle.amqp_perform.specs.Conditions.{name_of, condition_span, found_by_name, condition_of};
 
-    /// The canonical spelling of an error with this condition and nothing more; empty for `Other`. [2.8.14]
+    /// Returns the canonical spelling of an error with this condition and nothing more; empty for `Other`.
+    /// [2.8.14]
     #[tactic(auto, unfolding(crate::specs::Conditions::condition_span))]
     pub fn span(self) -> &'static [u8]
         ensures { result.now ≡ condition_span self }
@@ -94,9 +95,11 @@ impl Condition {
         }
     }
 
-    /// The condition that an error names: the symbol that stands first in a list described as an error. What
-    /// stands behind that field is not looked at. `Other` where there is no such list, or the first field is
-    /// another symbol, of another type or absent. [2.8.14]
+    /// Returns the condition that an error names: the symbol in the first field of a list described as an
+    /// error. [2.8.14]
+    ///
+    /// What follows that field is not looked at. Returns `Other` if there is no such list, or if the first
+    /// field is another symbol, of another type or absent.
     pub fn of(span: &[u8]) -> Condition
         ensures { result ≡ condition_of span.now }
     {
@@ -116,14 +119,14 @@ impl Condition {
             .find(|condition| condition.name() == name)
     }
 
-    /// The symbol of the condition; empty for `Other`.
+    /// Returns the symbol of the condition; empty for `Other`.
     pub fn name(self) -> &'static [u8]
         ensures { result.now ≡ name_of self }
     {
         self.text().as_bytes()
     }
 
-    /// The same as a text.
+    /// Returns the symbol of the condition as a text; empty for `Other`.
     fn text(self) -> &'static str
         ensures { result.now ≡ name_of self }
     {
@@ -145,7 +148,7 @@ impl Condition {
     }
 }
 
-/// The symbol of the condition; nothing for `Other`.
+/// Writes the symbol of the condition; nothing for `Other`.
 impl Display for Condition {
     ghost use Rattle.amqp_perform.specs.Conditions.{name_of};
 
@@ -156,7 +159,7 @@ impl Display for Condition {
     }
 }
 
-/// The symbol in the first field of an error.
+/// Returns the symbol in the first field of an error.
 #[tactic(auto, unfolding(crate::specs::Conditions::condition_of))]
 fn condition_name(span: &[u8]) -> Option<&[u8]>
     ensures { MatchOption result (condition_of span.now ≡ Condition.Other) (λ name. condition_of span.now ≡ by_name name.now) }

@@ -3,7 +3,7 @@
 use crate::descriptor::Descriptor;
 use byteorder::{BigEndian, ByteOrder};
 
-/// What is left of some bytes. Each call takes what it answers; after a `None` what is left is of no use.
+/// The bytes that are left to read. Each call takes what it returns; after a `None` they mean nothing.
 #[derive(Clone, Copy)]
 pub struct Cursor<'a> {
     pub bytes: &'a [u8],
@@ -13,7 +13,7 @@ impl<'a> Cursor<'a> {
     ghost use Rattle.std.specs.Prelude.{◌≡◌, MatchOption, None, Some};
     ghost use Rattle.amqp_perform.specs.BodyReading.{Takes, byte_at, octets_at, word_at, short_at, long_at, descriptor_at, list_at};
 
-    /// The next byte.
+    /// Takes the next byte.
     #[inline(always)]
     pub fn byte(&mut self) -> Option<u8>
         ensures { Takes (λ b. b) result self.new.bytes.now (byte_at self.old.bytes.now) }
@@ -23,7 +23,7 @@ impl<'a> Cursor<'a> {
         Some(*first)
     }
 
-    /// The next `n` bytes.
+    /// Takes the next `n` bytes.
     #[inline(always)]
     pub fn octets(&mut self, n: usize) -> Option<&'a [u8]>
         ensures { Takes (λ s. s.now) result self.new.bytes.now (octets_at n self.old.bytes.now) }
@@ -33,7 +33,7 @@ impl<'a> Cursor<'a> {
         Some(octets)
     }
 
-    /// The number in the next four bytes.
+    /// Takes the number in the next four bytes.
     #[inline(always)]
     pub fn word(&mut self) -> Option<u32>
         ensures { Takes (λ n. n) result self.new.bytes.now (word_at self.old.bytes.now) }
@@ -41,7 +41,7 @@ impl<'a> Cursor<'a> {
         Some(BigEndian::read_u32(self.octets(4)?))
     }
 
-    /// As many bytes as the size in front of them says, which takes one byte. [1.2.2]
+    /// Takes a size of one byte and as many bytes as it says, and returns those. [1.2.2]
     #[inline(always)]
     pub fn short(&mut self) -> Option<&'a [u8]>
         ensures { Takes (λ s. s.now) result self.new.bytes.now (short_at self.old.bytes.now) }
@@ -50,7 +50,7 @@ impl<'a> Cursor<'a> {
         self.octets(len as usize)
     }
 
-    /// As many bytes as the size in front of them says, which takes four bytes. [1.2.2]
+    /// Takes a size of four bytes and as many bytes as it says, and returns those. [1.2.2]
     pub fn long(&mut self) -> Option<&'a [u8]>
         ensures { Takes (λ s. s.now) result self.new.bytes.now (long_at self.old.bytes.now) }
     {
@@ -58,7 +58,7 @@ impl<'a> Cursor<'a> {
         self.octets(len as usize)
     }
 
-    /// `00` and a descriptor: a ulong in any form or a symbol. [1.2; 1.3]
+    /// Takes `00` and a descriptor: a ulong in any form or a symbol. [1.2; 1.3]
     #[tactic(auto, using(crate::proofs::Describing::descriptor_is))]
     #[inline(always)]
     pub fn descriptor(&mut self) -> Option<Descriptor>
@@ -76,7 +76,7 @@ impl<'a> Cursor<'a> {
         }
     }
 
-    /// A list: how many items it has, and the bytes that spell them. [1.6.22]
+    /// Takes a list; returns how many items it has, and the bytes that spell them. [1.6.22]
     #[tactic(auto, using(crate::proofs::Lists::list_is))]
     #[inline(always)]
     pub fn list(&mut self) -> Option<(usize, &'a [u8])>

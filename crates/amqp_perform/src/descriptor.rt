@@ -1,6 +1,6 @@
-//! What describes the lists that this crate reads. [1.3; 2.7; 2.8.14; 3.4]
+//! Descriptors of the lists that this crate reads. [1.3; 2.7; 2.8.14; 3.4]
 
-/// A composite type, by which a list is described.
+/// A composite type that describes a list.
 #[derive(Clone, Copy, Debug, PartialEq, Eq)]
 pub enum Descriptor {
     Open,
@@ -19,7 +19,7 @@ pub enum Descriptor {
     Modified,
 }
 
-/// All of them.
+/// All descriptors.
 const DESCRIPTORS: [Descriptor; 14] = [
     Descriptor::Open,
     Descriptor::Begin,
@@ -41,7 +41,7 @@ impl Descriptor {
     ghost use Rattle.std.specs.Prelude.{◌≡◌};
     ghost use Rattle.amqp_perform.specs.Descriptors.{code_of, symbol_of, by_code, by_symbol};
 
-    /// The type that this number describes; `None` for any other [2.7, 2.8.14, 3.4].
+    /// Returns the type that this number describes; `None` for any other [2.7, 2.8.14, 3.4].
     #[tactic(auto, unfolding(crate::specs::Descriptors::by_code))]
     pub fn of_code(code: u64) -> Option<Descriptor>
         ensures { result ≡ by_code code }
@@ -66,7 +66,7 @@ impl Descriptor {
         Some(descriptor)
     }
 
-    /// The type that this symbol describes; `None` for any other [2.7, 2.8.14, 3.4].
+    /// Returns the type that this symbol describes; `None` for any other [2.7, 2.8.14, 3.4].
     #[tactic(auto, unfolding(crate::specs::Descriptors::by_symbol))]
     pub fn of_symbol(symbol: &[u8]) -> Option<Descriptor>
         ensures { result ≡ by_symbol symbol.now }
@@ -77,7 +77,8 @@ impl Descriptor {
             .find(|descriptor| descriptor.symbol() == symbol)
     }
 
-    /// The name of the performative that it describes; `None` for an error and a delivery state. [2.7]
+    /// Returns the name of the performative that it describes; `None` for an error and a delivery
+    /// state. [2.7]
     pub fn performative_name(self) -> Option<&'static str> {
         match self {
             Descriptor::Open => Some("open"),
@@ -93,7 +94,7 @@ impl Descriptor {
         }
     }
 
-    /// The symbol that describes the type.
+    /// Returns the symbol that describes the type.
     fn symbol(self) -> &'static [u8]
         ensures { result.now ≡ symbol_of self }
     {
@@ -115,7 +116,7 @@ impl Descriptor {
         }
     }
 
-    /// The number that describes the type.
+    /// Returns the number that describes the type.
     pub fn code(self) -> u8
         ensures { result ≡ code_of self }
     {

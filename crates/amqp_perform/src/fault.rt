@@ -9,6 +9,6 @@ pub enum BodyFault {
     /// `InvalidField`.
     Decode(ReadFault),
     /// The value is no performative: no list described as one of the nine, a mandatory field absent, a field
-    /// of another type than its own or outside its range, or too many fields.
+    /// of a wrong type or outside its range, or too many fields.
     InvalidField,
 }

@@ -32,7 +32,7 @@ impl<'a> FieldText<'a> {
     ghost use Rattle.amqp_perform.specs.Tables.{boolean, ubyte_to, ushort, uint, binary, spanned};
     ghost use Rattle.amqp_perform.specs.Tables as absence;
 
-    /// A value that is spelled already; an empty span is an absent field.
+    /// Makes the text of a value that is spelled already; an empty span is an absent field.
     pub fn span(text: &'a [u8]) -> FieldText<'a>
         ensures { field_spelling result ≡ cell_text spanned (span text.now) }
     {
@@ -43,7 +43,7 @@ impl<'a> FieldText<'a> {
         }
     }
 
-    /// A boolean that is false by default.
+    /// Makes the text of a boolean that is false by default.
     pub fn flag(value: bool) -> FieldText<'a>
         ensures { field_spelling result ≡ written_text boolean (absence.default 0) (flag value) }
     {
@@ -120,7 +120,7 @@ impl<'a> FieldText<'a> {
         }
     }
 
-    /// Whether it is spelled as null.
+    /// Returns whether it is spelled as null.
     pub fn is_null(&self) -> bool
         ensures { result ≡ bytes_eq (field_spelling self.now) null_text }
     {
@@ -131,7 +131,7 @@ impl<'a> FieldText<'a> {
         }
     }
 
-    /// How many bytes spell it.
+    /// Returns how many bytes spell it.
     #[inline(always)]
     pub fn width(&self) -> usize
         ensures { result ≡ length (field_spelling self.now) }
@@ -147,7 +147,7 @@ impl<'a> FieldText<'a> {
         }
     }
 
-    /// Writes it at `at`, and answers the place behind it.
+    /// Writes it at `at`, and returns the place after it.
     #[inline(always)]
     pub fn write(&self, out: &mut [u8], at: usize) -> usize
         requires { at + length (field_spelling self.now) ≤ length out.old }
@@ -170,7 +170,7 @@ impl<'a> FieldText<'a> {
     }
 }
 
-/// How many bytes spell a uint. [1.6.7]
+/// Returns how many bytes spell a uint. [1.6.5]
 #[inline(always)]
 fn uint_width(number: u32) -> usize
     ensures { result ≡ length (canonical (Number Kind.Uint number)) }
@@ -182,7 +182,7 @@ fn uint_width(number: u32) -> usize
     }
 }
 
-/// Writes a uint at `at`, and answers the place behind it. [1.6.7]
+/// Writes a uint at `at`, and returns the place after it. [1.6.5]
 #[inline(always)]
 pub fn put_uint(out: &mut [u8], at: usize, number: u32) -> usize
     requires { at + length (canonical (Number Kind.Uint number)) ≤ length out.old }
@@ -196,7 +196,7 @@ pub fn put_uint(out: &mut [u8], at: usize, number: u32) -> usize
     }
 }
 
-/// How many bytes spell a binary or a string. [1.6.19; 1.6.20]
+/// Returns how many bytes spell a binary or a string. [1.6.19; 1.6.20]
 fn octets_width(octets: &[u8]) -> usize
     ensures binary { result ≡ length (canonical (Octets Kind.Binary octets.now)) }
     ensures string { result ≡ length (canonical (Octets Kind.String octets.now)) }
@@ -205,9 +205,10 @@ fn octets_width(octets: &[u8]) -> usize
     if len < 256 { 2 + len } else { 5 + len }
 }
 
-/// Writes a code, a size and the bytes at `at`, and answers the place behind them: the first code with a size of
-/// one byte, where that is enough, else the second with a size of four. Where even that isn't enough, it says too
-/// little, but no frame has room for the bytes. [1.6.19; 1.6.20]
+/// Writes a code, a size and the bytes at `at`, and returns the place after them. [1.6.19; 1.6.20]
+///
+/// It is the first code with a size of one byte if that is enough, and else the second with a size of four. If
+/// even that is not enough, the size written is too small, but no frame has room for the bytes.
 fn put_octets(out: &mut [u8], at: usize, small: u8, large: u8, octets: &[u8]) -> usize
     requires { at + length (octets_text small large octets.now) ≤ length out.old }
     ensures behind { result ≡ at + length (octets_text small large octets.now) }
@@ -222,7 +223,7 @@ fn put_octets(out: &mut [u8], at: usize, small: u8, large: u8, octets: &[u8]) ->
     }
 }
 
-/// Puts the bytes into `out` at `at`, and answers the place behind them.
+/// Writes the bytes into `out` at `at`, and returns the place after them.
 #[inline(always)]
 pub fn put(out: &mut [u8], at: usize, bytes: &[u8]) -> usize
     requires { at + length bytes.now ≤ length out.old }
@@ -234,7 +235,7 @@ pub fn put(out: &mut [u8], at: usize, bytes: &[u8]) -> usize
     end
 }
 
-/// Puts some bytes into `out` at `at` and others behind them, and answers the place behind both.
+/// Writes some bytes into `out` at `at` and others after them, and returns the place after both.
 #[inline(always)]
 pub fn put_both(out: &mut [u8], at: usize, first: &[u8], second: &[u8]) -> usize
     requires { at + length first.now + length second.now ≤ length out.old }

@@ -12,14 +12,14 @@ use byteorder::{BigEndian, ByteOrder};
 /// How many levels of lists, maps, arrays and described values a body may have.
 pub const DEPTH: usize = 32;
 
-/// How many of them the value of a field may have: the described value and its list stand around it.
+/// How many levels the value of a field may have; the described value and its list take the other two.
 pub const FIELD_DEPTH: usize = DEPTH - 2;
 
 /// The code of null.
 pub const NULL: u8 = 0x40;
 
 /// The items of a list that are left. A reader takes the next one; `None` says that it is not of the reader's
-/// type, and what is left is then of no use. `Some(None)` is an absent field: a null, or no item left.
+/// type, and what is left then means nothing. `Some(None)` is an absent field: a null, or no item left.
 #[derive(Clone, Copy)]
 pub struct Fields<'a> {
     left: usize,
@@ -34,7 +34,7 @@ impl<'a> Fields<'a> {
     ghost use Rattle.amqp_perform.specs.BodyReading.{TakesFrom, code_at, typed_at, value_at};
     ghost use Rattle.amqp_perform.specs.Tables.{boolean, ubyte_to, sender_settle_mode, receiver_settle_mode, ushort, uint, binary, string, symbol, spanned, default};
 
-    /// So many items, which these bytes spell.
+    /// Makes the fields of a list with `count` items, which these bytes spell.
     pub fn of(count: usize, items: &'a [u8]) -> Fields<'a>
         ensures count { result.left ≡ count }
         ensures items { result.items.bytes.now ≡ items.now }
@@ -45,7 +45,7 @@ impl<'a> Fields<'a> {
         }
     }
 
-    /// How many are left, and the bytes that spell them.
+    /// Returns how many items are left, and the bytes that spell them.
     pub fn parts(&self) -> (usize, &'a [u8])
         ensures count { result.0 ≡ self.now.left }
         ensures items { result.1.now ≡ self.now.items.bytes.now }
@@ -53,21 +53,21 @@ impl<'a> Fields<'a> {
         (self.left, self.items.bytes)
     }
 
-    /// Whether all items were taken.
+    /// Returns whether all items were taken.
     pub fn is_empty(&self) -> bool
         ensures { result ≡ (self.now.left == 0) }
     {
         self.left == 0
     }
 
-    /// Whether all items were taken, and no byte is left behind them.
+    /// Returns whether all items were taken, and no byte is left after them.
     pub fn ended(&self) -> bool
         ensures { result ≡ (self.now.left == 0 && (length self.now.items.bytes.now == 0)) }
     {
         self.left == 0 && self.items.bytes.is_empty()
     }
 
-    /// The code of the next item; that of null where none is left.
+    /// Takes the code of the next item; returns that of null if no item is left.
     #[inline(always)]
     fn code(&mut self) -> Option<u8>
         ensures { TakesFrom (λ code. code) code_at self.old self.new result }
@@ -79,7 +79,7 @@ impl<'a> Fields<'a> {
         self.items.byte()
     }
 
-    /// A boolean. [1.6.2]
+    /// Takes a boolean. [1.6.2]
     #[tactic(auto, using(crate::proofs::Readers::boolean_is))]
     #[inline(always)]
     pub fn boolean(&mut self) -> Option<Option<bool>>
@@ -98,7 +98,7 @@ impl<'a> Fields<'a> {
         }
     }
 
-    /// A boolean that is false by default.
+    /// Takes a boolean that is false by default.
     #[inline(always)]
     pub fn flag(&mut self) -> Option<bool>
         ensures { TakesFrom flag (value_at boolean (default 0)) self.old self.new result }
@@ -106,7 +106,7 @@ impl<'a> Fields<'a> {
         Some(self.boolean()?.unwrap_or(false))
     }
 
-    /// A ubyte of at most `most`. [1.6.3]
+    /// Takes a ubyte of at most `most`. [1.6.3]
     #[tactic(auto, using(crate::proofs::Readers::ubyte_is))]
     #[inline(always)]
     fn ubyte(&mut self, most: u8) -> Option<Option<u8>>
@@ -127,14 +127,14 @@ impl<'a> Fields<'a> {
         }
     }
 
-    /// A role. [2.8.1]
+    /// Takes a role. [2.8.1]
     pub fn role(&mut self) -> Option<Option<Role>>
         ensures { TakesFrom (λ r. optional_flag (option_map is_receiver r)) (typed_at boolean) self.old self.new result }
     {
         Some(self.boolean()?.map(Role::of))
     }
 
-    /// A sender's settle mode. [2.8.2]
+    /// Takes a sender's settle mode. [2.8.2]
     pub fn sender_mode(&mut self) -> Option<Option<SenderSettleMode>>
         ensures { TakesFrom (λ m. optional_whole (option_map sender_mode m)) (typed_at sender_settle_mode) self.old self.new result }
     {
@@ -144,7 +144,7 @@ impl<'a> Fields<'a> {
         }
     }
 
-    /// A receiver's settle mode. [2.8.3]
+    /// Takes a receiver's settle mode. [2.8.3]
     #[inline(always)]
     pub fn receiver_mode(&mut self) -> Option<Option<ReceiverSettleMode>>
         ensures { TakesFrom (λ m. optional_whole (option_map receiver_mode m)) (typed_at receiver_settle_mode) self.old self.new result }
@@ -155,7 +155,7 @@ impl<'a> Fields<'a> {
         }
     }
 
-    /// A ushort. [1.6.4]
+    /// Takes a ushort. [1.6.4]
     #[tactic(auto, using(crate::proofs::Readers::ushort_is))]
     pub fn ushort(&mut self) -> Option<Option<u16>>
         ensures { TakesFrom optional_whole (typed_at ushort) self.old self.new result }
@@ -167,7 +167,7 @@ impl<'a> Fields<'a> {
         }
     }
 
-    /// A uint. [1.6.5]
+    /// Takes a uint. [1.6.5]
     #[tactic(auto, using(crate::proofs::Readers::uint_is))]
     #[inline(always)]
     pub fn uint(&mut self) -> Option<Option<u32>>
@@ -182,7 +182,7 @@ impl<'a> Fields<'a> {
         }
     }
 
-    /// A binary. [1.6.19]
+    /// Takes a binary. [1.6.19]
     #[tactic(auto, using(crate::proofs::Readers::binary_is))]
     #[inline(always)]
     pub fn binary(&mut self) -> Option<Option<&'a [u8]>>
@@ -196,7 +196,7 @@ impl<'a> Fields<'a> {
         }
     }
 
-    /// A string. [1.6.20]
+    /// Takes a string. [1.6.20]
     #[tactic(auto, using(crate::proofs::Readers::string_is))]
     pub fn text(&mut self) -> Option<Option<&'a str>>
         ensures { TakesFrom (λ s. optional_bytes (option_copied s)) (typed_at string) self.old self.new result }
@@ -213,7 +213,7 @@ impl<'a> Fields<'a> {
         }
     }
 
-    /// A symbol. [1.6.21]
+    /// Takes a symbol. [1.6.21]
     #[tactic(auto, using(crate::proofs::Readers::symbol_is))]
     pub fn symbol(&mut self) -> Option<Option<&'a [u8]>>
         ensures { TakesFrom (λ s. optional_bytes (option_copied s)) (typed_at symbol) self.old self.new result }
@@ -231,7 +231,7 @@ impl<'a> Fields<'a> {
         }
     }
 
-    /// A value of any type, as the bytes that spell it; none where the field is absent.
+    /// Takes a value of any type, and returns the bytes that spell it; none if the field is absent.
     #[tactic(auto, unfolding(crate::specs::BodyReading::typed_at))]
     #[inline(always)]
     pub fn span(&mut self) -> Option<&'a [u8]>
@@ -250,7 +250,8 @@ impl<'a> Fields<'a> {
         }
     }
 
-    /// Whether the next item is true, which is not taken. One of another type is not, nor is an absent one.
+    /// Returns whether the next item is true, without taking it. An absent item, or one of another type, is
+    /// not.
     #[tactic(auto, unfolding(crate::specs::Outcomes::true_at))]
     pub fn is_true(mut self) -> bool
         ensures { result ≡ true_at self.entry.left self.entry.items.bytes.now }
@@ -262,16 +263,16 @@ impl<'a> Fields<'a> {
     }
 }
 
-/// A described list: what describes it, and its items.
+/// A described list: its descriptor and its items.
 #[derive(Clone, Copy)]
 pub struct DescribedList<'a> {
     pub descriptor: Descriptor,
     pub fields: Fields<'a>,
-    /// What follows it.
+    /// The bytes that follow it.
     pub rest: &'a [u8],
 }
 
-/// The described list that the bytes begin with, where what describes it is known.
+/// Returns the described list that the bytes begin with, if its descriptor is known.
 #[tactic(auto, using(crate::proofs::Fronts::usual_front))]
 #[inline(always)]
 pub fn described_list(bytes: &[u8]) -> Option<DescribedList<'_>>
@@ -293,7 +294,7 @@ pub fn described_list(bytes: &[u8]) -> Option<DescribedList<'_>>
     }
 }
 
-/// [`described_list`] of any spelling.
+/// Does what [`described_list`] does, for any spelling.
 #[tactic(auto, unfolding(crate::specs::BodyReading::described_at))]
 #[inline(never)]
 fn any_described_list(bytes: &[u8]) -> Option<DescribedList<'_>>

@@ -1,4 +1,4 @@
-//! Laws of bodies and of written frames: calls without effect, whose contracts are the laws.
+//! Laws of bodies and of written frames. Each function does nothing: its contract is the law.
 
 ghost use Rattle.std.specs.Prelude.{◌≡◌, ℕ, ◌+◌, ◌^◌, ◌<◌, ◌≤◌, List, [], ◌∷◌, ◌++◌, length, slice_index, false, Some, None};
 ghost use Rattle.std.specs.List.{concat};
@@ -22,7 +22,7 @@ ghost use Rattle.amqp_perform.specs.BodyReading.{body_at, fault_of};
 ghost use Rattle.amqp_perform.specs.Said.{Said, said, said_texts, said_text, said_frame, MayBeSaid};
 ghost use Rattle.amqp_perform.specs.Tables.{FieldType, uint, Field, fields_of};
 
-/// Reading is the grammar's: a body is read as a performative and a payload exactly if it says them. [2.7]
+/// Reading follows the grammar: a body is read as a performative and a payload exactly if it says them. [2.7]
 pub fn reading_is_exact()
     ensures found { (bytes : List ℕ) (d : Descriptor) (cells : List Cell) (payload : List ℕ) → ((i : ℕ) → slice_index bytes i < 256)
         → body_at bytes ≡ Some (d, cells, payload) → BodyOf bytes d cells payload }
@@ -30,13 +30,13 @@ pub fn reading_is_exact()
         → body_at bytes ≡ Some (d, cells, payload) }
 {}
 
-/// Where no performative is read, the fault is one that the body has. [1.2]
+/// If no performative is read, the fault is one that the body has. [1.2]
 pub fn faults_are_exact()
     ensures { (bytes : List ℕ) → ((i : ℕ) → slice_index bytes i < 256) → body_at bytes ≡ None → IsFaultOf bytes (fault_of bytes) }
 {}
 
 /// The body of a canonical frame says what was written: the performative with defaults in place of what was
-/// left out, and the payload behind it. [2.7]
+/// left out, and the payload after it. [2.7]
 pub fn written_is_read()
     ensures { (p : Performative) (fields : List Field) (payload : List ℕ) → fields_of (type_of p) ≡ Some fields → AreOfFields fields (written_cells p)
         → length (performative_text p) < 2 ^ 32 → BodyOf (performative_text p ++ payload) (type_of p) (written_cells p) payload }
@@ -48,7 +48,7 @@ pub fn written_is_a_frame()
         → IsFrame max (frame_of channel p payload) × (channel_of (frame_of channel p payload) ≡ channel) × (body_of (frame_of channel p payload) ≡ performative_text p ++ payload) }
 {}
 
-/// What is written for a performative in hand is told by its type and its fields alone, wherever it lies. [2.7]
+/// What is written for a performative depends on its type and its fields alone, not on where it lies in memory. [2.7]
 pub fn written_by_its_fields()
     ensures text { (p : Performative) → performative_text p ≡ said_text (said p) }
     ensures frame { (channel : ℕ) (p : Performative) (payload : List ℕ) → frame_of channel p payload ≡ said_frame channel (said p) payload }
@@ -75,19 +75,19 @@ pub fn frames_are_as_long()
     ensures most { (channel : ℕ) (s : Said) (payload : List ℕ) → length (said_frame channel s payload) ≤ 20 + length (concat (said_texts s)) + length payload }
 {}
 
-/// A uint takes at most five bytes, and a binary, a string or a symbol at most five more than it has. [1.6.6, 1.6.19 to 1.6.21]
+/// A uint takes at most five bytes, and a binary, a string or a symbol at most five more than it has. [1.6.5, 1.6.19 to 1.6.21]
 pub fn fields_are_as_long()
     ensures numbers { (n : ℕ) → length (cell_text uint (Whole n)) ≤ 5 }
     ensures octets { (type : FieldType) (octets : List ℕ) → length (cell_text type (Bytes octets)) ≤ 5 + length octets }
 {}
 
-/// A field that is left out makes a frame no longer, whatever the field was. [1.4]
+/// Leaving out a field makes a frame no longer, whatever the field was. [1.4]
 pub fn a_null_adds_no_more()
     ensures { (channel : ℕ) (d : Descriptor) (before behind : List (List ℕ)) (text payload : List ℕ) → 0 < length text
         → length (list_frame channel d (before ++ null_text ∷ behind) payload) ≤ length (list_frame channel d (before ++ text ∷ behind) payload) }
 {}
 
-/// What is read may be written: each field of a body that is made of bytes meets what `written_is_read` asks of
+/// What is read may be written: each field of a body that is made of bytes meets what `written_is_read` requires of
 /// it, and so does what is written for a performative that was read. [2.7]
 pub fn what_is_read_may_be_written()
     ensures cells { (bytes : List ℕ) (d : Descriptor) (fields : List Field) (cells : List Cell) (payload : List ℕ) → ((i : ℕ) → slice_index bytes i < 256)
@@ -96,8 +96,8 @@ pub fn what_is_read_may_be_written()
         → Body bytes p payload → fields_of (type_of p) ≡ Some fields → AreOfFields fields (written_cells p) }
 {}
 
-/// The condition of an error is the one that its first item names, whatever follows the error; any other value
-/// has none; and what is written for a condition is read as that condition. [2.8.14]
+/// The condition of an error is the one that its first item names, whatever follows the error. Any other value
+/// has none. What is written for a condition is read as that condition. [2.8.14]
 pub fn conditions_are_found()
     ensures first { (items : List Item) (text rest : List ℕ) → SpellsDescribed Error items text → depth_of (ListOf (trees_of items)) ≤ 31
         → condition_of (text ++ rest) ≡ condition_in items }
@@ -105,8 +105,8 @@ pub fn conditions_are_found()
     ensures spelled { (condition : Condition) → condition_of (condition_span condition) ≡ condition }
 {}
 
-/// The outcome of a state is the one that it is described as, with its first two items as the flags, whatever
-/// follows the state; any other value is none; and what is written for an outcome is read as that outcome. [3.4]
+/// The outcome of a state is the one that describes it, with its first two items as the flags, whatever
+/// follows the state. Any other value is none. What is written for an outcome is read as that outcome. [3.4]
 pub fn outcomes_are_found()
     ensures first { (d : Descriptor) (items : List Item) (text rest : List ℕ) → SpellsDescribed d items text → depth_of (ListOf (trees_of items)) ≤ 31
         → outcome_of (text ++ rest) ≡ outcome_in d items }

@@ -1,10 +1,10 @@
 //! The performatives of AMQP 1.0 (part 2, section 2.7), read from the bodies of frames and written as frames,
 //! with the conditions of errors and the outcomes of deliveries.
 //!
-//! [`read_body`] lends the fields from the body; [`write_frame`] writes into bytes of the caller. Nothing here
-//! takes memory. `specs/Tables.antt` has the fields of each performative, `specs/Bodies.antt` what a body says,
-//! and `specs/Frames.antt` which frame is written.
-//! The tests stand in `test_codec_rows`.
+//! Begin with [`read_body`], which borrows the fields from the body, and [`write_frame`], which writes into
+//! bytes of the caller. Nothing here takes memory. `specs/Tables.antt` has the fields of each performative,
+//! `specs/Bodies.antt` defines what a body says, and `specs/Frames.antt` which frame is written. The tests are
+//! in `test_codec_rows`.
 #![tactic(auto)]
 
 mod condition;

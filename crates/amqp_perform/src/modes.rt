@@ -12,7 +12,7 @@ pub enum Role {
 impl Role {
     ghost use Rattle.amqp_perform.specs.Performatives.{is_receiver};
 
-    /// The role that a boolean spells.
+    /// Returns the role that a boolean spells.
     pub(crate) fn of(receiver: bool) -> Role
         ensures { is_receiver result ≡ receiver }
     {
@@ -23,7 +23,7 @@ impl Role {
         }
     }
 
-    /// The boolean that spells the role.
+    /// Returns the boolean that spells the role.
     pub(crate) fn is_receiver(self) -> bool
         ensures { result ≡ is_receiver self }
     {
@@ -45,7 +45,7 @@ pub enum SenderSettleMode {
 impl SenderSettleMode {
     ghost use Rattle.amqp_perform.specs.Performatives.{sender_mode};
 
-    /// The mode that a number spells.
+    /// Returns the mode that a number spells.
     pub(crate) fn of(number: u8) -> SenderSettleMode
         requires { number ≤ 2 }
         ensures { sender_mode result ≡ number }
@@ -57,7 +57,7 @@ impl SenderSettleMode {
         }
     }
 
-    /// The number that spells the mode.
+    /// Returns the number that spells the mode.
     pub(crate) fn number(self) -> u8
         ensures { result ≡ sender_mode self }
     {
@@ -79,7 +79,7 @@ pub enum ReceiverSettleMode {
 impl ReceiverSettleMode {
     ghost use Rattle.amqp_perform.specs.Performatives.{receiver_mode};
 
-    /// The mode that a number spells.
+    /// Returns the mode that a number spells.
     pub(crate) fn of(number: u8) -> ReceiverSettleMode
         requires { number ≤ 1 }
         ensures { receiver_mode result ≡ number }
@@ -90,7 +90,7 @@ impl ReceiverSettleMode {
         }
     }
 
-    /// The number that spells the mode.
+    /// Returns the number that spells the mode.
     pub(crate) fn number(self) -> u8
         ensures { result ≡ receiver_mode self }
     {

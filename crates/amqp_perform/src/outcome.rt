@@ -30,7 +30,7 @@ impl Outcome {
     ghost use Rattle.std.specs.Prelude.{◌≡◌};
     ghost use Rattle.amqp_perform.specs.Outcomes.{outcome_span, outcome_of};
 
-    /// The canonical spelling of the state, with no error and no annotations. [3.4]
+    /// Returns the canonical spelling of the state, with no error and no annotations. [3.4]
     #[tactic(auto, unfolding(crate::specs::Outcomes::outcome_span))]
     pub fn span(self) -> &'static [u8]
         ensures { result.now ≡ outcome_span self }
@@ -58,9 +58,10 @@ impl Outcome {
         }
     }
 
-    /// The outcome of a state, by what describes it; `None` where that describes no outcome. What stands behind
-    /// the descriptor is looked at for the two flags of modified alone, and a flag that is not there, or is not
-    /// true, is false. [3.4]
+    /// Returns the outcome of a state, by its descriptor; `None` if that describes no outcome. [3.4]
+    ///
+    /// What follows the descriptor is looked at only for the two flags of modified. A flag that is not there,
+    /// or is not true, is false.
     #[tactic(auto, unfolding(crate::specs::Outcomes::outcome_of))]
     pub fn of(span: &[u8]) -> Option<Outcome>
         ensures { result ≡ outcome_of span.now }
@@ -76,7 +77,7 @@ impl Outcome {
     }
 }
 
-/// The outcome with the flags that stand first in the list.
+/// Returns the outcome modified, with the flags that come first in the list.
 #[tactic(auto, unfolding(crate::specs::Outcomes::modified_by))]
 fn modified(mut state: Cursor<'_>) -> Outcome
     ensures { result ≡ modified_by (list_at state.entry.bytes.now) }
@@ -90,7 +91,7 @@ fn modified(mut state: Cursor<'_>) -> Outcome
     }
 }
 
-/// The outcome with the flags that are left. [3.4.5]
+/// Returns the outcome modified, with the flags that are left. [3.4.5]
 #[tactic(auto, unfolding(crate::specs::Outcomes::second_true))]
 fn flagged(mut fields: Fields<'_>) -> Outcome
     ensures { result ≡ Outcome.Modified (true_at fields.entry.left fields.entry.items.bytes.now) (second_true fields.entry.left fields.entry.items.bytes.now) }

@@ -1,8 +1,8 @@
 //! The performatives, with the fields as a body has them. [2.7]
 //!
-//! A typed field with a default is its value; one without is an `Option`, unless it is mandatory. What is lent as
-//! a span of bytes is the spelling of the field's value, of any type, and it is empty where the field is absent:
-//! its own default (of batchable and incomplete-unsettled) and its shortest spelling are up to whoever uses it.
+//! A typed field with a default is its value; one without is an `Option`, unless it is mandatory. A span of
+//! bytes is the spelling of the field's value, of any type, and it is empty if the field is absent. Its default
+//! (of batchable and incomplete-unsettled) and its shortest spelling are up to the caller.
 
 use crate::descriptor::Descriptor;
 use crate::modes::{ReceiverSettleMode, Role, SenderSettleMode};
@@ -72,7 +72,7 @@ pub struct Flow<'a> {
     pub properties: &'a [u8],
 }
 
-/// Transfers a part of a message, which stands in the payload. [2.7.5]
+/// Transfers a part of a message, which is in the payload. [2.7.5]
 #[derive(Clone, Copy, Debug, PartialEq, Eq)]
 pub struct Transfer<'a> {
     pub handle: u32,
@@ -89,7 +89,7 @@ pub struct Transfer<'a> {
 }
 
 impl<'a> Transfer<'a> {
-    /// One of handle 0 that states nothing more, to be read into.
+    /// Returns a transfer of handle 0 that states nothing more, to be read into.
     pub fn blank() -> Transfer<'a> {
         Transfer {
             handle: 0,
@@ -107,13 +107,13 @@ impl<'a> Transfer<'a> {
     }
 }
 
-/// Tells of the state of deliveries. [2.7.6]
+/// Reports the state of deliveries. [2.7.6]
 #[derive(Clone, Copy, Debug, PartialEq, Eq)]
 pub struct Disposition<'a> {
-    /// The end that tells.
+    /// The end that reports.
     pub role: Role,
     pub first: u32,
-    /// Where it is absent, the last is the first.
+    /// If it is absent, the last is the first.
     pub last: Option<u32>,
     pub settled: bool,
     pub state: &'a [u8],
@@ -158,7 +158,7 @@ impl Performative<'_> {
     ghost use Rattle.std.specs.Prelude.{◌≡◌};
     ghost use Rattle.amqp_perform.specs.Performatives.{type_of};
 
-    /// What describes its list. [2.7]
+    /// Returns the descriptor of its list. [2.7]
     pub fn descriptor(&self) -> Descriptor
         ensures { result ≡ type_of self.now }
     {

@@ -1,7 +1,7 @@
 //! Performatives, read from the body of a frame. [2.7]
 //!
 //! Each function takes the fields of one performative in their order. A `?` refuses what is not of the field's
-//! type; a second one refuses an absent field, where it is mandatory.
+//! type; a second one refuses an absent field that is mandatory.
 
 ghost use Rattle.std.specs.Prelude.{◌≡◌, ℕ, ◌≤◌, List, [], ◌∷◌, length, drop, None, Some, Ok, MatchOption, IfOk, IfErr, IfSome, IfNone, IsOkAnd};
 ghost use Rattle.amqp_perform.specs.declared.descriptor.Descriptor.{Descriptor};
@@ -21,7 +21,7 @@ use crate::performative::{
 };
 use amqp_types::skip;
 
-/// The least that a max-frame-size may be. [2.7.1]
+/// The smallest max-frame-size that is allowed. [2.7.1]
 pub const LEAST_FRAME_SIZE: u32 = 512;
 
 fn read_open<'a>(fields: &mut Fields<'a>) -> Option<Open<'a>>
@@ -49,7 +49,7 @@ fn read_open<'a>(fields: &mut Fields<'a>) -> Option<Open<'a>>
     })
 }
 
-/// The capabilities and properties, with which an open, a begin and an attach end.
+/// Reads the capabilities and the properties, with which an open, a begin and an attach end.
 fn read_capabilities<'a>(fields: &mut Fields<'a>) -> Option<(&'a [u8], &'a [u8], &'a [u8])>
     ensures { TakesFrom (λ x. span x.0.now ∷ span x.1.now ∷ span x.2.now ∷ []) (fields_at (drop 7 open_fields)) fields.old fields.new result }
 {
@@ -129,7 +129,7 @@ fn read_attach<'a>(fields: &mut Fields<'a>) -> Option<Attach<'a>>
     })
 }
 
-/// The fields of an attach behind its modes.
+/// The fields of an attach after its modes.
 struct AttachRest<'a> {
     source: &'a [u8],
     target: &'a [u8],
@@ -184,9 +184,9 @@ fn read_flow<'a>(fields: &mut Fields<'a>) -> Option<Flow<'a>>
     })
 }
 
-/// Reads the fields of a transfer into it. They are put where they are wanted, since a transfer that is handed back is moved
-/// there over the stack.
-// Without the mark `telemetry` takes 1.5 in 100 more instructions, `gateway` 1.4.
+/// Reads the fields of a transfer into `transfer`. They are put where they are wanted, since a transfer that is returned
+/// is moved there over the stack.
+// Without `inline`, `telemetry` takes 1.5 in 100 more instructions, `gateway` 1.4.
 #[tactic(auto, using(crate::proofs::Optionals::optional_is), unfolding(crate::specs::BodyReading::typed_at))]
 #[inline(always)]
 fn fill_transfer<'a>(fields: &mut Fields<'a>, transfer: &mut Transfer<'a>) -> Option<()>
@@ -283,8 +283,10 @@ fn read_performative<'a>(
     }
 }
 
-/// Reads the transfer that a frame's body begins with into `transfer`, and answers how many bytes it takes, as [`read_body`]
-/// reads it; `None` where the body begins with none, and what stands in `transfer` then says nothing. [2.7.5]
+/// Reads the transfer that a frame's body begins with into `transfer`, and returns how many bytes it takes. [2.7.5]
+///
+/// It is read as [`read_body`] reads it. Returns `None` if the body begins with no transfer; what is in `transfer` then
+/// means nothing.
 #[tactic(auto, unfolding(crate::specs::BodyReading::body_at, crate::specs::BodyReading::performative_at))]
 #[inline(never)]
 pub fn read_transfer_into<'a>(bytes: &'a [u8], transfer: &mut Transfer<'a>) -> Option<usize>
@@ -308,10 +310,9 @@ pub fn read_transfer_into<'a>(bytes: &'a [u8], transfer: &mut Transfer<'a>) -> O
     Some(bytes.len() - rest.len())
 }
 
-/// The transfer that a frame's body begins with, and how many bytes it takes, as [`read_body`] reads it; `None` where
-/// the body begins with none. [2.7.5]
+/// Returns the transfer that a frame's body begins with, and how many bytes it takes; `None` if there is none. [2.7.5]
 ///
-/// For a caller that keeps the transfer as a value.
+/// It is read as [`read_body`] reads it. This is for a caller that keeps the transfer as a value.
 pub fn read_transfer_body(bytes: &[u8]) -> Option<(Transfer<'_>, usize)>
     ensures within { IfSome result (λ r. r.1 ≤ length bytes.now) }
     ensures exact { IfSome result (λ r. IsRead bytes.now (Ok (performative.Transfer r.0, r.1))) }
@@ -322,7 +323,7 @@ pub fn read_transfer_body(bytes: &[u8]) -> Option<(Transfer<'_>, usize)>
     Some((transfer, len))
 }
 
-/// The performative that a body begins with, and what follows it.
+/// Returns the performative that a body begins with, and what follows it.
 #[tactic(auto, unfolding(crate::specs::BodyReading::body_at))]
 fn body_at(bytes: &[u8]) -> Option<(Performative<'_>, &[u8])>
     ensures { MatchOption result (body_at bytes.now ≡ None) (λ x. body_at bytes.now ≡ Some (type_of x.0, performative_cells x.0, x.1.now)) }
@@ -336,11 +337,12 @@ fn body_at(bytes: &[u8]) -> Option<(Performative<'_>, &[u8])>
     Some((performative, rest))
 }
 
-/// The performative that a frame's body begins with, and how many bytes it takes; the payload follows. [2.7]
+/// Returns the performative that a frame's body begins with, and how many bytes it takes; the payload follows. [2.7]
 ///
-/// Any spelling of a field's type is read, and the descriptor may be the number or the symbol. Spans are lent
-/// from `bytes`; nothing is copied and no memory is taken. What is lent as a span is only known to be well
-/// spelled, equal keys in it are not looked for.
+/// `Decode` says that the body begins with no value within 32 levels, `InvalidField` that the value is no
+/// performative. Any spelling of a field's type is read, and the descriptor may be the number or the symbol. Spans
+/// are borrowed from `bytes`; nothing is copied and no memory is taken. A span is only known to be well spelled:
+/// equal keys in it are not looked for.
 pub fn read_body(bytes: &[u8]) -> Result<(Performative<'_>, usize), BodyFault>
     ensures within { IfOk result (λ r. r.1 ≤ length bytes.now) }
     // What is read is what the body says.
@@ -358,7 +360,7 @@ pub fn read_body(bytes: &[u8]) -> Result<(Performative<'_>, usize), BodyFault>
     }
 }
 
-/// Why a body that begins with no performative does not.
+/// Returns why a body begins with no performative.
 #[tactic(auto, unfolding(crate::specs::BodyReading::fault_of))]
 fn fault_in(bytes: &[u8]) -> BodyFault
     ensures { result ≡ fault_of bytes.now }

@@ -1,4 +1,4 @@
-//! What may stand in the fields of the performatives. [2.7]
+//! What the fields of the performatives may hold. [2.7]
 //!
 //! It is what the tables of `specs/Tables.antt` say, without names and without what an absent field is.
 
@@ -28,14 +28,14 @@ pub enum FieldType {
     Any,
 }
 
-/// What may stand in a field, and whether it may be absent.
+/// What a field may hold, and whether it may be absent.
 #[derive(Clone, Copy)]
 pub enum Rule {
     Mandatory(FieldType),
     Optional(FieldType),
 }
 
-/// [2.7.1]
+/// The fields of an open. [2.7.1]
 const OPEN: [Rule; 10] = [
     Mandatory(Text),
     Optional(Any),
@@ -49,7 +49,7 @@ const OPEN: [Rule; 10] = [
     Optional(Any),
 ];
 
-/// [2.7.2]
+/// The fields of a begin. [2.7.2]
 const BEGIN: [Rule; 8] = [
     Optional(Ushort),
     Mandatory(Uint),
@@ -61,7 +61,7 @@ const BEGIN: [Rule; 8] = [
     Optional(Any),
 ];
 
-/// [2.7.3]
+/// The fields of an attach. [2.7.3]
 const ATTACH: [Rule; 14] = [
     Mandatory(Text),
     Mandatory(Uint),
@@ -79,7 +79,7 @@ const ATTACH: [Rule; 14] = [
     Optional(Any),
 ];
 
-/// [2.7.4]
+/// The fields of a flow. [2.7.4]
 const FLOW: [Rule; 11] = [
     Optional(Uint),
     Mandatory(Uint),
@@ -94,7 +94,7 @@ const FLOW: [Rule; 11] = [
     Optional(Any),
 ];
 
-/// [2.7.5]
+/// The fields of a transfer. [2.7.5]
 const TRANSFER: [Rule; 11] = [
     Mandatory(Uint),
     Optional(Uint),
@@ -109,7 +109,7 @@ const TRANSFER: [Rule; 11] = [
     Optional(Any),
 ];
 
-/// [2.7.6]
+/// The fields of a disposition. [2.7.6]
 const DISPOSITION: [Rule; 6] = [
     Mandatory(Boolean),
     Mandatory(Uint),
@@ -119,13 +119,13 @@ const DISPOSITION: [Rule; 6] = [
     Optional(Any),
 ];
 
-/// [2.7.7]
+/// The fields of a detach. [2.7.7]
 const DETACH: [Rule; 3] = [Mandatory(Uint), Optional(Boolean), Optional(Any)];
 
-/// An end's and a close's. [2.7.8; 2.7.9]
+/// The field of an end and of a close. [2.7.8; 2.7.9]
 const ERROR: [Rule; 1] = [Optional(Any)];
 
-/// The fields of the performative of this type; `None` where it is of none.
+/// Returns the rules of a performative's fields; `None` if the descriptor is that of no performative.
 pub fn rules_of(descriptor: Descriptor) -> Option<&'static [Rule]>
     ensures { option_map (map asked_by) (option_copied result) ≡ option_map (map asked_of) (fields_of descriptor) }
 {

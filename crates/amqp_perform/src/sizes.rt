@@ -1,6 +1,6 @@
-//! What follows a value that is known to stand there, by the sizes in it. [1.2]
+//! What follows a value that is known to be there, found by the sizes in it. [1.2]
 //!
-//! Nothing is said of bytes that begin with no value.
+//! Nothing is promised for bytes that begin with no value.
 
 ghost use Rattle.std.specs.Prelude.{◌≡◌, ◌≢◌, ◌≤◌, List, ℕ, ◌∷◌, ◌++◌, option_map, IsSomeAnd};
 ghost use Rattle.amqp_types.specs.Codes.{find_code};
@@ -12,18 +12,18 @@ ghost use Rattle.amqp_perform.specs.Sizes.{data_of, data_at, sized_data};
 use crate::cursor::Cursor;
 use amqp_types::{Constructor, SizeWidth, find_code, form_len};
 
-/// What stands behind a code.
+/// What follows a code.
 #[derive(Clone, Copy)]
 enum Data {
-    /// So many bytes.
+    /// This many bytes.
     Fixed(usize),
-    /// As many bytes as the size in front of them says, which takes one byte.
+    /// A size of one byte, and as many bytes as it says.
     Short,
-    /// The same with a size of four bytes.
+    /// A size of four bytes, and as many bytes as it says.
     Long,
 }
 
-/// What stands behind this code; `None` where it is none of a constructor. [1.2]
+/// Returns what follows this code; `None` if no constructor has it. [1.2]
 fn data_of(code: u8) -> Option<Data>
     ensures { result ≡ option_map data_of (find_code code) }
 {
@@ -38,7 +38,7 @@ fn data_of(code: u8) -> Option<Data>
     Some(data)
 }
 
-/// As many bytes as a size of this width says.
+/// Returns the data with a size of this width.
 fn sized(size: SizeWidth) -> Data
     ensures { result ≡ sized_data size }
 {
@@ -60,7 +60,7 @@ fn take_data<'a>(form: Data, cursor: &mut Cursor<'a>) -> Option<&'a [u8]>
     }
 }
 
-/// What follows the data of a value, which stand behind its code.
+/// Returns what follows the data of a value; `bytes` begin after its code.
 #[inline(always)]
 fn behind_data(code: u8, bytes: &[u8]) -> Option<&[u8]>
     requires { code ≢ 0 }
@@ -72,7 +72,7 @@ fn behind_data(code: u8, bytes: &[u8]) -> Option<&[u8]>
     Some(cursor.bytes)
 }
 
-/// What follows the value in front, within a depth.
+/// Returns what follows the value at the front, within a depth.
 pub fn behind_value(depth: usize, bytes: &[u8]) -> Option<&[u8]>
     ensures { (t : Tree) (text rest : List ℕ) → Spells t text → depth_of t ≤ depth → bytes.now ≡ text ++ rest → IsSomeAnd result (λ r. r.now ≡ rest) }
 {

@@ -1,6 +1,6 @@
-//! Whether a body begins with a performative, where it is known to begin with a value. [2.7]
+//! Whether a body begins with a performative, if it is known to begin with a value. [2.7]
 //!
-//! A field that may be of any type is gone over by the sizes in it, and a text by its own: that they are well spelled is known.
+//! A field that may be of any type is passed over by the sizes in it, and a text by its own: they are known to be well spelled.
 
 ghost use Rattle.std.specs.Prelude.{◌≡◌, ℕ, ◌≤◌, List, ◌++◌, length, map, is_some, option_map, option_copied, MatchBool};
 ghost use Rattle.amqp_types.specs.Spelling.{Spells};
@@ -17,7 +17,7 @@ use crate::reader::LEAST_FRAME_SIZE;
 use crate::rules::{FieldType, Rule, rules_of};
 use crate::sizes::behind_value;
 
-/// The value in front, of any type: whether it is no null, and what follows it.
+/// Reads a value of any type at the front; returns whether it is other than null, and what follows it.
 #[inline(always)]
 fn any_value(bytes: &[u8]) -> Option<(bool, &[u8])>
     ensures { (x : Item) (rest : List ℕ) → Spells x.tree x.text → depth_of x.tree ≤ 30 → bytes.now ≡ x.text ++ rest
@@ -28,7 +28,7 @@ fn any_value(bytes: &[u8]) -> Option<(bool, &[u8])>
     Some((*code != NULL, rest))
 }
 
-/// Whether the code is one of a string, or that of a null.
+/// Whether the code is that of a string or of null.
 #[inline(always)]
 fn is_text_code(code: u8) -> bool
     ensures { MatchBool result (IsTextCode code) (IsTextCode code → ⊥) }
@@ -39,7 +39,7 @@ fn is_text_code(code: u8) -> bool
     }
 }
 
-/// The same of a string.
+/// Reads a string or a null at the front; returns whether it is other than null, and what follows it.
 #[inline(always)]
 fn text_value(bytes: &[u8]) -> Option<(bool, &[u8])>
     ensures { (x : Item) (rest : List ℕ) → Spells x.tree x.text → depth_of x.tree ≤ 30 → bytes.now ≡ x.text ++ rest
@@ -53,7 +53,7 @@ fn text_value(bytes: &[u8]) -> Option<(bool, &[u8])>
     }
 }
 
-/// A boolean in front: whether it is no null, and what follows it.
+/// Reads a boolean or a null at the front; returns whether it is other than null, and what follows it.
 #[inline(always)]
 fn boolean_value(bytes: &[u8]) -> Option<(bool, &[u8])>
     ensures { there_at boolean bytes.now ≡ option_map (λ r. (r.0, r.1.now)) result }
@@ -63,7 +63,7 @@ fn boolean_value(bytes: &[u8]) -> Option<(bool, &[u8])>
     Some((value.is_some(), fields.parts().1))
 }
 
-/// A sender's settle mode.
+/// Reads a sender's settle mode or a null, and returns what [`boolean_value`] does.
 #[inline(always)]
 fn sender_mode_value(bytes: &[u8]) -> Option<(bool, &[u8])>
     ensures { there_at sender_settle_mode bytes.now ≡ option_map (λ r. (r.0, r.1.now)) result }
@@ -73,7 +73,7 @@ fn sender_mode_value(bytes: &[u8]) -> Option<(bool, &[u8])>
     Some((value.is_some(), fields.parts().1))
 }
 
-/// A receiver's settle mode.
+/// Reads a receiver's settle mode or a null, and returns what [`boolean_value`] does.
 #[inline(always)]
 fn receiver_mode_value(bytes: &[u8]) -> Option<(bool, &[u8])>
     ensures { there_at receiver_settle_mode bytes.now ≡ option_map (λ r. (r.0, r.1.now)) result }
@@ -83,7 +83,7 @@ fn receiver_mode_value(bytes: &[u8]) -> Option<(bool, &[u8])>
     Some((value.is_some(), fields.parts().1))
 }
 
-/// A ushort.
+/// Reads a ushort or a null, and returns what [`boolean_value`] does.
 #[inline(always)]
 fn ushort_value(bytes: &[u8]) -> Option<(bool, &[u8])>
     ensures { there_at ushort bytes.now ≡ option_map (λ r. (r.0, r.1.now)) result }
@@ -93,7 +93,7 @@ fn ushort_value(bytes: &[u8]) -> Option<(bool, &[u8])>
     Some((value.is_some(), fields.parts().1))
 }
 
-/// A uint.
+/// Reads a uint or a null, and returns what [`boolean_value`] does.
 #[inline(always)]
 fn uint_value(bytes: &[u8]) -> Option<(bool, &[u8])>
     ensures { there_at uint bytes.now ≡ option_map (λ r. (r.0, r.1.now)) result }
@@ -103,7 +103,7 @@ fn uint_value(bytes: &[u8]) -> Option<(bool, &[u8])>
     Some((value.is_some(), fields.parts().1))
 }
 
-/// A binary.
+/// Reads a binary or a null, and returns what [`boolean_value`] does.
 #[inline(always)]
 fn binary_value(bytes: &[u8]) -> Option<(bool, &[u8])>
     ensures { there_at binary bytes.now ≡ option_map (λ r. (r.0, r.1.now)) result }
@@ -113,7 +113,7 @@ fn binary_value(bytes: &[u8]) -> Option<(bool, &[u8])>
     Some((value.is_some(), fields.parts().1))
 }
 
-/// A uint of at least 512.
+/// Reads a uint of at least 512 or a null, and returns what [`boolean_value`] does.
 #[inline(always)]
 fn frame_size_value(bytes: &[u8]) -> Option<(bool, &[u8])>
     ensures { there_at (uint_from 512) bytes.now ≡ option_map (λ r. (r.0, r.1.now)) result }
@@ -130,7 +130,7 @@ fn frame_size_value(bytes: &[u8]) -> Option<(bool, &[u8])>
     }
 }
 
-/// The value in front, where it is of the type or a null: whether it is no null, and what follows it.
+/// Reads the value at the front, if it is of the type or a null; returns whether it is other than null, and what follows it.
 #[inline(always)]
 fn typed_value(field_type: FieldType, bytes: &[u8]) -> Option<(bool, &[u8])>
     ensures { (x : Item) (rest : List ℕ) → Spells x.tree x.text → depth_of x.tree ≤ 30 → bytes.now ≡ x.text ++ rest
@@ -160,7 +160,7 @@ fn is_mandatory(rule: Rule) -> bool
     }
 }
 
-/// What the field may be.
+/// Returns the type of the field.
 #[inline(always)]
 fn type_of(rule: Rule) -> FieldType
     ensures { type_in result ≡ (asked_by rule).0 }
@@ -170,7 +170,7 @@ fn type_of(rule: Rule) -> FieldType
     }
 }
 
-/// What follows the item in front, where it may stand in a field of the rule.
+/// Returns what follows the item at the front, if a field of the rule may hold it.
 #[inline(always)]
 fn behind_item(rule: Rule, bytes: &[u8]) -> Option<&[u8]>
     ensures { (x : Item) (rest : List ℕ) → Spells x.tree x.text → depth_of x.tree ≤ 30 → bytes.now ≡ x.text ++ rest
@@ -186,7 +186,7 @@ fn behind_item(rule: Rule, bytes: &[u8]) -> Option<&[u8]>
     Some(rest)
 }
 
-/// Whether these items, so many, may stand in fields of these rules.
+/// Whether fields of these rules may hold these `count` items.
 fn may_be_all(rules: &[Rule], count: usize, items: &[u8]) -> bool
     ensures { (xs : List Item) → AreSpelled xs → depth_of_all (trees_of xs) ≤ 30 → length xs ≡ count → text_of xs ≡ items.now
         → result ≡ may_be_all (map asked_by rules.now) xs }
@@ -206,11 +206,11 @@ fn may_be_all(rules: &[Rule], count: usize, items: &[u8]) -> bool
     }
 }
 
-/// Whether a frame's body begins with a performative, as [`read_body`](crate::read_body) reads it. [2.7]
+/// Returns whether a frame's body begins with a performative, as [`read_body`](crate::read_body) reads it. [2.7]
 ///
 /// It is for a body that was checked: one that is known to begin with a value of at most 32 levels. Nothing is kept of it and no
-/// memory is taken. What describes the value comes first, and of a field that may be of any type only the sizes are read. There are
-/// no errors.
+/// memory is taken. The descriptor comes first, and only the sizes are read of a field that may be of any type. There are no
+/// errors.
 pub fn is_performative(body: &[u8]) -> bool
     requires { BeginsWithin 32 body.now }
     ensures { result ≡ is_some (body_at body.now) }

@@ -24,22 +24,22 @@ use crate::performative::{
     Attach, Begin, Close, Detach, Disposition, End, Flow, Open, Performative, Transfer,
 };
 
-/// How many bytes stand in front of the list of a frame: the frame header and the descriptor.
+/// How many bytes come before the list of a frame: the frame header and the descriptor.
 const HEAD_LEN: usize = 11;
 
-/// How many bytes stand in front of the items of a list whose size takes one.
+/// How many bytes come before the items of a list whose size takes one byte.
 const SHORT_LEN: usize = HEAD_LEN + 3;
 
-/// The most that the disposition of one delivery takes, its state being four bytes.
+/// The most bytes that the disposition of one delivery takes, if its state has four.
 const ONE_SETTLED: usize = SHORT_LEN + 12;
 
-/// The most that a frame of seven numbers takes.
+/// The most bytes that a frame of seven numbers takes.
 const SEVEN_NUMBERS: usize = SHORT_LEN + 7 * 5;
 
 /// The largest frame whose size can be stated. [2.3.1]
 const MAX_FRAME: usize = 0xffff_ffff;
 
-/// What a frame says in front of its list.
+/// What a frame says before its list.
 #[derive(Clone, Copy)]
 struct Head {
     channel: u16,
@@ -190,14 +190,15 @@ fn close_texts<'a>(p: &Close<'a>) -> [FieldText<'a>; 1]
     [FieldText::span(p.error)]
 }
 
-/// Writes a frame at the front of `out`: the canonical spelling of the performative on the channel, and the
-/// payload. Answers its length. Where it doesn't fit `out`, or its length is above `2^32 - 1`, the answer is
-/// `None` and `out` is unchanged. Takes no memory. [2.3.1; 2.7]
+/// Writes a frame at the front of `out`, and returns its length in bytes. [2.3.1; 2.7]
+///
+/// It is the canonical spelling of the performative on the channel, and the payload. If it doesn't fit `out`, or its
+/// length is above `2^32 - 1`, it returns `None` and `out` is unchanged. Takes no memory.
 ///
 /// A field that is absent or equal to its default is null, and so is a disposition's last that is its first;
 /// nulls at the end are left out. Spans are written as they are: that each spells one value, and in the shortest
 /// way, is up to the caller. An empty one is absent, as is one that spells null. What [`crate::read_body`]
-/// refuses is written too, as a max-frame-size below 512.
+/// refuses is written too, such as a max-frame-size below 512.
 pub fn write_frame(
     channel: u16,
     performative: &Performative<'_>,
@@ -212,8 +213,8 @@ pub fn write_frame(
     write_any(channel, performative, payload, out)
 }
 
-/// The same, by the one relation that the writers of lists promise. Each of them is a function of its own, so that the
-/// fields of one alone stand on the stack.
+/// Does what [`write_frame`] does, stated by the one relation that the writers of lists promise. Each of them is a function
+/// of its own, so that only the fields of one are on the stack.
 #[inline(always)]
 fn write_any(
     channel: u16,
@@ -258,7 +259,8 @@ fn write_attach(head: Head, p: &Attach<'_>, payload: &[u8], out: &mut [u8]) -> O
     write_list(head, &attach_texts(p), payload, out)
 }
 
-/// Writes the frame of a flow, as [`write_frame`] does.
+/// Writes the frame of a flow at the front of `out`, and returns its length in bytes, as [`write_frame`] does. If it doesn't
+/// fit, it returns `None` and `out` is unchanged. [2.7.4]
 pub fn write_flow(channel: u16, p: &Flow<'_>, payload: &[u8], out: &mut [u8]) -> Option<usize>
     ensures { IsWritten (frame_of channel (performative.Flow p.now) payload.now) result out.old out.new }
 {
@@ -269,7 +271,7 @@ pub fn write_flow(channel: u16, p: &Flow<'_>, payload: &[u8], out: &mut [u8]) ->
     write_list(head, &flow_texts(p), payload, out)
 }
 
-/// What the flow of a link says, of a receiver that sends nothing. [2.7.4]
+/// What the flow of a link says, if its receiver sends nothing. [2.7.4]
 #[derive(Clone, Copy, Debug, PartialEq, Eq)]
 pub struct LinkFlow {
     pub next_incoming_id: u32,
@@ -281,7 +283,7 @@ pub struct LinkFlow {
 }
 
 impl LinkFlow {
-    /// The flow as a performative.
+    /// Returns the flow as a performative.
     pub fn flow(self) -> Flow<'static>
         ensures { said (performative.Flow result) ≡ stated_said self }
     {
@@ -301,9 +303,10 @@ impl LinkFlow {
     }
 }
 
-/// Writes the frame of the flow of a link at the front of `out`, and answers its length. It says of this side that it sends
-/// nothing, and asks for no echo. Where the frame doesn't fit, the answer is `None` and `out` is unchanged. Takes no memory.
-/// [2.7.4]
+/// Writes the frame of the flow of a link at the front of `out`, and returns its length in bytes. [2.7.4]
+///
+/// The flow says that this side sends nothing, and asks for no echo. If the frame doesn't fit, it returns `None` and `out`
+/// is unchanged. Takes no memory.
 pub fn write_link_flow(channel: u16, flow: LinkFlow, out: &mut [u8]) -> Option<usize>
     ensures { IsWritten (said_frame channel (stated_said flow) []) result out.old out.new }
 {
@@ -314,7 +317,7 @@ pub fn write_link_flow(channel: u16, flow: LinkFlow, out: &mut [u8]) -> Option<u
     }
 }
 
-/// Writes the flow of a link that is not to drain, where any such fits, and answers its length.
+/// Writes the flow of a link without drain, and returns its length. `out` has room for any such flow.
 #[tactic(auto, using(crate::proofs::Receiving::number_short))]
 fn write_credit(channel: u16, flow: LinkFlow, out: &mut [u8]) -> usize
     requires { SEVEN_NUMBERS ≤ length out.old }
@@ -363,7 +366,8 @@ fn write_close(head: Head, p: &Close<'_>, payload: &[u8], out: &mut [u8]) -> Opt
     write_list(head, &close_texts(p), payload, out)
 }
 
-/// Writes the frame of a disposition, as [`write_frame`] does.
+/// Writes the frame of a disposition at the front of `out`, and returns its length in bytes, as [`write_frame`] does. If it
+/// doesn't fit, it returns `None` and `out` is unchanged. [2.7.6]
 pub fn write_disposition(
     channel: u16,
     p: &Disposition<'_>,
@@ -379,9 +383,10 @@ pub fn write_disposition(
     write_list(head, &disposition_texts(p), payload, out)
 }
 
-/// Writes the frame of the disposition with which a receiver tells what became of the deliveries with the ids from `first` to
-/// `last`, settled or not, at the front of `out`, and answers its length. Where the frame doesn't fit, the answer is `None` and
-/// `out` is unchanged. Takes no memory. [2.7.6; 3.4]
+/// Writes the frame of a receiver's disposition at the front of `out`, and returns its length in bytes. [2.7.6; 3.4]
+///
+/// It reports what became of the deliveries with the ids from `first` to `last`, settled or not. If the frame doesn't fit, it
+/// returns `None` and `out` is unchanged. Takes no memory.
 pub fn write_settlement(
     channel: u16,
     first: u32,
@@ -401,7 +406,7 @@ pub fn write_settlement(
     }
 }
 
-/// Writes the disposition of one delivery with a state of four bytes, where any such fits, and answers its length.
+/// Writes the disposition of one delivery with a state of four bytes, and returns its length. `out` has room for any such.
 fn write_one(channel: u16, id: u32, settled: bool, state: [u8; 4], out: &mut [u8]) -> usize
     requires { ONE_SETTLED ≤ length out.old }
     ensures { IsWritten (said_frame channel (state_said id id settled state) []) (Some result) out.old out.new }
@@ -438,7 +443,7 @@ fn write_state(
     write_disposition(channel, &told, &[], out)
 }
 
-/// Writes the front of a frame whose items, so many, are there already and end at `end`.
+/// Writes the front of a frame whose `count` items are there already and end at `end`.
 fn write_front(channel: u16, descriptor: Descriptor, count: u8, end: usize, out: &mut [u8])
     requires some { 0 < count }
     requires least { SHORT_LEN ≤ end }
@@ -450,8 +455,8 @@ fn write_front(channel: u16, descriptor: Descriptor, count: u8, end: usize, out:
     put(out, 0, &front(channel, descriptor, count, end));
 }
 
-/// The frame header, the descriptor, and what stands in front of so many items that end the frame at `end`. [2.3.1; 1.6.22]
-// One array: a constant one would be copied behind a test for an overlap.
+/// Returns the frame header, the descriptor, and what comes before `count` items that end the frame at `end`. [2.3.1; 1.6.22]
+// One array: a constant one would be copied after a test for an overlap.
 fn front(channel: u16, descriptor: Descriptor, count: u8, end: usize) -> [u8; 14]
     requires some { 0 < count }
     requires least { SHORT_LEN ≤ end }
@@ -467,7 +472,7 @@ fn front(channel: u16, descriptor: Descriptor, count: u8, end: usize) -> [u8; 14
     ]
 }
 
-/// Writes the frame of a list of values, where it fits.
+/// Writes the frame of a list of values, if it fits.
 #[inline(always)]
 fn write_list(head: Head, values: &[FieldText<'_>], payload: &[u8], out: &mut [u8]) -> Option<usize>
     requires { length values.now < 256 }
@@ -479,8 +484,8 @@ fn write_list(head: Head, values: &[FieldText<'_>], payload: &[u8], out: &mut [u
     write_many(head, &values[..used], content, payload, out)
 }
 
-/// Writes the frame of a list of values of so many bytes, where it fits.
-// Apart, so that the compiler takes its caller into each writer, where it knows how many values there are.
+/// Writes the frame of a list of values of `content` bytes, if it fits.
+// Apart, so that the compiler inlines its caller in each writer, where the number of values is known.
 #[inline(never)]
 fn write_many(
     head: Head,
@@ -502,7 +507,7 @@ fn write_many(
     Some(write_parts(head, len, values, content, payload, out))
 }
 
-/// Writes the frame at the front, where its length and that of its values are known.
+/// Writes the frame at the front; its length and that of its values are known.
 #[inline(always)]
 fn write_parts(
     head: Head,
@@ -527,7 +532,7 @@ fn write_parts(
     put(out, at, payload)
 }
 
-/// How many values are left without the nulls at the end.
+/// Returns how many values are left without the nulls at the end.
 fn used_count(values: &[FieldText<'_>]) -> usize
     ensures bound { result ≤ length values.now }
     ensures used { trimmed (field_spellings values.now) ≡ field_spellings (take result values.now) }
@@ -539,7 +544,7 @@ fn used_count(values: &[FieldText<'_>]) -> usize
     count
 }
 
-/// How many bytes spell the first `used` values, where these are at most `room`. The others are nulls, of one byte
+/// Returns how many bytes spell the first `used` values, if these are at most `room`. The others are nulls, of one byte
 /// each: the widths of all are added up, since the compiler unrolls a loop over an array whose length it knows.
 #[inline(always)]
 fn content_width(values: &[FieldText<'_>], used: usize, room: usize) -> Option<usize>
@@ -553,7 +558,7 @@ fn content_width(values: &[FieldText<'_>], used: usize, room: usize) -> Option<u
     Some(width - nulls)
 }
 
-/// How many bytes spell the values, where these are at most `room`.
+/// Returns how many bytes spell the values, if these are at most `room`.
 #[inline(always)]
 fn total_width(values: &[FieldText<'_>], room: usize) -> Option<usize>
     ensures { SomeIff result (length (concat (field_spellings values.now)) ≤ room) (length (concat (field_spellings values.now))) }
@@ -565,7 +570,7 @@ fn total_width(values: &[FieldText<'_>], room: usize) -> Option<usize>
     Some(room - left)
 }
 
-/// How many bytes spell a list of so many items, which take so many bytes. [1.6.22]
+/// Returns how many bytes spell a list of `count` items, which take `content` bytes. [1.6.22]
 #[inline(always)]
 fn list_width(count: usize, content: usize) -> usize
     requires count { count < 256 }
@@ -582,7 +587,7 @@ fn list_width(count: usize, content: usize) -> usize
     }
 }
 
-/// Writes the frame header and the descriptor at the front. [2.3.1]
+/// Writes the frame header and the descriptor at the front, and returns the place after them. [2.3.1]
 #[tactic(auto, unfolding(crate::specs::Frames::head_text))]
 #[inline(always)]
 fn write_head(head: Head, len: u32, out: &mut [u8]) -> usize
@@ -596,7 +601,7 @@ fn write_head(head: Head, len: u32, out: &mut [u8]) -> usize
     put(out, at, &[0, 0x53, head.descriptor.code()])
 }
 
-/// Writes what stands in front of the items of a list. [1.6.22]
+/// Writes what comes before the items of a list, and returns the place after it. [1.6.22]
 #[tactic(auto, unfolding(crate::specs::Frames::list_head))]
 #[inline(always)]
 fn write_list_head(count: usize, content: usize, out: &mut [u8], at: usize) -> usize
@@ -620,7 +625,7 @@ fn write_list_head(count: usize, content: usize, out: &mut [u8], at: usize) -> u
     put(out, at, &head)
 }
 
-/// Writes the values at `at`, and answers the place behind them.
+/// Writes the values at `at`, and returns the place after them.
 fn write_values(values: &[FieldText<'_>], out: &mut [u8], at: usize) -> usize
     requires { at + length (concat (field_spellings values.now)) ≤ length out.old }
     ensures behind { result ≡ at + length (concat (field_spellings values.now)) }

@@ -9,7 +9,7 @@ use Rattle.amqp_records.specs.Records.{message_of, Holds}
 use Rattle.amqp_records.specs.Printing.{IsLineOf}
 use Rattle.amqp_records.specs.Blocks.{number_of, FileBlock, file_of, HoldsBlocks, IsTorn, BeginsNoBlock}
 
--- what stands in front of a line of a connection: its number, in JSON as the first member
+-- what a line of a connection begins with: its number, in JSON as the first member
 abbrev pub connection_text : Output → ℕ → List ℕ
 connection_text Json connection = codes "{\"connection\":" ++ (decimal connection ++ codes ",")
 connection_text _ connection = codes "connection=" ++ (decimal connection ++ codes " ")
@@ -25,7 +25,8 @@ with_connection output connection line = connection_text output connection ++ be
 abbrev pub IsLineWith : Output → (connection number : ℕ) → List ℕ → List ℕ → Type 0
 IsLineWith output connection number record_ written = (line : List ℕ) × IsLineOf output number record_ line × (written ≡ with_connection output connection line)
 
--- what is written of the record of a number, of a connection: its line, or, where one message alone is wanted, that message and nothing of others
+-- what is written of the record with this number, of a connection: its line, or, if one message alone is wanted, that message and nothing of
+-- others
 abbrev pub IsTold : Output → (connection number : ℕ) → List ℕ → List ℕ → Type 0
 IsTold Text connection number record_ written = IsLineWith Text connection number record_ written
 IsTold Json connection number record_ written = IsLineWith Json connection number record_ written
@@ -36,7 +37,7 @@ pub record Entry : Type 0 where
   pub connection : ℕ
   pub bytes : List ℕ
 
--- those of a block, and of blocks, in order
+-- the entries of a block, and of blocks, in order
 abbrev pub of_connection : ℕ → List (List ℕ) → List Entry
 of_connection connection [] = []
 of_connection connection (record_ ∷ records) = record { connection = connection; bytes = record_ } ∷ of_connection connection records
@@ -51,7 +52,7 @@ AreTold output number [] written = written ≡ []
 AreTold output number (e ∷ es) written =
     (first others : List ℕ) × IsTold output e.connection number e.bytes first × AreTold output (number + 1) es others × (written ≡ first ++ others)
 
--- nothing of that was written for one record, or a beginning of it
+-- of what is written of one record nothing was written, or a beginning
 abbrev pub BeginsTelling : Output → (connection number : ℕ) → List ℕ → (held now : Option (List ℕ)) → Type 0
 BeginsTelling output connection number record_ held now =
     Appends held now [] ⊎ ((written missing : List ℕ) × IsTold output connection number record_ (written ++ missing) × Appends held now written)
@@ -65,7 +66,7 @@ pub record TellsBlock (output : Output) (limit connection : ℕ) (bytes : List �
   pub are : AreTold output number (of_connection connection records) written
   pub counted : next ≡ number + length records
 
--- a beginning of that was written
+-- a beginning of what is written of a block's records was written
 pub record BeginsToTell (output : Output) (limit connection : ℕ) (bytes : List ℕ) (held now : Option (List ℕ)) (number : ℕ) : Type 0 where
   pub records : List (List ℕ)
   pub others : List (List ℕ)
@@ -75,8 +76,8 @@ pub record BeginsToTell (output : Output) (limit connection : ℕ) (bytes : List
   pub went : Appends held now written
   pub are : AreTold output number (of_connection connection records) (written ++ missing)
 
--- What was written while these bytes came, on top of what the writer held: that of each record of whole blocks, up to the rest. The record
--- that is due has this number, and its block begins at this place.
+-- What is written of each record of the whole blocks of these bytes, up to the rest, was written after what the writer held. The record that is
+-- due has this number, and its block begins at this place.
 pub record HasTold (output : Output) (limit : ℕ) (held now : Option (List ℕ)) (number place : ℕ) (rest bytes : List ℕ) : Type 0 where
   pub blocks : List FileBlock
   pub written : List ℕ
@@ -86,7 +87,7 @@ pub record HasTold (output : Output) (limit : ℕ) (held now : Option (List ℕ)
   pub counted : number ≡ length (entries blocks) + 1
   pub placed : place ≡ length (file_of blocks)
 
--- a beginning of that was written
+-- a beginning of what is written of the records of these bytes was written
 pub record HasBegunToTell (output : Output) (limit : ℕ) (held now : Option (List ℕ)) (bytes : List ℕ) : Type 0 where
   pub blocks : List FileBlock
   pub rest : List ℕ
@@ -99,7 +100,8 @@ pub record HasBegunToTell (output : Output) (limit : ℕ) (held now : Option (Li
   pub went : Appends held now written
   pub are : AreTold output 1 told (written ++ missing)
 
--- of the bytes that a reader gave: that of their whole blocks, behind which such a rest stands, and so many records and bytes
+-- A reader gave bytes, and what is written of their whole blocks was written. These have this many records and bytes, and such a rest follows
+-- them.
 abbrev pub TellsBlocks : Output → ℕ → (left over held now : Option (List ℕ)) (count place : ℕ) → (List ℕ → Type 0) → Type 0
 TellsBlocks output limit left over held now count place Rest =
     (bytes rest : List ℕ) × Consumes left over bytes × HasTold output limit held now (count + 1) place rest bytes × Rest rest
@@ -107,7 +109,7 @@ TellsBlocks output limit left over held now count place Rest =
 abbrev pub StopsTelling : Output → ℕ → (left over held now : Option (List ℕ)) → Type 0
 StopsTelling output limit left over held now = (bytes : List ℕ) × Consumes left over bytes × HasBegunToTell output limit held now bytes
 
--- what stands behind the last whole block: less than one; no block, nor the beginning of one
+-- what follows the last whole block: less than a block; no block, nor the beginning of one
 abbrev pub IsCutBlock : ℕ → List ℕ → Type 0
 IsCutBlock limit rest = IsTorn limit rest × (rest ≢ [])
 

@@ -10,22 +10,22 @@ use Rattle.amqp_records.specs.Records.{said, AreRecords, joined, Holds}
 
 pub record Block : Type 0 where
   pub number : ℕ  -- of its connection
-  pub records : List ℕ  -- the bytes of records, one behind another
+  pub records : List ℕ  -- the bytes of records, one after another
 
 -- the number in 8 bytes, the length of the records in 4, and the records
 abbrev pub block_text : Block → List ℕ
 block_text b = big_bytes 8 b.number ++ (big_bytes 4 (length b.records) ++ b.records)
 
--- the bytes of blocks, of which the first was written last
+-- the bytes of blocks; the first of the list was written last
 abbrev pub blocks_text : List Block → List ℕ
 blocks_text [] = []
 blocks_text (b ∷ older) = blocks_text older ++ block_text b
 
--- how long the records of a block may be together; a longer record is a block of its own
+-- how many bytes the records of a block may have together; a longer record is a block of its own
 abbrev pub block_most : ℕ
 block_most = 262144
 
--- a connection's records more: they go on in the last block, where that is the connection's and has room, or else in one more
+-- more records of a connection: they go into the last block if that is the connection's and has room, else into one more
 abbrev pub on_top : Bool → Block → Block → List Block → List Block
 on_top goes_on b last older = if goes_on then record { number = last.number; records = last.records ++ b.records } ∷ older else b ∷ last ∷ older
 
@@ -41,7 +41,7 @@ pub record BlocksState : Type 0 where
   pub bytes : List ℕ
   pub last : Option Last
 
--- it begins so far from the front that its head has room
+-- the head and the records of the last block end where the bytes end
 abbrev pub IsRoomy : Option Last → ℕ → Type 0
 IsRoomy None len = Unit {0}
 IsRoomy (Some last) len = last.from + 12 + last.held ≡ len
@@ -59,15 +59,16 @@ number_of bytes = big_number 8 bytes
 abbrev pub size_of : List ℕ → ℕ
 size_of bytes = big_number 4 (drop 8 bytes)
 
--- a block may have so many bytes of records, where a message has at most so many
+-- a block may have `size` bytes of records, if a message has at most `limit` bytes
 abbrev pub may_have : (limit size : ℕ) → Bool
 may_have limit size = nat_le 18 size && (nat_le size block_most || nat_le size (18 + limit))
 
--- a block of so many bytes of records may begin with a record that says so long a message, where one has at most so many
+-- a block with `size` bytes of records may begin with a record whose head gives this length of its message, if a message has
+-- at most `limit` bytes
 abbrev pub may_begin : (limit size message : ℕ) → Bool
 may_begin limit size message = nat_le message limit && (size == 18 + message || (nat_le (18 + message) size && nat_le size block_most))
 
--- What stands at the front of these bytes by its head and that of its first record alone.
+-- What is at the front of these bytes, by the block's head and that of its first record alone.
 abbrev pub head_front : ℕ → List ℕ → BlockFront
 head_front limit bytes =
     if nat_lt (length bytes) 12 then front.Partial
@@ -79,17 +80,17 @@ head_front limit bytes =
     )
     else front.NoBlock
 
--- what holds of a whole one
+-- what holds of the size of a whole block
 abbrev pub IfWhole : BlockFront → (ℕ → Type 0) → Type 0
 IfWhole (front.Whole n) P = P n
 IfWhole front.Partial P = Unit {0}
 IfWhole front.NoBlock P = Unit {0}
 
--- a file ends so behind its last block: no byte more, or fewer than the block has that their head says
+-- a file may end so after its last block: with no byte more, or with fewer bytes than the block has that they begin
 abbrev pub IsTorn : ℕ → List ℕ → Type 0
 IsTorn limit rest = head_front limit rest ≡ front.Partial
 
--- bytes that are whole records, one behind another
+-- bytes that are whole records, one after another
 abbrev pub AllRecords : ℕ → List ℕ → Type 0
 AllRecords limit bytes = (records : List (List ℕ)) × Holds limit bytes records []
 
@@ -101,13 +102,13 @@ pub record FileBlock : Type 0 where
 abbrev pub bytes_of : FileBlock → List ℕ
 bytes_of b = b.head ++ joined b.records
 
--- it has one record, or more of at most so many bytes together
+-- it has one record, or more of at most `block_most` bytes together
 abbrev pub AreFew : List (List ℕ) → Type 0
 AreFew [] = ⊥
 AreFew (r ∷ []) = Unit {0}
 AreFew (r ∷ s ∷ records) = length (joined (r ∷ s ∷ records)) ≤ block_most
 
--- it is whole, where messages have at most so many bytes: its head says how many bytes of records follow
+-- it is whole, if messages have at most `limit` bytes: its head says how many bytes of records follow
 pub record IsBlock (limit : ℕ) (b : FileBlock) : Type 0 where
   pub headed : length b.head ≡ 12
   pub sized : size_of b.head ≡ length (joined b.records)
@@ -118,28 +119,28 @@ abbrev pub AreWholeBlocks : ℕ → List FileBlock → Type 0
 AreWholeBlocks limit [] = Unit {0}
 AreWholeBlocks limit (b ∷ blocks) = IsBlock limit b × AreWholeBlocks limit blocks
 
--- the bytes of blocks, one behind another
+-- the bytes of blocks, one after another
 abbrev pub file_of : List FileBlock → List ℕ
 file_of [] = []
 file_of (b ∷ blocks) = bytes_of b ++ file_of blocks
 
--- these bytes are blocks one behind another, and a rest
+-- these bytes are blocks, one after another, and a rest
 pub record HoldsBlocks (limit : ℕ) (bytes : List ℕ) (blocks : List FileBlock) (rest : List ℕ) : Type 0 where
   pub each : AreWholeBlocks limit blocks
   pub is : bytes ≡ file_of blocks ++ rest
 
--- no block stands at the front
+-- the bytes begin with no block
 abbrev pub BeginsNoBlock : ℕ → List ℕ → Type 0
 BeginsNoBlock limit rest = (b : FileBlock) (more : List ℕ) → IsBlock limit b → rest ≡ bytes_of b ++ more → ⊥
 
--- a block of so many bytes behind its head stands at the front
+-- the bytes begin with a block that has `n` bytes of records
 pub record BeginsBlock (limit : ℕ) (bytes : List ℕ) (n : ℕ) : Type 0 where
   pub block : FileBlock
   pub whole : IsBlock limit block
   pub sized : length (joined block.records) ≡ n
   pub is : bytes ≡ bytes_of block ++ drop (12 + n) bytes
 
--- the longest front of a file that is blocks one behind another has so many bytes
+-- the longest front of a file that is whole blocks has `n` bytes
 pub record IsWholeTo (limit : ℕ) (bytes : List ℕ) (n : ℕ) : Type 0 where
   pub blocks : List FileBlock
   pub rest : List ℕ

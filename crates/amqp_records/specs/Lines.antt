@@ -38,7 +38,7 @@ pub record IsTextLine (n : ℕ) (record_ line : List ℕ) : Type 0 where
   pub printable : All IsPrintable (head_of n record_ ++ shown)
   pub whole : line ≡ (head_of n record_ ++ shown) ++ 10 ∷ []
 
--- a number in JSON, a string where it is beyond 2^53
+-- a number in JSON, a string if it is above 2^53
 abbrev pub whole_json : ℕ → Data
 whole_json n = if nat_lt (2 ^ 53) n then string (decimal n) else number (unsigned n)
 
@@ -58,12 +58,12 @@ unit_escape unit = codes "\\u" ++ encode_lower (to_be_bytes w16 unit)
 abbrev pub escapes_of : ℕ → List ℕ
 escapes_of c = flat_map unit_escape (encode_utf16 c)
 
--- a character of JSON: itself where it is printable, and else its escapes
+-- a character of JSON: itself if it is printable, else its escapes
 abbrev pub ascii_of : ℕ → List ℕ
 ascii_of c = if is_printable c then c ∷ [] else escapes_of c
 
--- The line for tools: the text of a JSON object, in ASCII, and one newline. It has each member once and the numbers of the record, and is
--- read back as that object; all before the newline is printable.
+-- The line for tools: the text of a JSON object, in ASCII, and one newline. It has each member once and the numbers of the record. It is
+-- read back as that object, if this is at most `max_depth` deep. All before the newline is printable.
 pub record IsJsonLine (n : ℕ) (record_ line : List ℕ) : Type 0 where
   pub object : Data
   pub text : List ℕ

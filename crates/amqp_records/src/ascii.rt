@@ -7,8 +7,8 @@ ghost use Rattle.amqp_records.specs.Lines.{ascii_of, escapes_of, unit_escape};
 
 use std::alloc::AllocError;
 
-/// Appends a text of JSON, in which all that is no printable ASCII stands inside strings: there it is written as `\u` and four hex
-/// digits.
+/// Appends a text of JSON. A character that is not printable ASCII is written as one or two escapes, `\u` and four
+/// hex digits each, which is right inside strings.
 pub fn put_ascii(line: &mut Vec<u8>, text: &str) -> Result<(), AllocError>
     ensures { OnOk result (line.new.items ≡ line.old.items ++ flat_map ascii_of (chars text.now)) }
 {
@@ -18,7 +18,7 @@ pub fn put_ascii(line: &mut Vec<u8>, text: &str) -> Result<(), AllocError>
     Ok(())
 }
 
-/// Appends a character of it.
+/// Appends a character of JSON.
 fn put_char(line: &mut Vec<u8>, c: char) -> Result<(), AllocError>
     ensures { OnOk result (line.new.items ≡ line.old.items ++ ascii_of c) }
 {
@@ -29,7 +29,7 @@ fn put_char(line: &mut Vec<u8>, c: char) -> Result<(), AllocError>
     put_escapes(line, c)
 }
 
-/// Appends the escapes of a character: one, or two where its code has more than 16 bits.
+/// Appends the escapes of a character: one, or two if its code has more than 16 bits.
 fn put_escapes(line: &mut Vec<u8>, c: char) -> Result<(), AllocError>
     ensures { OnOk result (line.new.items ≡ line.old.items ++ escapes_of c) }
 {

@@ -1,4 +1,4 @@
-//! A file of blocks that is there already: how far it is whole.
+//! How far a file of blocks is whole.
 
 ghost use Rattle.std.specs.Prelude.{◌≡◌, ◌≢◌, ◌↔◌, false, ℕ, List, ◌+◌, ◌<◌, ◌≤◌, length, take, drop, IsTrue, IfOk, OnOk, OnErr, Err};
 ghost use Rattle.std.specs.Io.KnownBytes.{Consumes, Keeps};
@@ -20,17 +20,17 @@ const PIECE: usize = 65536;
 pub struct Whole {
     /// How many bytes its whole blocks have.
     pub blocks: u64,
-    /// How many bytes of a block that was not written to its end stand behind them.
+    /// How many bytes follow them, of a block that was not written to its end.
     pub torn: u64,
 }
 
-/// Reads a file of blocks to its end, and answers how far it is whole. A message has at most `max_message` bytes. One block is kept. The
-/// reader has not failed before.
+/// Reads a file of blocks to its end, and returns how far it is whole. A message has at most `max_message` bytes.
+/// Between two reads it keeps less than one block. The reader must not have failed before.
 ///
 /// # Errors
 ///
-/// `Block` with the place of the first bytes that are no block and begin none. `Read` where the reader fails, `Endless` where it
-/// gives 2^64 bytes or more, and `NoMemory`.
+/// `Block` with the place of the first bytes that are no block and begin none. `Read` if the reader fails,
+/// `Endless` if it gives 2^64 bytes or more, and `NoMemory` if memory is refused.
 pub fn whole_blocks<R: Read + Drop>(
     alloc: Global,
     reader: &mut Device<R>,
@@ -49,7 +49,7 @@ pub fn whole_blocks<R: Read + Drop>(
     read_through(alloc, reader, &mut piece, max_message)
 }
 
-/// Reads into `piece` until the reader ends or no block comes.
+/// Reads into `piece` until the reader ends or the bytes are no block.
 fn read_through<R: Read + Drop>(
     alloc: Global,
     reader: &mut Device<R>,
@@ -84,7 +84,7 @@ fn read_through<R: Read + Drop>(
     })
 }
 
-/// Reads into the front of `piece`, and answers how many bytes came.
+/// Reads into the front of `piece`, and returns how many bytes came.
 pub fn read_piece<R: Read + Drop>(
     reader: &mut Device<R>,
     piece: &mut [u8],
@@ -105,7 +105,7 @@ pub fn read_piece<R: Read + Drop>(
     }
 }
 
-/// How many bytes the whole blocks at the front have.
+/// Returns how many bytes the whole blocks at the front have.
 fn whole_len(bytes: &[u8], max_message: u32) -> usize
     ensures within { result ≤ length bytes.now }
     ensures blocks { (blocks : List FileBlock) × HoldsBlocks max_message bytes.now blocks (drop result bytes.now) }
@@ -118,7 +118,7 @@ fn whole_len(bytes: &[u8], max_message: u32) -> usize
     at
 }
 
-/// The place so many bytes behind another.
+/// Returns the place that is `len` bytes after another, or `Endless` if it is 2^64 or more.
 pub fn further(place: u64, len: usize) -> Result<u64, BlocksFault>
     ensures fault { OnErr result (result ≡ Err BlocksFault.Endless) }
     ensures place { IfOk result (λ n. n ≡ place + len) }

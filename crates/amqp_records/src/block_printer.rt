@@ -26,16 +26,19 @@ struct Due {
     place: u64,
 }
 
-/// Reads a file of blocks to its end, and writes what is wanted of each record of the whole blocks, in order, flushing the writer before it
-/// reads on: the line that [`crate::print_records`] writes, with the number of the connection, or the bytes of one message. Records are
-/// counted over the whole file. Answers how many there are. A message has at most `max_message` bytes. One block is kept. Neither device has
-/// failed before.
+/// Reads a file of blocks to its end, and writes what is wanted of each record of the whole blocks, in order. That
+/// is the line that [`crate::print_records`] writes, with the number of the connection, or the bytes of one
+/// message. It flushes the writer before it reads on. It returns how many records there are; they are counted over
+/// the whole file. A message has at most `max_message` bytes. Between two reads it keeps less than one block.
+/// Neither device may have failed before.
 ///
 /// # Errors
 ///
-/// `Cut` and `Block` with the place of the first block that is not whole, and of what is none, where all that stood before was
-/// written. `Read` and `Write` where that device has failed, `Endless` where the reader gives 2^64 bytes or more, and `NoMemory`: what was
-/// written is then a beginning of what is written of the records that came; after `Read` it is that of all blocks that came whole.
+/// `Cut` with the place of the first block that is not whole, and `Block` with the place of the first bytes that
+/// are no block and begin none. All that comes before is written then. `Read` and `Write` if that device has
+/// failed, `Endless` if the reader gives 2^64 bytes or more, and `NoMemory` if memory is refused. What was written
+/// is then a beginning of what is written of the records that came; after `Read` it is all that is written of the
+/// blocks that came whole.
 pub fn print_blocks<R: Read + Drop, W: Write + Drop>(
     alloc: Global,
     reader: &mut Device<R>,
@@ -70,7 +73,8 @@ pub fn print_blocks<R: Read + Drop, W: Write + Drop>(
     )
 }
 
-/// Reads into `piece` until the reader ends or no block comes, and writes what is wanted of the records of the blocks that come.
+/// Reads into `piece` until the reader ends or the bytes are no block, and writes what is wanted of the records of
+/// the blocks that come.
 fn print_through<R: Read + Drop, W: Write + Drop>(
     alloc: Global,
     reader: &mut Device<R>,
@@ -123,7 +127,8 @@ fn print_through<R: Read + Drop, W: Write + Drop>(
     }
 }
 
-/// Takes a piece behind the bytes that arrived, writes what is wanted of the records of the blocks that are whole now, and drops them.
+/// Adds a piece to the bytes that arrived, writes what is wanted of the records of the blocks that are whole now,
+/// and drops these.
 fn print_piece<W: Write + Drop>(
     alloc: Global,
     output: Output,
@@ -151,7 +156,8 @@ fn print_piece<W: Write + Drop>(
     Ok(())
 }
 
-/// Writes what is wanted of the records of the whole blocks at the front, and answers how many bytes the blocks have.
+/// Writes what is wanted of the records of the whole blocks at the front, and returns how many bytes the blocks
+/// have.
 fn print_whole<W: Write + Drop>(
     alloc: Global,
     output: Output,
@@ -181,7 +187,7 @@ fn print_whole<W: Write + Drop>(
     Ok(at)
 }
 
-/// Writes what is wanted of the records of a block, and goes on to the next.
+/// Writes what is wanted of the records of a block, and makes the next block due.
 fn print_block<W: Write + Drop>(
     alloc: Global,
     output: Output,
@@ -217,7 +223,8 @@ fn print_block<W: Write + Drop>(
     Ok(())
 }
 
-/// Writes what is wanted of the records of a connection, of which the first has this number, and answers the number behind the last.
+/// Writes what is wanted of the records of a connection, the first of which has this number. Returns the number
+/// after the last.
 fn print_each<W: Write + Drop>(
     alloc: Global,
     output: Output,
@@ -247,7 +254,7 @@ fn print_each<W: Write + Drop>(
     Ok(number)
 }
 
-/// Writes what is wanted of the record of this number, of a connection.
+/// Writes what is wanted of the record with this number, of a connection.
 fn print_record<W: Write + Drop>(
     alloc: Global,
     output: Output,
@@ -276,7 +283,7 @@ fn print_record<W: Write + Drop>(
     write_out(&line, writer)
 }
 
-/// A line with the number of its connection in front.
+/// Returns a line that begins with the number of its connection.
 fn line_with(
     alloc: Global,
     output: Output,
@@ -291,7 +298,7 @@ fn line_with(
     Ok(whole)
 }
 
-/// What stands in front of a line: the number of the connection.
+/// Returns what a line begins with: the number of the connection.
 fn connection_text(alloc: Global, output: Output, connection: u64) -> Result<String, AllocError>
     ensures { IfOk result (λ text. string_bytes text ≡ connection_text output connection) }
 {
@@ -301,7 +308,7 @@ fn connection_text(alloc: Global, output: Output, connection: u64) -> Result<Str
     }
 }
 
-/// A line without the brace that an object begins with.
+/// Returns a line without the brace that an object begins with.
 fn behind_brace(output: Output, line: &[u8]) -> &[u8]
     ensures { result.now ≡ behind_brace output line.now }
 {

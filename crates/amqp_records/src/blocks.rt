@@ -9,14 +9,14 @@ use byteorder::{BigEndian, ByteOrder};
 use std::alloc::{AllocError, Allocator, Global};
 use std::marker::Model;
 
-/// How many bytes stand in front of a block's records: the number of their connection (8) and how many bytes of records follow (4),
-/// both big-endian.
+/// How many bytes the head of a block has: the number of the connection (8) and how many bytes of records follow
+/// (4), both big-endian.
 pub const BLOCK_HEAD: usize = 12;
 
 /// How many bytes of records a block has at most, unless it is one longer record.
 pub const BLOCK_MOST: usize = 262_144;
 
-/// Where the size stands in a head.
+/// Where the size is in a head.
 const SIZE: usize = 8;
 
 /// The last of some blocks: its connection, where it begins, and how many bytes of records it has.
@@ -27,7 +27,7 @@ struct Last {
     held: usize,
 }
 
-/// Blocks that wait to be written, one behind another.
+/// Blocks that wait to be written, one after another.
 #[derive(Drop)]
 pub struct Blocks<A: Allocator + Copy = Global> {
     bytes: Vec<u8, A>,
@@ -46,7 +46,7 @@ impl<A: Allocator + Copy> Model for Blocks<A> {
 }
 
 impl<A: Allocator + Copy> Blocks<A> {
-    /// None.
+    /// Makes an empty list of blocks.
     pub fn new(alloc: A) -> Self
         ensures { AreBlocks result [] }
     {
@@ -56,14 +56,14 @@ impl<A: Allocator + Copy> Blocks<A> {
         }
     }
 
-    /// All of them.
+    /// Returns the bytes of all blocks.
     pub fn as_bytes(&self) -> &[u8]
         ensures { result.now ≡ self.now.bytes }
     {
         &self.bytes
     }
 
-    /// Lets go of all of them, as they were written. The memory stays.
+    /// Drops all blocks, since they were written. The memory stays.
     pub fn clear(&mut self)
         ensures { AreBlocks self.new [] }
     {
@@ -71,12 +71,13 @@ impl<A: Allocator + Copy> Blocks<A> {
         self.last = None;
     }
 
-    /// Puts whole records of a connection behind them: into the last block, where that is this connection's and has room for them,
-    /// and else into one more. They are fewer than 2^32 bytes; where they are more than [`BLOCK_MOST`] they are one record.
+    /// Adds whole records of a connection: to the last block if that is this connection's and has room for them,
+    /// else as one more block. They must have fewer than 2^32 bytes. If they have more than [`BLOCK_MOST`], the
+    /// block can be read only if they are one record.
     ///
     /// # Errors
     ///
-    /// An error where memory is refused; nothing has changed then.
+    /// `AllocError` if memory is refused. Nothing has changed then.
     pub fn put(&mut self, number: u64, records: &[u8]) -> Result<(), AllocError>
         requires { length records.now < 2 ^ 32 }
         ensures put { (blocks : List Block) → AreBlocks self.old blocks → OnOk result (AreBlocks self.new (with_records (record { number = number; records = records.now }) blocks)) }
@@ -88,7 +89,7 @@ impl<A: Allocator + Copy> Blocks<A> {
         }
     }
 
-    /// Puts one more block.
+    /// Adds one more block.
     fn put_block(&mut self, number: u64, records: &[u8]) -> Result<(), AllocError>
         requires { length records.now < 2 ^ 32 }
         ensures bytes { OnOk result (self.new.bytes ≡ self.old.bytes ++ block_text (record { number = number; records = records.now })) }
@@ -110,7 +111,7 @@ impl<A: Allocator + Copy> Blocks<A> {
         Ok(())
     }
 
-    /// Puts records into the last block.
+    /// Adds records to the last block.
     fn put_behind(&mut self, last: Last, records: &[u8]) -> Result<(), AllocError>
         requires last { self.old.last ≡ Some last }
         requires few { last.held + length records.now ≤ BLOCK_MOST }
@@ -132,7 +133,7 @@ impl<A: Allocator + Copy> Blocks<A> {
     }
 }
 
-/// Whether these records go on in the last block.
+/// Returns whether these records go into the last block.
 fn goes_on(last: Last, number: u64, records: &[u8]) -> bool
     ensures value { result ≡ ((last.number == number) && nat_le (last.held + length records.now) block_most) }
     ensures few { IsTrue result → last.held + length records.now ≤ BLOCK_MOST }
@@ -140,7 +141,7 @@ fn goes_on(last: Last, number: u64, records: &[u8]) -> bool
     last.number == number && last.held <= BLOCK_MOST && records.len() <= BLOCK_MOST - last.held
 }
 
-/// Puts four bytes at their place.
+/// Replaces the four bytes at `at`.
 fn put_at(out: &mut [u8], at: usize, bytes: &[u8; 4])
     requires { at + 4 ≤ length out.old }
     ensures { out.new ≡ take at out.old ++ (bytes.now ++ drop (at + 4) out.old) }
@@ -148,7 +149,7 @@ fn put_at(out: &mut [u8], at: usize, bytes: &[u8; 4])
     out[at..at + 4].copy_from_slice(bytes);
 }
 
-/// The head of a block.
+/// Returns the head of a block.
 fn head_of(number: u64, size: u32) -> [u8; BLOCK_HEAD]
     ensures { result ≡ big_bytes 8 number ++ big_bytes 4 size }
 {
@@ -157,18 +158,18 @@ fn head_of(number: u64, size: u32) -> [u8; BLOCK_HEAD]
     [a, b, c, d, e, f, g, h, i, j, k, l]
 }
 
-/// What stands at the front of the bytes of a file of blocks.
+/// What is at the front of the bytes of a file of blocks.
 #[derive(Clone, Copy, Debug, PartialEq, Eq)]
 pub enum BlockFront {
-    /// A block, with so many bytes of records.
+    /// A block, with this many bytes of records.
     Whole(usize),
     /// Less than a block.
     Partial,
-    /// What begins no block.
+    /// Bytes that are no block and begin none.
     NoBlock,
 }
 
-/// What stands at the front, where messages of at most `max_message` bytes are allowed.
+/// Returns what is at the front of the bytes, if messages have at most `max_message` bytes.
 pub fn block_front(bytes: &[u8], max_message: u32) -> BlockFront
     ensures within { IfWhole result (λ n. BLOCK_HEAD + n ≤ length bytes.now) }
     ensures whole { IfWhole result (λ n. BeginsBlock max_message bytes.now n) }
@@ -189,7 +190,7 @@ pub fn block_front(bytes: &[u8], max_message: u32) -> BlockFront
     }
 }
 
-/// What stands at the front by its head and that of its first record alone.
+/// Returns what is at the front, by the block's head and that of its first record alone.
 fn head_front(bytes: &[u8], max_message: u32) -> BlockFront
     ensures value { result ≡ head_front max_message bytes.now }
     ensures within { IfWhole result (λ n. BLOCK_HEAD + n ≤ length bytes.now) }
@@ -214,14 +215,14 @@ fn head_front(bytes: &[u8], max_message: u32) -> BlockFront
     BlockFront::Whole(size)
 }
 
-/// Whether a block may have so many bytes of records.
+/// Returns whether a block may have `size` bytes of records.
 fn may_have(max_message: u32, size: usize) -> bool
     ensures { result ≡ may_have max_message size }
 {
     HEAD <= size && (size <= BLOCK_MOST || size <= HEAD + max_message as usize)
 }
 
-/// Whether a block of so many bytes of records may begin with a record of so long a message.
+/// Returns whether a block with `size` bytes of records may begin with a record whose message has `message` bytes.
 fn may_begin(max_message: u32, size: usize, message: u32) -> bool
     ensures { result ≡ may_begin max_message size message }
 {
@@ -229,7 +230,7 @@ fn may_begin(max_message: u32, size: usize, message: u32) -> bool
     message <= max_message && (size == first || first <= size && size <= BLOCK_MOST)
 }
 
-/// Whether these bytes are records one behind another.
+/// Returns whether these bytes are records, one after another.
 fn are_records(bytes: &[u8], max_message: u32) -> bool
     ensures { IsTrue result ↔ AllRecords max_message bytes.now }
 {
@@ -240,7 +241,7 @@ fn are_records(bytes: &[u8], max_message: u32) -> bool
     at == bytes.len()
 }
 
-/// The number of the connection that a block's head says.
+/// Returns the number of the connection that a block's head gives.
 pub fn number_of(bytes: &[u8]) -> u64
     requires { BLOCK_HEAD ≤ length bytes.now }
     ensures { result ≡ number_of bytes.now }

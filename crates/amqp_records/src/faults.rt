@@ -6,8 +6,8 @@ ghost use Rattle.amqp_records.specs.declared.faults.RecordsFault.TheVariants.{No
 use std::alloc::AllocError;
 use thiserror::Error;
 
-/// Why a file of records was not printed to its end. A place is that of the record's first byte, in bytes from the first one of
-/// the file.
+/// Why a file of records was not printed to its end. A place is where the record begins, in bytes from the start
+/// of the file.
 #[derive(Debug, Drop, Error)]
 pub enum RecordsFault {
     /// The input could not be read.
@@ -38,7 +38,7 @@ impl From<AllocError> for RecordsFault {
     }
 }
 
-/// Why a file of blocks was not gone through to its end. A place is in bytes from the first one of the file.
+/// Why a file of blocks was not read to its end. A place is in bytes from the start of the file.
 #[derive(Debug, Drop, Error)]
 pub enum BlocksFault {
     /// The input could not be read.
@@ -47,7 +47,7 @@ pub enum BlocksFault {
     /// What was printed could not be written.
     #[error("Write")]
     Write,
-    /// What stands at this place is no block, nor the beginning of one.
+    /// The bytes at this place are no block, nor the beginning of one.
     #[error("{0} Block")]
     Block(u64),
     /// The input ends inside the block at this place.

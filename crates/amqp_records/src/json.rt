@@ -14,9 +14,10 @@ use amqp_types::{Value, decode};
 use serde_json::{Value as Json, put};
 use std::alloc::{AllocError, Global};
 
-/// Puts the line of a record in the place of what `line` held: a JSON object with the members `number`, `channel`, `handle`, `id`,
-/// `format`, `size`, and the sections of the message by their names. The bytes of all data sections together are `data` where they
-/// are UTF-8, and else `data_base64`; where the message's bytes are no sections they are `bytes_base64`.
+/// Replaces what `line` held by the line of a record: a JSON object with the members `number`, `channel`,
+/// `handle`, `id`, `format`, `size`, and the sections of the message by their names. The bytes of all data
+/// sections together are `data` if they are UTF-8, else `data_base64`. If the message's bytes are not sections,
+/// they are `bytes_base64`.
 pub fn put_line(
     alloc: Global,
     line: &mut Vec<u8>,
@@ -34,7 +35,7 @@ pub fn put_line(
     Ok(())
 }
 
-/// The object of a record.
+/// Returns the object of a record.
 fn object_of(alloc: Global, number: u64, record: &Record<'_>) -> Result<Json, AllocError>
     ensures { IfOk result (λ json. HasNumbers number «record».now.channel «record».now.handle «record».now.delivery_id «record».now.message_format (length «record».now.message.now) (view json)) }
 {
@@ -112,8 +113,8 @@ fn put_data(alloc: Global, members: &mut Members, data: &[u8]) -> Result<(), All
     }
 }
 
-/// The value of a section, which is known to be within the limits. The fields of a header and of properties have their names, and
-/// those that are null are left out.
+/// Returns the value of a section, which is known to be within the limits. The fields of a header and of
+/// properties have their names, and those that are null are left out.
 fn value_of(alloc: Global, section: &Section<'_>) -> Result<Json, AllocError> {
     let Ok((value, _)) = decode(alloc, section.value, LIMITS) else {
         return Err(AllocError);
@@ -126,7 +127,7 @@ fn value_of(alloc: Global, section: &Section<'_>) -> Result<Json, AllocError> {
     }
 }
 
-/// The object of fields that have these names.
+/// Returns the object of fields that have these names, without those that are null.
 fn fields_of(alloc: Global, names: &[&str], items: &[Value]) -> Result<Json, AllocError> {
     let mut members = Members::new(alloc);
     for (name, item) in names.iter().zip(items) {

@@ -1,14 +1,13 @@
 //! Files of records, as `recv` writes them, printed for people and for tools.
 //!
-//! [`print_records`] (`printer`) reads pieces from a `Device`, takes the whole records from the front of what came (`record`),
-//! writes what is wanted of each, and reads again. A line for people is put together by `summary`, one for tools by `json` (values by
-//! `value`), both from the sections of the message (`section`); `line` and `ascii` let nothing through but printable ASCII.
-//! `specs/Records.antt` says what a file of records is, `specs/Lines.antt` what a line says of a record, `specs/Printing.antt` what is
-//! written of a file.
+//! Begin reading at [`print_records`] (`printer`): it reads pieces from a `Device`, writes what is wanted of each
+//! whole record (`record`), and reads again. `summary` makes a line for people, `json` one for tools, both of the
+//! sections of the message (`section`). `line` and `ascii` pass nothing but printable ASCII. See
+//! `specs/Records.antt`, `Lines.antt` and `Printing.antt`.
 //!
-//! A file that many connections share is made of blocks of their records (`blocks`, `specs/Blocks.antt`): [`Blocks`] makes them, [`whole_blocks`]
-//! (`block_file`) says how far a file of them is whole, and [`print_blocks`] (`block_printer`, `specs/BlockPrinting.antt`) prints one.
-//! The tests stand in `test_records_rows`.
+//! A file that many connections share is made of blocks of their records. [`Blocks`] makes them, [`whole_blocks`]
+//! says how far a file of them is whole, and [`print_blocks`] prints one. See `specs/Blocks.antt` and
+//! `BlockPrinting.antt`. The tests are in `test_records_rows`.
 #![tactic(auto)]
 
 mod ascii;

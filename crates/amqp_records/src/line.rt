@@ -5,18 +5,18 @@ ghost use Rattle.amqp_records.specs.Lines.{printable_of};
 
 use std::alloc::AllocError;
 
-/// What stands in a line for a byte that may not.
+/// What replaces a byte that is not printable ASCII.
 const REPLACEMENT: u8 = b'?';
 
-/// Appends a text. A byte of it that is no printable ASCII is replaced, though no line that this crate puts together has one:
-/// whatever a peer sent, no control reaches a terminal and no line is broken.
+/// Appends a text, with `?` for each byte that is not printable ASCII. So no control character of a peer reaches a
+/// terminal, and none breaks a line.
 pub fn put_printable(line: &mut Vec<u8>, text: &[u8]) -> Result<(), AllocError>
     ensures { OnOk result (line.new.items ≡ line.old.items ++ map printable_of text.now) }
 {
     line.extend(text.iter().map(|byte| printable(*byte)))
 }
 
-/// The byte, or what stands for it.
+/// Returns the byte, or `?` if it is not printable ASCII.
 fn printable(byte: u8) -> u8
     ensures { result ≡ printable_of byte }
 {

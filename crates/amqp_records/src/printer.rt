@@ -33,11 +33,11 @@ pub enum Output {
 struct Due {
     /// Its number, from 1.
     number: u64,
-    /// Where it begins: bytes from the first one of the file.
+    /// Where it begins, in bytes from the start of the file.
     place: u64,
 }
 
-/// Where a line is put together.
+/// Room to make a line in.
 #[derive(Drop)]
 pub struct Scratch {
     page: Page,
@@ -45,7 +45,7 @@ pub struct Scratch {
 }
 
 impl Scratch {
-    /// Room for a line, and for so many bytes of a message that is shown in it.
+    /// Makes room for a line, and for `capacity` bytes of a message that is shown in it.
     pub fn new(alloc: Global, capacity: usize) -> Result<Scratch, AllocError> {
         Ok(Scratch {
             page: Page::with_capacity(alloc, capacity)?,
@@ -53,7 +53,7 @@ impl Scratch {
         })
     }
 
-    /// The line that was put together.
+    /// Returns the line that was made last.
     pub fn line(&self) -> &[u8]
         ensures { result.now ≡ self.now.line.items }
     {
@@ -61,15 +61,16 @@ impl Scratch {
     }
 }
 
-/// Reads a file of records to its end, and writes what is wanted of each that is whole, in order, flushing the writer before
-/// it reads on. Answers how many records there are. A message has at most `max_message` bytes. One record is kept. Neither device has
-/// failed before.
+/// Reads a file of records to its end, and writes what is wanted of each whole record, in order. It flushes the
+/// writer before it reads on. It returns how many records there are. A message has at most `max_message` bytes.
+/// Between two reads it keeps less than one record. Neither device may have failed before.
 ///
 /// # Errors
 ///
-/// `Cut` and `TooLong` with the place of the first record that is not whole or whose message is longer, where all that stood before was
-/// written. `Read` and `Write` where that device has failed, `Endless` where the reader gives 2^64 bytes or more, and `NoMemory`: what
-/// was written is then a beginning of what is written of the records that came; after `Read` it is that of all that came whole.
+/// `Cut` with the place of the first record that is not whole, and `TooLong` with that of the first whose message
+/// is longer. All that comes before is written then. `Read` and `Write` if that device has failed, `Endless` if
+/// the reader gives 2^64 bytes or more, and `NoMemory` if memory is refused. What was written is then a beginning
+/// of what is written of the records that came; after `Read` it is all that is written of those that came whole.
 pub fn print_records<R: Read + Drop, W: Write + Drop>(
     alloc: Global,
     reader: &mut Device<R>,
@@ -161,7 +162,7 @@ fn print_all<R: Read + Drop, W: Write + Drop>(
     }
 }
 
-/// Reads into the front of `piece`, and answers how many bytes came.
+/// Reads into the front of `piece`, and returns how many bytes came.
 fn read_piece<R: Read + Drop>(
     reader: &mut Device<R>,
     piece: &mut [u8],
@@ -182,7 +183,8 @@ fn read_piece<R: Read + Drop>(
     }
 }
 
-/// Takes a piece behind the bytes that arrived, writes what is wanted of the records that are whole now, and drops them.
+/// Adds a piece to the bytes that arrived, writes what is wanted of the records that are whole now, and drops
+/// these.
 fn print_piece<W: Write + Drop>(
     alloc: Global,
     output: Output,
@@ -211,7 +213,7 @@ fn print_piece<W: Write + Drop>(
     Ok(())
 }
 
-/// Drops so many bytes in front; where they are none, nothing is moved. Takes no memory.
+/// Drops the first `count` bytes. If that is 0, nothing is moved. Takes no memory.
 pub fn drop_front(bytes: &mut Vec<u8>, count: usize)
     requires { count ≤ length bytes.old.items }
     ensures { bytes.new.items ≡ drop count bytes.old.items }
@@ -224,7 +226,7 @@ pub fn drop_front(bytes: &mut Vec<u8>, count: usize)
     bytes.truncate(len - count);
 }
 
-/// Writes what is wanted of the whole records at the front, and answers how many bytes they are.
+/// Writes what is wanted of the whole records at the front, and returns how many bytes they have.
 fn print_whole<W: Write + Drop>(
     alloc: Global,
     output: Output,
@@ -255,7 +257,7 @@ fn print_whole<W: Write + Drop>(
     Ok(at)
 }
 
-/// Goes on to the record behind one of so many bytes.
+/// Makes the next record due, after one of `len` bytes.
 fn pass(due: &mut Due, len: usize) -> Result<(), RecordsFault>
     ensures fault { OnErr result (result ≡ Err RecordsFault.Endless) }
     ensures number { OnOk result (due.new.number ≡ due.old.number + 1) }
@@ -271,7 +273,7 @@ fn pass(due: &mut Due, len: usize) -> Result<(), RecordsFault>
     Ok(())
 }
 
-/// Writes what is wanted of the record of this number.
+/// Writes what is wanted of the record with this number.
 fn print_record<W: Write + Drop>(
     alloc: Global,
     output: Output,
@@ -298,7 +300,7 @@ fn print_record<W: Write + Drop>(
     write_out(&scratch.line, writer)
 }
 
-/// Puts the line of a record in the place of the last one.
+/// Replaces the line that was made last by the line of a record.
 pub fn put_line_of(
     alloc: Global,
     output: Output,

@@ -5,17 +5,17 @@ ghost use Rattle.amqp_records.specs.Records.{said, front_of, channel_of, handle_
 
 use byteorder::{BigEndian, ByteOrder};
 
-/// How many bytes stand in front of a record's message: channel (2), handle, delivery-id, message-format and the length of the
+/// How many bytes the head of a record has: channel (2), handle, delivery-id, message-format and the length of the
 /// message (4 each), all big-endian.
 pub const HEAD: usize = 18;
 
-/// Where the length of the message stands in them.
+/// Where the length of the message is in a head.
 const LENGTH: usize = 14;
 
-/// What stands at the front of some bytes.
+/// What is at the front of some bytes.
 #[derive(Clone, Copy, Debug, PartialEq, Eq)]
 pub enum Front {
-    /// A whole record, of so many bytes.
+    /// A whole record, of this many bytes.
     Whole(usize),
     /// Less than a record.
     Partial,
@@ -23,7 +23,7 @@ pub enum Front {
     TooLong,
 }
 
-/// What stands at the front, where messages of at most `max_message` bytes are allowed.
+/// Returns what is at the front of the bytes, if messages have at most `max_message` bytes.
 pub fn front_of(bytes: &[u8], max_message: u32) -> Front
     ensures { result ≡ front_of max_message bytes.now }
 {
@@ -41,7 +41,7 @@ pub fn front_of(bytes: &[u8], max_message: u32) -> Front
     Front::Whole(len)
 }
 
-/// How long a message a record's head says.
+/// Returns the length of the message, in bytes, that a record's head gives.
 pub fn message_len(bytes: &[u8]) -> u32
     requires { HEAD ≤ length bytes.now }
     ensures { result ≡ said bytes.now }
@@ -49,7 +49,7 @@ pub fn message_len(bytes: &[u8]) -> u32
     BigEndian::read_u32(&bytes[LENGTH..])
 }
 
-/// A record, lent from its bytes.
+/// A record, borrowed from its bytes.
 #[derive(Clone, Copy, Debug)]
 pub struct Record<'a> {
     pub channel: u16,
@@ -59,7 +59,7 @@ pub struct Record<'a> {
     pub message: &'a [u8],
 }
 
-/// The record that these bytes are.
+/// Returns the record that these bytes are.
 pub fn record_in(bytes: &[u8]) -> Record<'_>
     requires { HEAD ≤ length bytes.now }
     ensures channel { result.channel ≡ channel_of bytes.now }

@@ -12,10 +12,10 @@ const SECTION_LIMITS: Limits = Limits {
     nodes: LIMITS.nodes + 2,
 };
 
-/// How many sequences a message may have: an array of many values may take a few bytes, and its text many.
+/// How many sequences a message may have. An array of many values may take a few bytes, and its text many.
 const MOST_SEQUENCES: usize = 8;
 
-/// The kinds of sections, in the order in which they stand in a message.
+/// The kinds of sections, in the order that they have in a message.
 #[derive(Clone, Copy, Debug, PartialEq, Eq)]
 pub enum SectionKind {
     Header,
@@ -29,7 +29,7 @@ pub enum SectionKind {
     Footer,
 }
 
-/// The symbols by which descriptors may name them.
+/// The symbols by which descriptors may name the kinds.
 const SYMBOLS: [(&str, SectionKind); 9] = [
     ("amqp:header:list", SectionKind::Header),
     (
@@ -51,7 +51,7 @@ const SYMBOLS: [(&str, SectionKind); 9] = [
     ("amqp:footer:map", SectionKind::Footer),
 ];
 
-/// A section, lent from the message.
+/// A section, borrowed from the message.
 #[derive(Clone, Copy, Debug)]
 pub struct Section<'a> {
     pub kind: SectionKind,
@@ -60,7 +60,7 @@ pub struct Section<'a> {
 }
 
 impl SectionKind {
-    /// The name of the standard.
+    /// Returns the name that the standard gives the kind.
     pub fn name(self) -> &'static str {
         match self {
             SectionKind::Header => "header",
@@ -75,7 +75,7 @@ impl SectionKind {
         }
     }
 
-    /// The kind that a descriptor of this number says.
+    /// Returns the kind that a descriptor with this number names.
     fn of_code(code: u64) -> Option<SectionKind> {
         match code {
             0x70 => Some(SectionKind::Header),
@@ -91,7 +91,7 @@ impl SectionKind {
         }
     }
 
-    /// The kind that a descriptor of this symbol says.
+    /// Returns the kind that a descriptor with this symbol names.
     // By a table: a match over texts is proved byte by byte, which took a quarter of the crate's proof.
     fn of_symbol(symbol: &[u8]) -> Option<SectionKind> {
         for (name, kind) in &SYMBOLS {
@@ -102,7 +102,7 @@ impl SectionKind {
         None
     }
 
-    /// The names of the fields of a section that has such.
+    /// Returns the names of the section's fields; none for a kind without fields.
     pub fn fields(self) -> &'static [&'static str] {
         match self {
             SectionKind::Header => &HEADER_FIELDS,
@@ -111,8 +111,8 @@ impl SectionKind {
         }
     }
 
-    /// Whether a section of this kind may stand behind one of another: none stands twice, but data behind data and a sequence
-    /// behind a sequence, and the kinds of a body don't mix.
+    /// Returns whether a section of this kind may follow one of another. No kind comes twice, except data after
+    /// data and a sequence after a sequence, and the kinds of a body don't mix.
     fn may_follow(self, before: SectionKind) -> bool {
         match (before, self) {
             (SectionKind::Data, SectionKind::Data) => true,
@@ -121,7 +121,7 @@ impl SectionKind {
         }
     }
 
-    /// The place among the kinds that are parted by rank; the kinds of a body have one.
+    /// Returns the place of a kind in a message; the kinds of a body have one place.
     fn rank(self) -> u8 {
         match self {
             SectionKind::Header => 0,
@@ -162,7 +162,7 @@ const PROPERTIES_FIELDS: [&str; 13] = [
 ];
 
 impl<'a> Section<'a> {
-    /// Whether the value is of the type that the section has.
+    /// Returns whether the value has the type of its section.
     fn fits(&self) -> bool {
         match self.kind {
             SectionKind::Header | SectionKind::Properties => {
@@ -175,7 +175,7 @@ impl<'a> Section<'a> {
         }
     }
 
-    /// The bytes of a data section.
+    /// Returns the bytes of a data section.
     pub fn data(&self) -> &'a [u8] {
         let size = match self.value.first() {
             Some(0xa0) => 1,
@@ -185,7 +185,7 @@ impl<'a> Section<'a> {
     }
 }
 
-/// Whether a value is a list, a map or a binary, by its code. [1.6]
+/// Returns whether a value is a list, by its code. [1.6]
 fn is_list(value: &[u8]) -> bool {
     matches!(value.first(), Some(0x45 | 0xc0 | 0xd0))
 }
@@ -198,7 +198,7 @@ fn is_binary(value: &[u8]) -> bool {
     matches!(value.first(), Some(0xa0 | 0xb0))
 }
 
-/// How many items a list has.
+/// Returns how many items a list has.
 fn count_in(list: &[u8]) -> usize {
     match *list {
         [0xc0, _, count, ..] => count as usize,
@@ -207,8 +207,9 @@ fn count_in(list: &[u8]) -> usize {
     }
 }
 
-/// The sections of a message, in order. None where its bytes are no sections: values that are described so and of the type that each
-/// has, in the order of the standard, within the limits of `dump`, and at most [`MOST_SEQUENCES`] of them sequences.
+/// Returns the sections of a message, in order, or `None` if its bytes are not sections. Sections are values that
+/// are described as such, each of its type, in the order of the standard, within the limits of `dump`. At most
+/// [`MOST_SEQUENCES`] of them are sequences.
 pub fn sections(alloc: Global, message: &[u8]) -> Result<Option<Vec<Section<'_>>>, AllocError> {
     let mut found: Vec<Section<'_>> = Vec::new(alloc);
     let mut rest = message;
@@ -225,7 +226,7 @@ pub fn sections(alloc: Global, message: &[u8]) -> Result<Option<Vec<Section<'_>>
     Ok(Some(found))
 }
 
-/// Whether a section of this kind may stand behind these.
+/// Returns whether a section of this kind may follow these.
 fn may_stand_behind(kind: SectionKind, found: &[Section<'_>]) -> bool {
     let Some(last) = found.last() else {
         return true;
@@ -234,7 +235,7 @@ fn may_stand_behind(kind: SectionKind, found: &[Section<'_>]) -> bool {
         && (kind != SectionKind::AmqpSequence || sequences_in(found) < MOST_SEQUENCES)
 }
 
-/// How many sequences there are.
+/// Returns how many sequences there are.
 fn sequences_in(found: &[Section<'_>]) -> usize {
     found
         .iter()
@@ -242,7 +243,7 @@ fn sequences_in(found: &[Section<'_>]) -> usize {
         .count()
 }
 
-/// The section at the front, and the bytes behind it.
+/// Returns the section at the front, and the bytes after it.
 fn section_at(alloc: Global, bytes: &[u8]) -> Result<Option<(Section<'_>, &[u8])>, AllocError>
     ensures { IfOk result (λ found. IfSome found (λ s. length s.1.now < length bytes.now)) }
 {
@@ -273,7 +274,7 @@ fn section_at(alloc: Global, bytes: &[u8]) -> Result<Option<(Section<'_>, &[u8])
     }
 }
 
-/// What comes of a value that can't be read: nothing, or an error where memory was refused.
+/// Returns what a value that can't be read results in: `None`, or an error if memory was refused.
 fn none_for<T>(fault: ReadFault) -> Result<Option<T>, AllocError>
     ensures { IfOk result (λ found. found ≡ None) }
 {
@@ -283,7 +284,7 @@ fn none_for<T>(fault: ReadFault) -> Result<Option<T>, AllocError>
     }
 }
 
-/// The kind that a descriptor says.
+/// Returns the kind that a descriptor names.
 fn kind_of(descriptor: &Value) -> Option<SectionKind> {
     match descriptor {
         Value::Ulong(code) => SectionKind::of_code(*code),

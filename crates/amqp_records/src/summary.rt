@@ -9,9 +9,9 @@ use crate::section::{Section, SectionKind, sections};
 use amqp_dump::{LIMITS, Page, put_hex, put_quoted, put_value};
 use std::alloc::{AllocError, Global};
 
-/// Puts the line of a record in the place of what `line` held: `N channel=C handle=H id=I format=F size=S` and, behind a space
-/// each, the sections of the message by their names. Values stand as `dump` prints them, data that is UTF-8 in quotes. Where the
-/// bytes are no sections they stand behind `bytes`.
+/// Replaces what `line` held by the line of a record: `N channel=C handle=H id=I format=F size=S` and, each after
+/// a space, the sections of the message by their names. Values are as `dump` prints them, data that is UTF-8 in
+/// quotes. If the bytes are not sections, they follow `bytes`.
 pub fn put_line(
     alloc: Global,
     page: &mut Page,
@@ -35,7 +35,7 @@ pub fn put_line(
     Ok(())
 }
 
-/// The numbers of a record.
+/// Returns the numbers of a record as text.
 fn head_of(alloc: Global, number: u64, record: &Record<'_>) -> Result<String, AllocError>
     ensures printable { IfOk result (λ text. All IsPrintable (string_bytes text)) }
     ensures numbers { IfOk result (λ text. string_bytes text ≡ head_text number «record».now.channel «record».now.handle «record».now.delivery_id «record».now.message_format (length «record».now.message.now)) }
@@ -53,7 +53,7 @@ fn head_of(alloc: Global, number: u64, record: &Record<'_>) -> Result<String, Al
     )
 }
 
-/// Puts what a message says.
+/// Puts the sections of a message, or its bytes if they are not sections.
 fn put_message(alloc: Global, out: &mut Page, message: &[u8]) -> Result<(), AllocError> {
     match sections(alloc, message)? {
         Some(sections) => {
@@ -82,7 +82,7 @@ fn put_section(out: &mut Page, section: &Section<'_>) {
     }
 }
 
-/// Puts bytes in quotes where they are UTF-8, and else in hex.
+/// Puts bytes in quotes if they are UTF-8, else in hex.
 fn put_data(out: &mut Page, data: &[u8]) {
     if simdutf8::basic::from_utf8(data).is_ok() {
         put_quoted(out, data);

@@ -12,16 +12,16 @@ use serde_json::{Map, Number, Value as Json, put};
 use std::alloc::{AllocError, Global};
 use uuid::Uuid;
 
-/// Whole numbers beyond this one, and below its negative, are strings: many readers keep numbers as floats.
+/// Whole numbers above this one, and below its negative, are strings, since many readers keep numbers as floats.
 const LARGEST_WHOLE: u64 = 1 << 53;
 
-/// More levels than a value has that is read within [`LIMITS`].
+/// More levels than any value has that is read within [`LIMITS`].
 pub const LEVELS: usize = LIMITS.depth + 1;
 
-/// An object under way.
+/// An object that is being made.
 pub type Members = Map<String, Json>;
 
-/// A value of fewer levels than `depth`.
+/// Returns the JSON of a value that has fewer levels than `depth`.
 #[cycle(json)]
 pub fn json_of(alloc: Global, depth: usize, value: &Value) -> Result<Json, AllocError> {
     if depth == 0 {
@@ -55,7 +55,7 @@ pub fn json_of(alloc: Global, depth: usize, value: &Value) -> Result<Json, Alloc
     }
 }
 
-/// The list of these.
+/// Returns the list of these items.
 #[cycle(json)]
 fn list_of(alloc: Global, depth: usize, items: &[Value]) -> Result<Json, AllocError> {
     let mut list = Vec::new(alloc);
@@ -65,7 +65,8 @@ fn list_of(alloc: Global, depth: usize, items: &[Value]) -> Result<Json, AllocEr
     Ok(Json::Array(list))
 }
 
-/// The list of an array's items, and where these are described an object of the descriptors, outermost first, and the list.
+/// Returns the list of an array's items. If these are described, it returns an object of the descriptors,
+/// outermost first, and the list.
 #[cycle(json)]
 fn array_of(
     alloc: Global,
@@ -88,7 +89,7 @@ fn array_of(
     Ok(Json::Object(members))
 }
 
-/// An object where all keys are strings or all are symbols, and else the list of the pairs.
+/// Returns an object if all keys are strings or all are symbols, else the list of the pairs.
 #[cycle(json)]
 fn map_of(alloc: Global, depth: usize, entries: &[(Value, Value)]) -> Result<Json, AllocError> {
     if !are_texts(entries) {
@@ -102,7 +103,7 @@ fn map_of(alloc: Global, depth: usize, entries: &[(Value, Value)]) -> Result<Jso
     Ok(Json::Object(members))
 }
 
-/// The list of keys and values.
+/// Returns the list of the pairs of keys and values.
 #[cycle(json)]
 fn pairs_of(alloc: Global, depth: usize, entries: &[(Value, Value)]) -> Result<Json, AllocError> {
     let mut list = Vec::new(alloc);
@@ -115,7 +116,7 @@ fn pairs_of(alloc: Global, depth: usize, entries: &[(Value, Value)]) -> Result<J
     Ok(Json::Array(list))
 }
 
-/// Whether all keys are strings, or all are symbols. Such that differ have texts that differ.
+/// Returns whether all keys are strings, or all are symbols. Then keys that differ have texts that differ.
 fn are_texts(entries: &[(Value, Value)]) -> bool {
     entries
         .iter()
@@ -125,7 +126,7 @@ fn are_texts(entries: &[(Value, Value)]) -> bool {
             .all(|entry| matches!(entry.0, Value::Symbol(_)))
 }
 
-/// The text of a string or a symbol.
+/// Returns the text of a string or a symbol.
 fn text_of(value: &Value) -> Option<&str> {
     match value {
         Value::String(text) => Some(text),
@@ -134,7 +135,7 @@ fn text_of(value: &Value) -> Option<&str> {
     }
 }
 
-/// A value that holds no others.
+/// Returns the JSON of a value that holds no others.
 fn scalar(alloc: Global, value: &Value) -> Result<Json, AllocError> {
     match value {
         Value::Boolean(truth) => Ok(Json::Bool(*truth)),
@@ -167,7 +168,7 @@ fn scalar(alloc: Global, value: &Value) -> Result<Json, AllocError> {
     }
 }
 
-/// A whole number, as a string where it is beyond 2^53.
+/// Returns a whole number, as a string if it is above 2^53.
 pub fn whole(alloc: Global, number: u64) -> Result<Json, AllocError>
     ensures { IfOk result (λ json. view json ≡ whole_json number) }
 {
@@ -177,7 +178,7 @@ pub fn whole(alloc: Global, number: u64) -> Result<Json, AllocError>
     Ok(Json::from(number))
 }
 
-/// The same of one with a sign.
+/// Returns a whole number with a sign, as a string if it is above 2^53 or below -2^53.
 fn signed_whole(alloc: Global, number: i64) -> Result<Json, AllocError> {
     if number.unsigned_abs() > LARGEST_WHOLE {
         return Ok(Json::String(format!(in alloc; "{number}")?));
@@ -185,7 +186,7 @@ fn signed_whole(alloc: Global, number: i64) -> Result<Json, AllocError> {
     Ok(Json::from(number))
 }
 
-/// A float, as a string where it is no number of JSON's.
+/// Returns a float, as a string if JSON has no such number.
 fn float(alloc: Global, number: f64) -> Result<Json, AllocError> {
     match Number::from_f64(number) {
         Some(number) => Ok(Json::Number(number)),
@@ -195,12 +196,12 @@ fn float(alloc: Global, number: f64) -> Result<Json, AllocError> {
     }
 }
 
-/// Bytes in base64.
+/// Returns bytes in base64.
 pub fn base64(alloc: Global, bytes: &[u8]) -> Result<Json, AllocError> {
     Ok(Json::String(STANDARD.encode(alloc, bytes)?))
 }
 
-/// Bytes in lower-case hex.
+/// Returns bytes in lower-case hex.
 fn hex(alloc: Global, bytes: &[u8]) -> Result<Json, AllocError> {
     Ok(Json::String(hex::encode(alloc, bytes)?))
 }

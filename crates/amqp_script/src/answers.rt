@@ -7,7 +7,7 @@ use amqp_perform::Condition;
 use itoa::{Buffer, Integer};
 use std::alloc::{AllocError, Global};
 
-/// Appends the line of an answer.
+/// Appends the line of an answer. It is an error if memory is refused.
 pub fn write_answer(alloc: Global, out: &mut Vec<u8>, answer: &Answer) -> Result<(), AllocError> {
     match answer {
         Answer::Fed(fed) => write_fed(out, *fed)?,

@@ -1,4 +1,4 @@
-//! A table of limits by itself: a file with a row on each line.
+//! A table of limits in a file of its own, with a row on each line.
 
 ghost use Rattle.std.specs.Prelude.{◌≡◌, ◌≢◌, ◌↔◌, ◌≤◌, ℕ, Err, IsTrue};
 ghost use Rattle.amqp_frame.specs.Devices.{has_failed};
@@ -10,16 +10,18 @@ use amqp_frame::Device;
 use std::alloc::{AllocError, Global};
 use std::io::Read;
 
-/// How many limits there are at most.
+/// The most limits that a table may have.
 const MAX_LIMITS: usize = 16;
 
-/// Reads a table of limits to its end, a row `PREFIX ALLOWED MAX_MESSAGE` on each line, and gives it to the settings. The device
-/// has not failed before.
+/// Reads a table of limits to its end, a row `PREFIX ALLOWED MAX_MESSAGE` on each line, and returns the
+/// settings with it. The device must not have failed before.
 ///
 /// # Errors
 ///
-/// `Line` with the number of the first bad line: one that is no such row, that has a fault of [`Config::with_limits`], or the
-/// seventeenth. `Read` where the device has failed, and `NoMemory`.
+/// - `Line` with the number of the first bad line, from 1 on. It is no such row, it has a fault of
+///   [`Config::with_limits`], or it is the seventeenth.
+/// - `Read` if the device has failed.
+/// - `NoMemory` if memory was refused.
 pub fn read_limits<R: Read + Drop>(
     alloc: Global,
     config: Config,
@@ -35,7 +37,7 @@ pub fn read_limits<R: Read + Drop>(
     with_rows(alloc, config, &lines)
 }
 
-/// The settings with these rows.
+/// Returns the settings with these rows. The errors are `Line` and `NoMemory`.
 fn with_rows(alloc: Global, config: Config, lines: &[&[u8]]) -> Result<Config, ScriptFault>
     ensures read { result ≢ Err ScriptFault.Read }
     ensures write { result ≢ Err ScriptFault.Write }
@@ -50,7 +52,8 @@ fn with_rows(alloc: Global, config: Config, lines: &[&[u8]]) -> Result<Config, S
     }
 }
 
-/// The limits that the first lines set, at most as many as there may be: a row behind this text on each.
+/// Returns the limits that the first lines set, at most as many as a table may have. Each such line is
+/// `before`, and then a row.
 pub fn limits_of(
     alloc: Global,
     lines: &[&[u8]],
@@ -66,7 +69,7 @@ pub fn limits_of(
     Ok(limits)
 }
 
-/// Puts a limit behind others.
+/// Appends a limit.
 fn push(limits: &mut Vec<LinkLimit>, limit: LinkLimit) -> Result<(), AllocError> {
     match limits.push(limit) {
         Ok(()) => Ok(()),
@@ -74,7 +77,7 @@ fn push(limits: &mut Vec<LinkLimit>, limit: LinkLimit) -> Result<(), AllocError>
     }
 }
 
-/// The number of the line of a limit with a fault, where that of the first limit is `first`.
+/// Returns the number of the line of a limit with a fault, where `first` is that of the first limit.
 pub fn line_of(fault: LimitFault, first: usize) -> usize
     requires { 1 ≤ first }
     ensures { 1 ≤ result }

@@ -1,5 +1,7 @@
-//! The lines of a script: what they set up and ask for. Words are parted by one space. A line is read as bytes: the words that
-//! it may have are ASCII, so that one which is no text has another word.
+//! The lines of a script: what they set up and which calls they ask for.
+//!
+//! Words are separated by one space. A line is read as bytes: the words that it may have are ASCII, so a line
+//! that is not text has another word, and is refused.
 
 use crate::digits::is_hex;
 use amqp_endpoint::{Call, Config, LinkLimit};
@@ -17,7 +19,7 @@ impl<'a> Words<'a> {
         Words { rest: Some(line) }
     }
 
-    /// The next word, which may be empty; none behind the last.
+    /// Returns the next word, which may be empty; `None` after the last one.
     fn word(&mut self) -> Option<&'a [u8]> {
         let rest = self.rest.take()?;
         for (at, byte) in rest.iter().enumerate() {
@@ -30,7 +32,7 @@ impl<'a> Words<'a> {
         Some(rest)
     }
 
-    /// A number below 2^32: one digit or more, and nothing else.
+    /// Returns the next word as a number below 2^32; `None` unless it is one digit or more, and nothing else.
     fn number(&mut self) -> Option<u32> {
         let rest = self.rest.take()?;
         let mut number: u32 = 0;
@@ -48,7 +50,7 @@ impl<'a> Words<'a> {
         if rest.is_empty() { None } else { Some(number) }
     }
 
-    /// A channel, which is below 2^16.
+    /// Returns the next word as a channel, a number below 2^16; `None` if it is none.
     fn channel(&mut self) -> Option<u16> {
         let number = self.number()?;
         if number <= u16::MAX as u32 {
@@ -71,7 +73,7 @@ impl<'a> Words<'a> {
         }
     }
 
-    /// This, where no word is left.
+    /// Returns `read` if no word is left, else `None`.
     fn end<T: Drop>(&self, read: T) -> Option<T> {
         match self.rest {
             None => Some(read),
@@ -80,8 +82,9 @@ impl<'a> Words<'a> {
     }
 }
 
-/// What the first line sets up: `config ID MAX_FRAME CHANNEL_MAX HANDLE_MAX ALLOWED MAX_MESSAGE WINDOW`. None where it is
-/// another, or a setting is outside its range.
+/// Returns what the first line sets up: `config ID MAX_FRAME CHANNEL_MAX HANDLE_MAX ALLOWED MAX_MESSAGE
+/// WINDOW`. `None` if it is another line, or a setting is outside its range. It is an error if memory is
+/// refused.
 pub fn config_of(alloc: Global, line: &[u8]) -> Result<Option<Config>, AllocError> {
     match settings_of(line) {
         Some(settings) => settings.checked(alloc),
@@ -133,7 +136,7 @@ impl Settings<'_> {
     }
 }
 
-/// A word that is printable ASCII without spaces.
+/// Returns a word as text if it is printable ASCII without spaces, else `None`.
 fn printed(word: &[u8]) -> Option<&str> {
     if word.iter().all(|byte| byte.is_ascii_graphic()) {
         str::from_utf8(word).ok()
@@ -142,7 +145,8 @@ fn printed(word: &[u8]) -> Option<&str> {
     }
 }
 
-/// The limit that a row `PREFIX ALLOWED MAX_MESSAGE` sets. None where it is no such row.
+/// Returns the limit that a row `PREFIX ALLOWED MAX_MESSAGE` sets; `None` if it is no such row. It is an error
+/// if memory is refused.
 pub fn row_of(alloc: Global, row: &[u8]) -> Result<Option<LinkLimit>, AllocError> {
     match row_words(row) {
         Some(row) => Ok(Some(LinkLimit {
@@ -172,15 +176,15 @@ fn row_words(row: &[u8]) -> Option<Row<'_>> {
     words.end(row)
 }
 
-/// The word of a line that feeds bytes, or none.
+/// The first word of a line that feeds bytes. Alone it feeds none.
 const FEED: &[u8] = b"feed";
 
-/// What stands behind the word of a line that feeds some bytes.
+/// Returns what follows `feed ` in a line that begins so, else `None`.
 pub fn fed(line: &[u8]) -> Option<&[u8]> {
     line.strip_prefix(b"feed ".as_slice())
 }
 
-/// Whether a line asks for a call.
+/// Returns whether a line asks for a call.
 pub fn is_call(line: &[u8]) -> bool {
     match fed(line) {
         Some(hex) => is_hex(hex),
@@ -188,8 +192,8 @@ pub fn is_call(line: &[u8]) -> bool {
     }
 }
 
-/// The call that a line asks for, where these are the bytes that it feeds: what stands behind `feed` is not looked at. None where
-/// it asks for none.
+/// Returns the call that a line asks for; `None` if it asks for none. `piece` has the bytes that a `feed` line
+/// feeds: what follows `feed` is not looked at.
 pub fn call_of<'a>(line: &[u8], piece: &'a [u8]) -> Option<Call<'a>> {
     if line == FEED || fed(line).is_some() {
         return Some(Call::Feed(piece));
@@ -206,7 +210,7 @@ pub fn call_of<'a>(line: &[u8], piece: &'a [u8]) -> Option<Call<'a>> {
     words.end(call)
 }
 
-/// The same of a call for a session.
+/// Returns the call for a session with this name and the rest of the words; `None` if there is none.
 fn session_call<'a>(name: &[u8], words: &mut Words<'_>) -> Option<Call<'a>> {
     let channel = words.channel()?;
     Some(match name {

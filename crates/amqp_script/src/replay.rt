@@ -16,16 +16,16 @@ use std::alloc::{AllocError, Global};
 use std::io::{Read, Write};
 use thiserror::Error;
 
-/// How many bytes a buffer may have that is kept for the next line.
+/// The most bytes that a buffer may have to be used again for the next line.
 const KEPT: usize = 65536;
 
-/// How many bytes are read at once.
+/// The most bytes that are read at once.
 const PIECE: usize = 4096;
 
 /// Why a script was not run to its end.
 #[derive(Clone, Copy, Debug, PartialEq, Eq, Drop, Error)]
 pub enum ScriptFault {
-    /// The line of this number, from 1 on, is none of a script.
+    /// The line with this number, from 1 on, is not valid.
     #[error("line {0}")]
     Line(usize),
     /// The script could not be read.
@@ -47,13 +47,15 @@ impl From<AllocError> for ScriptFault {
     }
 }
 
-/// Reads a script to its end, checks its lines, and runs them on a new endpoint: after each call the line of its answer
-/// is written. Neither device has failed before.
+/// Reads a script to its end, checks its lines, and runs them on a new endpoint. After each call it writes the
+/// line of the answer. Neither device may have failed before.
 ///
 /// # Errors
 ///
-/// `Line` with the number of the first bad line, before anything is run or written. `Read` and `Write` where that device
-/// has failed, and `NoMemory`; the answers that were written are those of the first calls.
+/// - `Line` with the number of the first bad line, from 1 on. Nothing was run or written.
+/// - `Read` if the reader has failed. Nothing was run or written.
+/// - `Write` if the writer has failed, and `NoMemory` if memory was refused. The answers that were written are
+///   those of the first calls.
 pub fn replay_script<R: Read + Drop, W: Write + Drop>(
     alloc: Global,
     reader: &mut Device<R>,
@@ -71,7 +73,7 @@ pub fn replay_script<R: Read + Drop, W: Write + Drop>(
     run(alloc, setup, &lines, writer)
 }
 
-/// All bytes of a script.
+/// Returns all bytes of a script. The errors are `Read` and `NoMemory`.
 pub fn read_script<R: Read + Drop>(
     alloc: Global,
     reader: &mut Device<R>,
@@ -92,7 +94,7 @@ pub fn read_script<R: Read + Drop>(
     Ok(script)
 }
 
-/// The lines of a script, of which the last may lack its newline.
+/// Returns the lines of a script. The last one may lack its newline. It is an error if memory is refused.
 pub fn lines_of(alloc: Global, script: &[u8]) -> Result<Vec<&[u8]>, AllocError> {
     let text = script.strip_suffix(b"\n".as_slice()).unwrap_or(script);
     let mut lines = Vec::new(alloc);
@@ -105,14 +107,14 @@ pub fn lines_of(alloc: Global, script: &[u8]) -> Result<Vec<&[u8]>, AllocError> 
     Ok(lines)
 }
 
-/// The settings of a script, and how many of its lines give them.
+/// The settings of a script, and how many of its lines state them.
 #[derive(Drop)]
 struct Setup {
     config: Config,
     lines: usize,
 }
 
-/// What the first lines set up, where all lines are those of a script.
+/// Returns what the first lines set up, if all lines are valid. The errors are `Line` and `NoMemory`.
 fn check(alloc: Global, lines: &[&[u8]]) -> Result<Setup, ScriptFault>
     ensures read { result ≢ Err ScriptFault.Read }
     ensures write { result ≢ Err ScriptFault.Write }
@@ -128,7 +130,7 @@ fn check(alloc: Global, lines: &[&[u8]]) -> Result<Setup, ScriptFault>
     Ok(setup)
 }
 
-/// What the first line sets up, and those of limits behind it.
+/// Returns what the first line and the lines of limits after it set up. The errors are `Line` and `NoMemory`.
 fn set_up(alloc: Global, lines: &[&[u8]]) -> Result<Setup, ScriptFault>
     ensures read { result ≢ Err ScriptFault.Read }
     ensures write { result ≢ Err ScriptFault.Write }
@@ -146,7 +148,8 @@ fn set_up(alloc: Global, lines: &[&[u8]]) -> Result<Setup, ScriptFault>
     }
 }
 
-/// Runs the lines, of which the first ones ask for nothing, and writes the line of each answer.
+/// Runs the lines after those that set up, and writes the line of each answer. The errors are `Write` and
+/// `NoMemory`.
 fn run<W: Write + Drop>(
     alloc: Global,
     setup: Setup,
@@ -174,7 +177,7 @@ fn run<W: Write + Drop>(
     Ok(())
 }
 
-/// Empties a buffer for the next line. One that a long line made large is given back.
+/// Empties a buffer for the next line. If a long line made it large, its memory is given back.
 fn empty(alloc: Global, buffer: &mut Vec<u8>) {
     if buffer.capacity() > KEPT {
         *buffer = Vec::new(alloc);
@@ -183,8 +186,8 @@ fn empty(alloc: Global, buffer: &mut Vec<u8>) {
     }
 }
 
-/// Does what a line asks for, and appends the line of its answer; nothing where it asks for nothing. Its bytes stand in `piece`
-/// then.
+/// Makes the call that a line asks for, and appends the line of its answer; nothing if it asks for none. The
+/// bytes that the line feeds are then in `piece`. It is an error if memory is refused.
 fn answer_to(
     alloc: Global,
     endpoint: &mut Endpoint,
@@ -199,7 +202,7 @@ fn answer_to(
     }
 }
 
-/// Writes all of the bytes.
+/// Writes all of the bytes. The only error is `Write`.
 fn write_out<W: Write + Drop>(bytes: &[u8], writer: &mut Device<W>) -> Result<(), ScriptFault>
     requires { ¬ (IsTrue (has_failed writer.old)) }
     ensures read { result ≢ Err ScriptFault.Read }

@@ -1,4 +1,4 @@
--- What a sender shows its callers, and what is kept true of it.
+-- What a sender shows its callers, and what always holds of it.
 use Rattle.std.specs.Prelude.{◌≡◌, ℕ, ◌≤◌, false, List, ◌++◌, length}
 use Rattle.amqp_frame.specs.Splits.{SplitterState}
 use Rattle.amqp_send.specs.declared.flow_state.FlowState.{FlowState}
@@ -11,11 +11,11 @@ pub record SenderState : Type 0 where
   pub input : SplitterState
   pub sending : Sending
 
--- the input with these bytes behind what it held
+-- the input with these bytes after what it held
 abbrev pub taken : SplitterState → List ℕ → SplitterState
 taken s bytes = record s { filled = s.filled ++ bytes }
 
--- Until the receiver's header has come, no more than the own one waits.
+-- Until the receiver's header has come, at most the sender's own header waits.
 abbrev pub IsQuiet : Talk → List ℕ → Type 0
 IsQuiet talk.Silent unsent = length unsent ≤ 8
 IsQuiet talk.Talking unsent = Unit {0}
@@ -28,7 +28,7 @@ pub record IsSending (terms : SendTerms) (t : Talk) (f : FlowState) (unsent : Li
   pub frames : 512 ≤ f.max_frame_size
   pub quiet : IsQuiet t unsent
 
--- its frames are accepted up to its own max-frame-size, and none is left unwritten that may be written
+-- it accepts frames up to its own max-frame-size, and no frame that may be written is left unwritten
 pub record IsSender (input : SplitterState) (s : Sending) : Type 0 where
   pub limit : input.limit ≡ 4096
   pub written : can_write s ≡ false

@@ -1,4 +1,4 @@
--- What a sender knows of its session and its link, in numbers (AMQP 1.0, part 2, sections 2.5.6 and 2.6.7).
+-- What a sender knows of its session and its link, in numbers. [2.5.6, 2.6.7]
 use Rattle.std.specs.Prelude.{ℕ, ◌^◌, nat_lt, if◌then◌else◌, Some, None, false, true}
 use Rattle.amqp_serial.specs.Numbers.{sum_of, distance_of}
 use Rattle.amqp_send.specs.declared.flow_state.FlowState.{FlowState}
@@ -17,7 +17,7 @@ flow_begins = record {
   delivery_count = 0;
 }
 
--- how far an end is ahead of a number; one that is 2^31 steps ahead or more counts as behind [2.8.10]
+-- how far an end is ahead of a number; an end 2^31 steps ahead or more counts as behind [2.8.10]
 abbrev pub ahead : ℕ → ℕ → ℕ
 ahead own end = let d = distance_of own end in if nat_lt d (2 ^ 31) then d else 0
 
@@ -36,7 +36,7 @@ most f = if nat_lt f.max_frame_size 4096 then f.max_frame_size else 4096
 abbrev pub opened : ℕ → FlowState → FlowState
 opened max_frame_size f = record f { max_frame_size = max_frame_size }
 
--- the window of the begin stands until a flow states one [2.5.6]
+-- the window of the begin holds until a flow states one [2.5.6]
 abbrev pub begun : ℕ → ℕ → FlowState → FlowState
 begun next incoming_window f = record f { peer_next_outgoing_id = Some next; window_end = if f.flowed then f.window_end else incoming_window }
 
@@ -48,11 +48,11 @@ limited l f = record f {
   credit_end = if l.of_link then sum_of l.delivery_count l.link_credit else f.credit_end;
 }
 
--- the count rises by the credit, of which none is left [2.6.7]
+-- the count rises by the credit, and no credit is left [2.6.7]
 abbrev pub drained : FlowState → FlowState
 drained f = record f { delivery_count = sum_of f.delivery_count (credit f) }
 
--- a transfer went, which began so many deliveries [2.5.6, 2.6.7]
+-- a transfer went that began `heads` deliveries [2.5.6, 2.6.7]
 abbrev pub transferred : ℕ → FlowState → FlowState
 transferred heads f = record f {
   next_outgoing_id = sum_of f.next_outgoing_id 1;

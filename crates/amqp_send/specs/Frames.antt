@@ -1,4 +1,4 @@
--- What stands in the frames of a sender may stand there, so that they are read as they were written (AMQP 1.0, part 2, section 2.7).
+-- The frames of a sender hold what their fields may hold, so they are read as they were written. [2.7]
 use Rattle.std.specs.Prelude.{ℕ, ◌^◌, ◌<◌, ◌≤◌, List, length, Option, Some, None}
 use Rattle.amqp_types.specs.declared.kind.Kind.TheVariants as kind
 use Rattle.amqp_types.specs.Canonical.{IsRanged}

@@ -1,5 +1,5 @@
--- The history of a sender: what came about, newest first, and what stands in it, by sums and selections over the whole list, in
--- numbers without a limit (AMQP 1.0, part 2, sections 2.5.6, 2.6.7 and 2.6.12).
+-- The history of a sender: what happened, newest first, and what it gives, by sums and selections over the whole list, in
+-- numbers without a limit. [2.5.6, 2.6.7, 2.6.12]
 use Rattle.std.specs.Prelude.{◌≡◌, ℕ, zero, suc, ◌+◌, ◌%◌, ◌^◌, ◌<◌, ◌≤◌, ◌&&◌, nat_le, Bool, true, false, not, if◌then◌else◌, List, [], ◌∷◌, ◌++◌, length, take, Option, Some, None}
 use Rattle.std.specs.List.{flat_map}
 use Rattle.amqp_frame.specs.declared.units.TheConstants.{HEADER}
@@ -16,7 +16,7 @@ use Rattle.amqp_send.specs.Sendings.{SendTerms, Message, Sending, sending_begins
 use Rattle.amqp_send.specs.Sendings.{SendEvent, Acted, Offered, CloseWritten, Moved, changed, send_after, SendMay}
 use Rattle.amqp_send.specs.Tellings.{told_of, IsLawful}
 
--- a frame of a message: what it has of it, and whether more follow
+-- a frame of a message: which part of the message it has, and whether more follow
 pub record Piece : Type 0 where
   pub payload : List ℕ
   pub more : Bool
@@ -57,12 +57,12 @@ offers (Wrote p ∷ h) = offers h
 offers (Ceased ∷ h) = offers h
 offers (Gave bytes ∷ h) = offers h
 
--- the last delivery goes on
+-- whether the last delivery is not whole yet
 abbrev pub goes_on : List Piece → Bool
 goes_on [] = false
 goes_on (p ∷ ps) = p.more
 
--- what its frames have of it
+-- which part of it its frames have
 abbrev pub part : List Piece → List ℕ
 part [] = []
 part (p ∷ ps) = if p.more then part ps ++ p.payload else []
@@ -72,12 +72,12 @@ abbrev pub wholes : List Piece → List (List ℕ)
 wholes [] = []
 wholes (p ∷ ps) = if p.more then wholes ps else wholes ps ++ (part ps ++ p.payload) ∷ []
 
--- a frame begins a delivery where the one before it ends one, or there is none
+-- how many deliveries begin: a frame begins one if the frame before it ends one, or there is none
 abbrev pub heads : List Piece → ℕ
 heads [] = 0
 heads (p ∷ ps) = heads ps + (if goes_on ps then 0 else 1)
 
--- no message waits: each that was taken over is whole
+-- whether no message waits: each that was taken over is whole
 abbrev pub is_idle : List Deed → Bool
 is_idle h = nat_le (length (offers h)) (length (wholes (pieces h)))
 
@@ -113,17 +113,17 @@ credit_end (d ∷ h) = credit_end h
 
 -- Counts. -------------------------------------------------------------------------------------------------------------
 
--- a flow asks for the credit to be used up while no message waits
+-- whether a flow asks for the credit to be used up while no message waits
 abbrev pub drains : Limits → List Deed → Bool
 drains l h = l.of_link && l.drain && is_idle h
 
--- the credit that was used up without deliveries: at each such flow all of that moment [2.6.7]
+-- the credit that was used up without deliveries: at each such flow, all the credit of that moment [2.6.7]
 abbrev pub advances : List Deed → ℕ
 advances [] = 0
 advances (Heard (Flowed l) ∷ h) = advances h + (if drains l h then ahead ((heads (pieces h) + advances h) % 2 ^ 32) (credit_end (Heard (Flowed l) ∷ h)) else 0)
 advances (d ∷ h) = advances h
 
--- the numbers of the session and the link: how many transfers went and how many deliveries they began, round the end at 2^32
+-- the numbers of the session and the link: how many transfers went and how many deliveries they began, wrapping around at 2^32
 abbrev pub flow_of : List Deed → FlowState
 flow_of h = record {
   max_frame_size = max_frame_size h;
@@ -148,7 +148,7 @@ abbrev pub answer_text : Telling → List Deed → List ℕ
 answer_text (Flowed l) h = answer_by (drains l h) l.echo (flow_of (Heard (Flowed l) ∷ h))
 answer_text t h = []
 
--- the transfer of a piece, which the history before it gives its id
+-- the transfer of a piece; the history before it gives its id
 abbrev pub transfer_text : Piece → List Deed → List ℕ
 transfer_text p h = said_frame 0 (transfer_said (heads (pieces h) % 2 ^ 32) (goes_on (pieces h)) p.more) p.payload
 
@@ -174,12 +174,12 @@ moved (Ceased ∷ h) = moved h
 
 -- A sender and its history. -------------------------------------------------------------------------------------------
 
--- what is left of the message that waits, and what its frames have of it
+-- the message that waits: the part that its frames have, and what is left of it
 abbrev pub waiting : Option Message → List Piece → List (List ℕ)
 waiting None ps = []
 waiting (Some m) ps = (part ps ++ m.rest) ∷ []
 
--- a message that waits is begun where the last delivery goes on, and only then
+-- a message that waits is begun exactly if the last delivery is not whole yet
 abbrev pub IsMessageBegun : Option Message → List Piece → Type 0
 IsMessageBegun None ps = goes_on ps ≡ false
 IsMessageBegun (Some m) ps = m.begun ≡ goes_on ps
@@ -189,21 +189,21 @@ pub record IsHistory (terms : SendTerms) (h : List Deed) (s : Sending) : Type 0 
   pub terms_are : s.terms ≡ terms
   -- its numbers are the counts and the last limits
   pub flow_is : s.flow ≡ flow_of h
-  -- the messages that its frames make whole, and the one that waits, are those that were taken over, in order, each once
+  -- the messages that its frames complete, and the one that waits, are those that were taken over, in order, each once
   pub messages : offers h ≡ wholes (pieces h) ++ waiting s.message (pieces h)
   pub begun : IsMessageBegun s.message (pieces h)
   -- what was moved out and what waits is all that was written
   pub bytes : moved h ++ s.unsent ≡ written terms h
 
--- A transfer went where a place was left in the window and, if it begins a delivery, credit; it is no longer than a frame may be, and
--- exactly as long where more follow.
+-- A transfer went only if a place was left in the window and, if it begins a delivery, credit. It is no longer than a frame may be,
+-- and exactly as long if more follow.
 pub record MayGo (p : Piece) (h : List Deed) : Type 0 where
   pub credited : goes_on (pieces h) ≡ false → 0 < credit (flow_of h)
   pub placed : 0 < window (flow_of h)
   pub within : length (transfer_text p h) ≤ most (flow_of h)
   pub full : p.more ≡ true → length (transfer_text p h) ≡ most (flow_of h)
 
--- each transfer of the history did
+-- each transfer of the history went so
 abbrev pub AllMayGo : List Deed → Type 0
 AllMayGo [] = Unit {0}
 AllMayGo (Wrote p ∷ h) = MayGo p h × AllMayGo h
@@ -263,7 +263,7 @@ IsLawfulEvent (Offered m) = Unit {0}
 IsLawfulEvent CloseWritten = Unit {0}
 IsLawfulEvent (Moved n) = Unit {0}
 
--- each event came where it may
+-- each event came when it may
 abbrev pub Accepted : SendTerms → List SendEvent → Type 0
 Accepted terms [] = Unit {0}
 Accepted terms (e ∷ es) = Accepted terms es × SendMay (after_all terms es) e × IsLawfulEvent e

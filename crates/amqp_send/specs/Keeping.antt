@@ -1,4 +1,4 @@
--- How a sender's state stands in its fields.
+-- How a sender's state lies in its fields.
 use Rattle.std.specs.String.{string_bytes}
 use Rattle.amqp_send.specs.declared.config.SendConfig.{SendConfig}
 use Rattle.amqp_send.specs.Sendings.{SendTerms}

@@ -1,4 +1,4 @@
--- A whole run of a sender: its calls, its answers, and the events behind them (AMQP 1.0, part 2, sections 2.2 to 2.7).
+-- A whole run of a sender: its calls, its answers, and the events behind them. [2.2 to 2.7]
 use Rattle.std.specs.Prelude.{◌≡◌, ℕ, ◌<◌, ◌≤◌, Bool, true, false, min, List, [], ◌∷◌, ◌++◌, length, take, drop, Option, Some, None}
 use Rattle.std.specs.List.{flat_map}
 use Rattle.amqp_frame.specs.Splits.{Waits, TakesNothing, IsHeld, IsUnchanged, IsEmptied, WentBy}
@@ -28,11 +28,12 @@ pub data Answer : Type 0 where
 
 -- What a call does. ---------------------------------------------------------------------------------------------------
 
--- this happens to what is sent
+-- the event happens to what is sent
 abbrev pub does_send : SenderState → SendEvent → SenderState
 does_send s e = record s { sending = send_after s.sending e }
 
--- What of a piece is taken: nothing where a unit waits or no more is taken; else all, or up to the end of the unit that is due. What then waits is acted upon where there is room.
+-- What is taken of a piece: nothing if a unit waits or no more is taken; else all, or up to the end of the unit that is due. A unit that then waits is acted upon if there is
+-- room.
 pub record IsFed (old new : SenderState) (piece : List ℕ) (used : ℕ) (news : Option News) : Type 0 where
   pub bound : used ≤ length piece
   pub all : used < length piece → TakesNothing (taken old.input (take used piece))
@@ -93,7 +94,7 @@ abbrev pub moved_by : Answer → List ℕ
 moved_by (MovedOut bytes) = bytes
 moved_by a = []
 
--- the message that an offer handed over
+-- the message of an offer that was taken over
 abbrev pub offered_by : Call → Answer → List (List ℕ)
 offered_by (Offer m) TakenOver = m ∷ []
 offered_by c a = []
@@ -109,7 +110,7 @@ abbrev pub news_told : Option News → List Notice
 news_told None = []
 news_told (Some n) = Tells n ∷ []
 
--- a refused call tells nothing, nor does a feed without news
+-- nothing is reported of a refused call, nor of a feed without news
 abbrev pub told_by : Call → Answer → List Notice
 told_by (Offer m) TakenOver = Takes m ∷ []
 told_by (Feed piece) (Fed used news) = news_told news
@@ -127,7 +128,7 @@ abbrev pub offered : List Call → List Answer → List (List ℕ)
 offered (c ∷ calls) (a ∷ answers) = offered_by c a ++ offered calls answers
 offered calls answers = []
 
--- all that was told, in order
+-- all that was reported, in order
 abbrev pub heard : List Call → List Answer → List Notice
 heard (c ∷ calls) (a ∷ answers) = told_by c a ++ heard calls answers
 heard calls answers = []
@@ -142,7 +143,7 @@ units_of (Offered m ∷ es) = units_of es
 units_of (CloseWritten ∷ es) = units_of es
 units_of (Moved n ∷ es) = units_of es
 
--- what is told of an event, from the sender that it came to
+-- what is reported of an event, from the sender that it came to
 abbrev pub notices : Sending → SendEvent → List Notice
 notices s (Acted u) = news_told (sent_news s u)
 notices s (Offered m) = Takes m ∷ []
@@ -155,36 +156,36 @@ tellings terms (e ∷ es) = tellings terms es ++ notices (after_all terms es) e
 
 -- The theorem. --------------------------------------------------------------------------------------------------------
 
--- A sender after some calls, of which these bytes were taken, these moved out, these messages taken over, and this told, with its events, newest first.
+-- A sender after some calls, with its events, newest first. These bytes were taken, these were moved out, these messages were taken over, and this was reported.
 pub record IsTraced (terms : SendTerms) (took gave : List ℕ) (messages : List (List ℕ)) (told : List Notice) (es : List SendEvent) (s : SenderState) : Type 0 where
-  -- each event came where it may, and the sender is what they make of a new one
+  -- each event came when it may, and the sender is what they make of a new one
   pub accepted : Accepted terms es
   pub sending_is : s.sending ≡ after_all terms es
   pub limit : s.input.limit ≡ 4096
-  -- The bytes that were taken are the units that were acted upon, each where it may stand, and then a rest, which the input holds.
+  -- The bytes that were taken are the units that were acted upon, each where it may come, and then a rest, which the input holds.
   pub units : WentBy s.input (units_of es) took
-  -- the rest is less than a unit, or one that is not acted upon yet; behind a refused header or a fault there is none
+  -- the rest is less than a unit, or one that is not acted upon yet; after a refused header or a fault there is none
   pub rest : IsHeld s.input.limit s.input.stage s.input.filled
   -- the messages that were taken over are those of the history, in order
   pub messages_are : messages ≡ offers (history terms es)
   pub gave_is : gave ≡ moved (history terms es)
-  -- the news are those of the units, each told where its unit was acted upon, between the messages, the bytes moved out and the close; nothing else was told
+  -- the news are those of the units, each reported where its unit was acted upon, between the messages, the bytes moved out and the close; nothing else was reported
   pub told_is : told ≡ tellings terms es
 
--- A new sender comes to this by these calls and answers: there is a history of it.
+-- These calls and answers lead a new sender to this one, and there is a history of it.
 pub record HasHistory (terms : SendTerms) (calls : List Call) (answers : List Answer) (last : SenderState) : Type 0 where
   pub events : List SendEvent
   pub traced : IsTraced terms (fed calls answers) (flat_map moved_by answers) (offered calls answers) (heard calls answers) events last
   -- its state is what the counts and selections over the whole history give
   pub is : IsHistory terms (history terms events) last.sending
-  -- each transfer went where the window had a place and, if it begins a delivery, credit was there
+  -- each transfer went only if the window had a place and, if it begins a delivery, credit was there
   pub may : AllMayGo (history terms events)
-  -- no frame is left unwritten that may be written
+  -- no frame that may be written is left unwritten
   pub complete : can_write last.sending ≡ false
   -- all that was written was moved out, or waits
   pub output : flat_map moved_by answers ++ last.sending.unsent ≡ written terms (history terms events)
 
--- So many of the calls are made: where the sender stands then, the run goes on to its end, and there is a history.
+-- After the first n calls: from the sender's state then, the run goes on to its end, and there is a history.
 pub record HasMoment (terms : SendTerms) (start : SenderState) (calls : List Call) (answers : List Answer) (last : SenderState) (n : ℕ) : Type 0 where
   pub now : SenderState
   pub so_far : Run start (take n calls) (take n answers) now

@@ -1,4 +1,4 @@
--- A sender: its state, the frames that it writes, and its steps (AMQP 1.0, part 2, sections 2.4.1, 2.5.6, 2.6.7 and 2.6.12).
+-- A sender: its state, the frames that it writes, and its steps. [2.4.1, 2.5.6, 2.6.7, 2.6.12]
 use Rattle.std.specs.Prelude.{◌≡◌, ℕ, zero, suc, ◌+◌, ◌-◌, ◌≤◌, nat_lt, nat_le, ◌&&◌, ◌||◌, Bool, true, false, not, if◌then◌else◌, List, [], ◌∷◌, ◌++◌, length, take, drop, Option, Some, None, is_none}
 use Rattle.std.specs.Prelude.{◌*◌}
 use Rattle.std.specs.List.{flat_map}
@@ -29,7 +29,7 @@ pub record SendTerms : Type 0 where
   pub container_id : List ℕ
   pub name : List ℕ
 
--- a message: what of it stands in no frame yet, and whether its first frame is written
+-- a message: the part that is in no frame yet, and whether its first frame is written
 pub record Message : Type 0 where
   pub rest : List ℕ
   pub begun : Bool
@@ -132,7 +132,7 @@ next_frame f m = said_frame 0 (transfer_said f.delivery_id m.begun (not (is_last
 abbrev pub heads_of : Message → ℕ
 heads_of m = if m.begun then 0 else 1
 
--- what is left of the message behind it
+-- what is left of the message after it
 abbrev pub left_of : FlowState → Message → Option Message
 left_of f m = if is_last f m then None else Some (record { rest = drop (share f m) m.rest; begun = true })
 
@@ -176,7 +176,7 @@ wrote_of s (Some m) =
     then record s { flow = flow_behind s.flow s.unsent m; message = message_behind s.flow s.unsent m; unsent = output_behind s.flow s.unsent m }
     else s
 
--- the next frame is written where it may be
+-- the next frame is written if it may be
 abbrev pub wrote : Sending → Sending
 wrote s = wrote_of s s.message
 
@@ -184,16 +184,16 @@ abbrev pub writes : ℕ → Sending → Sending
 writes zero s = s
 writes (suc n) s = wrote (writes n s)
 
--- more than the frames that are left: each but the last has at least one byte
+-- more than the number of frames that are left: each but the last has at least one byte
 abbrev pub frames_left : Option Message → ℕ
 frames_left None = 0
 frames_left (Some m) = length m.rest + 1
 
--- each frame is written that may be
+-- each frame that may be written is written
 abbrev pub all_written : Sending → Sending
 all_written s = writes (frames_left s.message) s
 
--- What is left to be moved out: the bytes that wait, and for each frame that may be left more than it has.
+-- What is left to be moved out: the bytes that wait, and for each frame that may be left, more bytes than it has.
 abbrev pub left_to_send : Sending → ℕ
 left_to_send s = length s.unsent + 4097 * frames_left s.message
 
@@ -202,7 +202,7 @@ left_to_send s = length s.unsent + 4097 * frames_left s.message
 abbrev pub ended : Condition → Sending → Sending
 ended c s = record s { talk = talk.Ended c }
 
--- the answer to a flow: to one that asks for the credit to be used up while no message waits, or that asks for a flow [2.6.7, 2.7.4]
+-- the answer to a flow that asks for the credit to be used up while no message waits, or that asks for a flow [2.6.7, 2.7.4]
 abbrev pub answered : Bool → Bool → Sending → Sending
 answered true echo s = record s { flow = drained s.flow; unsent = s.unsent ++ frame (flow_said (drained s.flow) true) }
 answered false true s = record s { unsent = s.unsent ++ frame (flow_said s.flow false) }
@@ -227,7 +227,7 @@ abbrev pub greeted : Telling → Sending → Sending
 greeted Nothing s = record s { talk = talk.Talking; unsent = s.unsent ++ flat_map frame (opening s.terms) }
 greeted _ s = ended condition.Other s
 
--- after its own close the receiver's close alone counts [2.4.3]
+-- after its own close only the receiver's close counts [2.4.3]
 abbrev pub heard_closing : Telling → Sending → Sending
 heard_closing (Closed c) s = ended c s
 heard_closing _ s = s
@@ -238,7 +238,7 @@ heard_in talk.Talking t s = heard t s
 heard_in talk.Closing t s = heard_closing t s
 heard_in (talk.Ended c) t s = s
 
--- what is handed up of it
+-- the news of what was told
 abbrev pub heard_news : Telling → Option News
 heard_news Nothing = None
 heard_news (Opened max_frame_size) = None
@@ -272,10 +272,10 @@ pub data SendEvent : Type 0 where
   Offered : List ℕ → SendEvent
   -- its own close was written
   CloseWritten : SendEvent
-  -- so many bytes of the pipe were moved out
+  -- this many bytes of the pipe were moved out
   Moved : ℕ → SendEvent
 
--- before the frames that may now be written
+-- the sender after an event, before the frames that may now be written
 abbrev pub changed : Sending → SendEvent → Sending
 changed s (Acted u) = heard_in s.talk (told_of u) s
 changed s (Offered m) = record s { message = Some (record { rest = m; begun = false }) }
@@ -288,7 +288,7 @@ send_after s e = all_written (changed s e)
 abbrev pub sent_news : Sending → StreamUnit → Option News
 sent_news s u = news_in s.talk (told_of u)
 
--- a unit is acted upon where the pipe has so much room
+-- a unit is acted upon if the pipe has this much room
 abbrev pub answer_room : ℕ
 answer_room = 64
 

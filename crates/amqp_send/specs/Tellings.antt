@@ -1,4 +1,4 @@
--- What the units of the receiver's bytes tell a sender (AMQP 1.0, part 2, sections 2.2 and 2.7).
+-- What the units of the receiver's bytes tell a sender. [2.2, 2.7]
 use Rattle.std.specs.Prelude.{ℕ, ◌≤◌, ◌==◌, Bool, true, false, if◌then◌else◌, List, [], ◌∷◌, Option, Some, None, unwrap_or}
 use Rattle.amqp_frame.specs.Units.{StreamUnit, HeaderUnit, FrameUnit, FaultUnit, body_of, due_after}
 use Rattle.amqp_frame.specs.declared.units.Stage.{Stage}
@@ -44,7 +44,7 @@ flow_told (next ∷ window ∷ outgoing ∷ outgoing_window ∷ handle ∷ count
     })
 flow_told _ = Nothing
 
--- a disposition of the receiver that has an outcome, or settles [2.7.6]
+-- a disposition of the receiver that has an outcome or settles [2.7.6]
 abbrev pub disposed : ℕ → ℕ → Bool → Option Outcome → Telling
 disposed first last settled (Some outcome) = Disposed first last (Some outcome)
 disposed first last settled None = if settled then Disposed first last None else Nothing

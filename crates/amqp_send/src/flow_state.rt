@@ -5,14 +5,14 @@ ghost use Rattle.amqp_send.specs.Flows as spec;
 use crate::telling::Limits;
 use amqp_serial::Serial;
 
-/// The own max-frame-size [2.7.1].
+/// The sender's own max-frame-size, in bytes [2.7.1].
 pub const MAX_FRAME_SIZE: u32 = 4096;
 
-/// What the receiver's max-frame-size is taken for until its open has come: what each container accepts
+/// What the receiver's max-frame-size is taken to be until its open has come: what each container accepts
 /// [2.7.1].
 const LEAST_FRAME_SIZE: u32 = 512;
 
-/// What a sender knows of its session and its link. The numbers go round at `2^32` [2.8.10].
+/// What a sender knows of its session and its link. The numbers wrap around at `2^32` [2.8.10].
 #[derive(Clone, Copy, Debug, PartialEq, Eq)]
 pub struct FlowState {
     /// The longest frame that the receiver accepts [2.7.1].
@@ -34,7 +34,7 @@ pub struct FlowState {
 }
 
 impl FlowState {
-    /// Before the receiver tells anything.
+    /// Returns the state before the receiver tells anything.
     pub fn new() -> FlowState
         ensures { result ≡ spec.flow_begins }
     {
@@ -50,21 +50,21 @@ impl FlowState {
         }
     }
 
-    /// How many transfers may be sent [2.5.6].
+    /// Returns how many transfers may be sent [2.5.6].
     pub fn window(self) -> u32
         ensures { result ≡ spec.window self }
     {
         ahead(self.next_outgoing_id, self.window_end)
     }
 
-    /// How many deliveries may be begun [2.6.7].
+    /// Returns how many deliveries may be begun [2.6.7].
     pub fn credit(self) -> u32
         ensures { result ≡ spec.credit self }
     {
         ahead(self.delivery_count, self.credit_end)
     }
 
-    /// The longest frame that is written.
+    /// Returns the length in bytes of the longest frame that is written.
     pub fn most(self) -> usize
         ensures value { result ≡ spec.most self }
         ensures within { result ≤ 4096 }
@@ -76,7 +76,7 @@ impl FlowState {
         }
     }
 
-    /// The receiver's open states its max-frame-size [2.7.1].
+    /// Returns the state after the receiver's open, which states its max-frame-size [2.7.1].
     pub fn opened(self, max_frame_size: u32) -> FlowState
         ensures { result ≡ spec.opened max_frame_size self }
     {
@@ -86,7 +86,8 @@ impl FlowState {
         }
     }
 
-    /// The receiver's begin states its next-outgoing-id and, until a flow does, its window [2.7.2].
+    /// Returns the state after the receiver's begin, which states its next-outgoing-id and, until a flow
+    /// does, its window [2.7.2].
     pub fn begun(self, next_outgoing_id: u32, incoming_window: u32) -> FlowState
         ensures { result ≡ spec.begun next_outgoing_id incoming_window self }
     {
@@ -102,7 +103,8 @@ impl FlowState {
         }
     }
 
-    /// A flow states where the window ends and, if it is of the link, where the credit does [2.5.6, 2.6.7].
+    /// Returns the state after a flow, which states where the window ends and, if it is of the link, where
+    /// the credit does [2.5.6, 2.6.7].
     pub fn limited(self, limits: Limits) -> FlowState
         ensures { result ≡ spec.limited limits self }
     {
@@ -122,7 +124,7 @@ impl FlowState {
         }
     }
 
-    /// The credit is used up without deliveries [2.6.7].
+    /// Returns the state after the credit was used up without deliveries [2.6.7].
     pub fn drained(self) -> FlowState
         ensures { result ≡ spec.drained self }
     {
@@ -133,7 +135,7 @@ impl FlowState {
         }
     }
 
-    /// A transfer went, which began so many deliveries [2.5.6, 2.6.7].
+    /// Returns the state after a transfer that began `heads` deliveries [2.5.6, 2.6.7].
     pub fn transferred(self, heads: u32) -> FlowState
         ensures { result ≡ spec.transferred heads self }
     {
@@ -146,7 +148,7 @@ impl FlowState {
     }
 }
 
-/// How far an end is ahead of a number; 0 where it is behind [2.8.10].
+/// Returns how far an end is ahead of a number; 0 if it is behind [2.8.10].
 fn ahead(own: u32, end: u32) -> u32
     ensures { result ≡ spec.ahead own end }
 {

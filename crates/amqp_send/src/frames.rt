@@ -26,7 +26,7 @@ const SOURCE: [u8; 4] = [0x00, 0x53, 0x28, 0x45];
 /// The target, with nothing in it [3.5.4].
 const TARGET: [u8; 4] = [0x00, 0x53, 0x29, 0x45];
 
-/// The open [2.7.1].
+/// Makes the open [2.7.1].
 fn open(container_id: &str) -> Performative<'_>
     ensures { said result ≡ open_said container_id.now }
 {
@@ -44,7 +44,7 @@ fn open(container_id: &str) -> Performative<'_>
     })
 }
 
-/// The begin [2.7.2].
+/// Makes the begin [2.7.2].
 fn begin() -> Performative<'static>
     ensures { said result ≡ begin_said }
 {
@@ -60,7 +60,7 @@ fn begin() -> Performative<'static>
     })
 }
 
-/// The attach [2.7.3].
+/// Makes the attach [2.7.3].
 fn attach(name: &str) -> Performative<'_>
     ensures { said result ≡ attach_said name.now }
 {
@@ -82,7 +82,7 @@ fn attach(name: &str) -> Performative<'_>
     })
 }
 
-/// The flow of the link [2.7.4].
+/// Makes the flow of the link [2.7.4].
 fn flow(flow: FlowState, drain: bool) -> Performative<'static>
     ensures { said result ≡ flow_said flow drain }
 {
@@ -101,7 +101,8 @@ fn flow(flow: FlowState, drain: bool) -> Performative<'static>
     })
 }
 
-/// A transfer of the delivery with this id, which is its tag too: the first, or one that goes on [2.7.5].
+/// Makes a transfer of the delivery with this id, which is its tag too: the first, or a later one
+/// [2.7.5].
 pub fn transfer(id: u32, tag: &[u8], begun: bool, more: bool) -> Performative<'_>
     requires { tag.now ≡ big_bytes 4 id }
     ensures { said result ≡ transfer_said id begun more }

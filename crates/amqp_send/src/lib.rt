@@ -1,12 +1,11 @@
 //! A sender for tests: one connection, one session and one link, over which it sends one message at a time
 //! [AMQP 1.0, part 2].
 //!
-//! [`Sender::new`] writes the protocol header; then as they come [`Sender::offer`] takes a message over,
-//! [`Sender::feed`] takes the receiver's bytes and tells what they bring, and [`Sender::output`] moves out what
-//! is to be sent. `specs/Sendings.antt` has its state, the frames that it writes and what each event does to
-//! it; `specs/Tellings.antt` what the receiver's units tell it; `specs/Runs.antt` what holds of every list of
-//! its calls.
-//! The tests stand in `test_layer_rows`.
+//! Begin with [`Sender`]. [`Sender::new`] writes the protocol header. After that [`Sender::offer`] takes a
+//! message over, [`Sender::feed`] takes the receiver's bytes and reports what they bring, and
+//! [`Sender::output`] moves out what is to be sent. `specs/Sendings.antt` defines its state, the frames that it
+//! writes and what each event does to it; `specs/Tellings.antt` what the receiver's units tell it;
+//! `specs/Runs.antt` what holds of every list of its calls. The tests are in `test_layer_rows`.
 #![tactic(auto)]
 
 mod config;

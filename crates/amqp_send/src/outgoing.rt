@@ -12,14 +12,14 @@ use crate::output::{CONTINUATION_HEAD, Output};
 use std::alloc::{Allocator, Global};
 use std::marker::Model;
 
-/// No transfer is longer than that without its payload.
+/// No transfer is longer than this without its payload, in bytes.
 const HEAD_MOST: usize = 64;
 
-/// A message, and how much of it stands in frames.
+/// A message, and how much of it is in frames.
 #[derive(Drop)]
 pub struct Outgoing<A: Allocator + Copy = Global> {
     bytes: Vec<u8, A>,
-    /// So many bytes stand in frames.
+    /// This many bytes are in frames.
     at: usize,
     /// The first frame is written.
     begun: bool,
@@ -45,7 +45,7 @@ pub struct Part {
 }
 
 impl<A: Allocator + Copy> Outgoing<A> {
-    /// A message of which no frame is written.
+    /// Makes a message of which no frame is written.
     pub fn new(bytes: Vec<u8, A>) -> Self
         ensures { result ≡ record { rest = bytes.items; begun = false } }
     {
@@ -56,21 +56,21 @@ impl<A: Allocator + Copy> Outgoing<A> {
         }
     }
 
-    /// What stands in no frame.
+    /// Returns what is in no frame yet.
     fn rest(&self) -> &[u8]
         ensures { result.now ≡ self.now.rest }
     {
         &self.bytes[self.at..]
     }
 
-    /// Whether its first frame is written.
+    /// Returns whether its first frame is written.
     fn is_begun(&self) -> bool
         ensures { result ≡ self.now.begun }
     {
         self.begun
     }
 
-    /// So much more of it stands in a frame.
+    /// Counts `len` more bytes as written in a frame.
     fn advance(&mut self, len: usize)
         requires { len ≤ length self.old.rest }
         ensures { self.new ≡ record { rest = drop len self.old.rest; begun = true } }
@@ -99,7 +99,7 @@ fn is_last<A: Allocator + Copy>(
     output.measure(&last, message.rest(), most).is_some()
 }
 
-/// How long the next frame is without its payload, where more follow; no more than the longest frame.
+/// Returns how long the next frame is without its payload, if more follow; at most the longest frame.
 fn head_len_of<A: Allocator + Copy>(
     message: &Outgoing<A>,
     flow: FlowState,
@@ -117,8 +117,8 @@ fn head_len_of<A: Allocator + Copy>(
     output.measure(&head, &[], most).unwrap_or(most)
 }
 
-/// How much of the message goes into its next frame: all that is left where that fits one, and else as much as
-/// fills one that more follow.
+/// Returns how much of the message goes into its next frame: all that is left if that fits one, and else as much
+/// as fills one that more follow.
 fn share<A: Allocator + Copy>(
     message: &Outgoing<A>,
     flow: FlowState,
@@ -153,7 +153,7 @@ fn may_fit<A: Allocator + Copy>(message: &Outgoing<A>, flow: FlowState, output: 
     least <= output.room()
 }
 
-/// Puts the frame with this share of the message into the output, where there is room for it.
+/// Appends the frame with this share of the message to the output, if there is room; returns whether there is.
 fn put_part<A: Allocator + Copy>(
     message: &Outgoing<A>,
     flow: FlowState,
@@ -177,9 +177,10 @@ fn put_part<A: Allocator + Copy>(
     output.put(&frame, payload)
 }
 
-/// Writes the next frame of the message into the output, where credit, for a first frame, a place in the window
-/// and room are there, and answers whether they are, and whether the whole message stands in frames now. Where
-/// they are not nothing changes.
+/// Writes the next frame of the message into the output, if it may be written.
+///
+/// It may be if there is a place in the window, room in the output and, for a first frame, credit. Returns whether
+/// that is so, and whether the whole message is in frames now. If it is not so, nothing changes.
 pub fn write_frame_of<A: Allocator + Copy>(
     message: &mut Outgoing<A>,
     flow: &mut FlowState,

@@ -21,7 +21,7 @@ pub const CONTINUATION_HEAD: [u8; 20] = [
     0, 0, 0, 20, 2, 0, 0, 0, 0, 0x53, 0x14, 0xc0, 7, 6, 0x43, 0x40, 0x40, 0x40, 0x40, 0x41,
 ];
 
-/// The bytes that wait to be sent, at most 8192, and one frame's room in which a frame is put together up to its
+/// The bytes that wait to be sent, at most 8192, and room in which one frame is put together up to its
 /// payload. Only `new` takes memory.
 #[derive(Drop)]
 pub struct Output<A: Allocator + Copy = Global> {
@@ -40,7 +40,7 @@ impl<A: Allocator + Copy> Model for Output<A> {
 }
 
 impl<A: Allocator + Copy> Output<A> {
-    /// Nothing waits.
+    /// Makes an output in which nothing waits. An error says that memory was refused.
     pub fn new(alloc: A) -> Result<Self, AllocError>
         ensures { IfOk result (λ a. a ≡ []) }
     {
@@ -50,14 +50,14 @@ impl<A: Allocator + Copy> Output<A> {
         })
     }
 
-    /// How many bytes more may wait.
+    /// Returns how many more bytes may wait.
     pub fn room(&self) -> usize
         ensures { length self.now + result ≡ pipe_size }
     {
         PIPE_SIZE - self.pipe.len()
     }
 
-    /// Puts bytes behind those that wait.
+    /// Appends bytes to those that wait.
     pub fn put_bytes(&mut self, bytes: &[u8])
         requires { length self.old + length bytes.now ≤ pipe_size }
         ensures { self.new ≡ self.old ++ bytes.now }
@@ -65,7 +65,7 @@ impl<A: Allocator + Copy> Output<A> {
         self.pipe.fill_from_slice(bytes);
     }
 
-    /// How long a frame would be, where that is at most `most`.
+    /// Returns how long a frame would be, if that is at most `most`.
     pub fn measure(
         &mut self,
         performative: &Performative<'_>,
@@ -81,7 +81,7 @@ impl<A: Allocator + Copy> Output<A> {
         Some(head_len + payload.len())
     }
 
-    /// Puts a frame behind the bytes that wait, where there is room for it whole, and answers whether there
+    /// Appends a frame to the bytes that wait, if there is room for all of it, and returns whether there
     /// is. Without room nothing changes.
     pub fn put(&mut self, performative: &Performative<'_>, payload: &[u8]) -> bool
         requires { length (said_frame 0 (said performative.now) payload.now) ≤ 4096 }
@@ -99,8 +99,8 @@ impl<A: Allocator + Copy> Output<A> {
         }
     }
 
-    /// [`Output::put`] of a transfer that goes on with a message and that more follow, as most frames of a long
-    /// message are.
+    /// Appends a transfer that goes on with a message and that more follow, if there is room for all of it, and
+    /// returns whether there is, as [`Output::put`] does. Most frames of a long message are such.
     pub fn put_continuation(&mut self, payload: &[u8]) -> bool
         requires { length (said_frame 0 (later_said true) payload.now) ≤ 4096 }
         ensures fits { result ≡ fits self.old (said_frame 0 (later_said true) payload.now) }
@@ -116,7 +116,7 @@ impl<A: Allocator + Copy> Output<A> {
         true
     }
 
-    /// Puts a frame without payload, for which there is room, behind the bytes that wait.
+    /// Appends a frame without payload, for which there is room, to the bytes that wait.
     pub fn append(&mut self, performative: &Performative<'_>)
         requires short { length (frame (said performative.now)) ≤ 4096 }
         requires room { length self.old + length (frame (said performative.now)) ≤ pipe_size }
@@ -125,7 +125,7 @@ impl<A: Allocator + Copy> Output<A> {
         self.put(performative, &[]);
     }
 
-    /// Moves the first bytes that wait into `out`, as many as it holds, and answers how many.
+    /// Moves the first bytes that wait into `out`, as many as it holds, and returns how many.
     pub fn read_into(&mut self, out: &mut [u8]) -> usize
         ensures count { result ≡ min (length out.old) (length self.old) }
         ensures read { out.new ≡ take result self.old ++ drop result out.old }
@@ -135,7 +135,7 @@ impl<A: Allocator + Copy> Output<A> {
     }
 }
 
-/// [`CONTINUATION_HEAD`] of a frame of so many bytes.
+/// Returns [`CONTINUATION_HEAD`] for a frame of `size` bytes.
 fn continuation_head(size: u32) -> [u8; 20]
     ensures { result ≡ big_bytes 4 size ++ drop 4 (frame (later_said true)) }
 {
@@ -144,7 +144,7 @@ fn continuation_head(size: u32) -> [u8; 20]
     head
 }
 
-/// Writes a frame up to its payload at the front of `out`, and answers how many bytes that are; `None` where the
+/// Writes a frame up to its payload at the front of `out`, and returns how many bytes that is; `None` if the
 /// frame with its payload is longer than `most`. No byte of the payload is read.
 fn write_head(
     performative: &Performative<'_>,

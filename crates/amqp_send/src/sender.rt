@@ -24,8 +24,8 @@ const ANSWER_ROOM: usize = 64;
 
 /// A sender over one connection, with one session on channel 0 and one link on handle 0 [2.4, 2.5, 2.6].
 ///
-/// It sends one message at a time, each as one delivery: a first frame goes where the receiver gave credit, and
-/// each frame where a place is left in its window and room in the output pipe of 8192 bytes. Only
+/// It sends one message at a time, each as one delivery. A first frame needs credit from the receiver. Each
+/// frame needs a place in the receiver's window and room in the output pipe of 8192 bytes. Only
 /// [`Sender::new`] takes memory.
 #[derive(Drop)]
 pub struct Sender<A: Allocator + Copy = Global> {
@@ -44,9 +44,10 @@ impl<A: Allocator + Copy> Model for Sender<A> {
 }
 
 impl<A: Allocator + Copy> Sender<A> {
-    /// A sender that has written the protocol header [2.2]. The opening follows once the receiver's header has
-    /// come. The container-id and the link's name have at most 255 bytes each. Takes all the memory that the
-    /// sender ever needs; an error where that is refused.
+    /// Makes a sender that has written the protocol header [2.2].
+    ///
+    /// The opening follows once the receiver's header has come. The container-id and the link's name have at
+    /// most 255 bytes each. Takes all the memory that the sender ever needs; an error says that it is refused.
     pub fn new(alloc: A, config: SendConfig<A>) -> Result<Self, AllocError>
         requires container_id { length (string_bytes config.container_id) ≤ 255 }
         requires name { length (string_bytes config.name) ≤ 255 }
@@ -58,9 +59,10 @@ impl<A: Allocator + Copy> Sender<A> {
         })
     }
 
-    /// Takes a message over, which is sent as the receiver allows. It comes back with `Busy` while the last
-    /// frame of another one is not yet in the pipe, and with `Ended` once the sender has ended or was closed;
-    /// the sender is then unchanged.
+    /// Takes a message over, which is sent as the receiver allows.
+    ///
+    /// The message comes back with `Busy` while the last frame of another one is not yet in the pipe, and with
+    /// `Ended` once the sender has ended or was closed; the sender is then unchanged.
     pub fn offer(&mut self, message: Vec<u8, A>) -> Result<(), (OfferFault, Vec<u8, A>)>
         ensures ok { OnOk result ((offer_fault self.old.sending ≡ None) × (self.new ≡ record self.old { sending = send_after self.old.sending (SendEvent.Offered message.items) })) }
         ensures err { IfErr result (λ e. (offer_fault self.old.sending ≡ Some e.0) × (e.1.items ≡ message.items) × (self.new ≡ self.old)) }
@@ -77,9 +79,10 @@ impl<A: Allocator + Copy> Sender<A> {
     }
 
     /// Takes bytes of the receiver up to the end of its header, of one frame, or to the byte that shows that
-    /// there is none, and answers how many, with what they brought. A unit that is whole is acted upon, and the
-    /// frames that may then be written are, if the pipe has 64 bytes of room; otherwise it waits, no byte is
-    /// taken while it does, and the next call tries it again.
+    /// there is none, and returns how many, with what they brought.
+    ///
+    /// A whole unit is acted upon if the pipe has 64 bytes of room, and the frames that may then be written are
+    /// written. Otherwise the unit waits: no byte is taken while it does, and the next call tries it again.
     pub fn feed(&mut self, piece: &[u8]) -> (usize, Option<News>)
         ensures bound { result.0 ≤ length piece.now }
         ensures does { IsFed self.old self.new piece.now result.0 result.1 }
@@ -108,8 +111,9 @@ impl<A: Allocator + Copy> Sender<A> {
         news
     }
 
-    /// Moves the first bytes that wait to be sent into `out`, as many as it holds, and answers how many. The
-    /// frames for which there is room then are written behind the others, so that more may wait after the call.
+    /// Moves the first bytes that wait to be sent into `out`, as many as it holds, and returns how many.
+    ///
+    /// The frames for which there is room then are written after the others, so more may wait after the call.
     pub fn output(&mut self, out: &mut [u8]) -> usize
         ensures count { result ≡ min (length out.old) (length self.old.sending.unsent) }
         ensures read { out.new ≡ take result self.old.sending.unsent ++ drop result out.old }
@@ -126,9 +130,10 @@ impl<A: Allocator + Copy> Sender<A> {
         count
     }
 
-    /// Closes the connection [2.4.3]: writes the close and answers true, and after that only the receiver's
-    /// close counts. False, with nothing changed, before the opening is written, once the sender was closed or
-    /// has ended, and where the pipe has fewer than 12 bytes of room.
+    /// Closes the connection: writes the close and returns true [2.4.3].
+    ///
+    /// After that only the receiver's close counts. Returns false, with nothing changed, before the opening is
+    /// written, once the sender was closed or has ended, and if the pipe has fewer than 12 bytes of room.
     pub fn close(&mut self) -> bool
         ensures may { result ≡ may_close self.old.sending }
         ensures closed { IsTrue result → self.new ≡ record self.old { sending = send_after self.old.sending SendEvent.CloseWritten } }

@@ -49,7 +49,7 @@ impl<A: Allocator + Copy> Model for Sending<A> {
 }
 
 impl<A: Allocator + Copy> Sending<A> {
-    /// The header is written.
+    /// Makes a sending that has written the header. An error says that memory was refused.
     pub fn new(alloc: A, config: SendConfig<A>) -> Result<Self, AllocError>
         requires container_id { length (string_bytes config.container_id) ≤ 255 }
         requires name { length (string_bytes config.name) ≤ 255 }
@@ -66,14 +66,14 @@ impl<A: Allocator + Copy> Sending<A> {
         })
     }
 
-    /// How many bytes more the pipe holds.
+    /// Returns how many more bytes the pipe holds.
     pub fn room(&self) -> usize
         ensures { length self.now.unsent + result ≡ pipe_size }
     {
         self.output.room()
     }
 
-    /// Why a message is not taken over.
+    /// Returns why a message is not taken over; `None` if it may be.
     pub fn offer_fault(&self) -> Option<OfferFault>
         ensures { result ≡ offer_fault self.now }
     {
@@ -94,7 +94,7 @@ impl<A: Allocator + Copy> Sending<A> {
         self.message = Some(Outgoing::new(message));
     }
 
-    /// Acts upon what a unit of the receiver told, and answers what is handed up of it.
+    /// Acts upon what a unit of the receiver told, and returns the news of it.
     pub fn hear(&mut self, told: Telling) -> Option<News>
         requires room { length self.old.unsent + 64 ≤ pipe_size }
         requires lawful { IsLawful told }
@@ -109,7 +109,7 @@ impl<A: Allocator + Copy> Sending<A> {
         }
     }
 
-    /// The receiver's header came: the opening follows, or the sender ends.
+    /// Acts upon the receiver's header: the opening follows, or the sender ends.
     fn greet(&mut self, told: Telling) -> Option<News>
         requires { self.old.talk ≡ Talk.Silent }
         ensures new { self.new ≡ spec.greeted told self.old }
@@ -125,7 +125,7 @@ impl<A: Allocator + Copy> Sending<A> {
         }
     }
 
-    /// What is told while it talks.
+    /// Acts upon what is told while the sender talks.
     fn listen(&mut self, told: Telling) -> Option<News>
         requires talking { self.old.talk ≡ Talk.Talking }
         requires room { length self.old.unsent + 64 ≤ pipe_size }
@@ -157,7 +157,8 @@ impl<A: Allocator + Copy> Sending<A> {
         }
     }
 
-    /// After its own close the receiver's alone counts [2.4.3].
+    /// Acts upon what is told after the sender's own close: only the receiver's close counts
+    /// [2.4.3].
     fn listen_closing(&mut self, told: Telling) -> Option<News>
         ensures new { self.new ≡ spec.heard_closing told self.old }
         ensures news { result ≡ spec.closing_news told }
@@ -168,7 +169,7 @@ impl<A: Allocator + Copy> Sending<A> {
         }
     }
 
-    /// It ends.
+    /// Ends the sender.
     fn end(&mut self, condition: Condition) -> Option<News>
         ensures new { self.new ≡ spec.ended condition self.old }
         ensures news { result ≡ Some (News.Ended condition) }
@@ -177,7 +178,7 @@ impl<A: Allocator + Copy> Sending<A> {
         Some(News::Ended(condition))
     }
 
-    /// Takes the limits of a flow, and answers it where it asks for that.
+    /// Takes the limits of a flow, and answers the flow if it asks for that.
     fn answer(&mut self, limits: Limits)
         requires talking { self.old.talk ≡ Talk.Talking }
         requires room { length self.old.unsent + 64 ≤ pipe_size }
@@ -193,7 +194,7 @@ impl<A: Allocator + Copy> Sending<A> {
         }
     }
 
-    /// Writes the next frame of the message, where it may be written, and answers whether it may.
+    /// Writes the next frame of the message if it may be written, and returns whether it may.
     fn write_next(&mut self) -> bool
         ensures new { self.new ≡ wrote self.old }
         ensures did { result ≡ can_write self.old }
@@ -224,7 +225,7 @@ impl<A: Allocator + Copy> Sending<A> {
         'frames: while self.write_next() {}
     }
 
-    /// Writes the close, where it talks and there is room, and answers whether that is so.
+    /// Writes the close if the sender talks and there is room, and returns whether that is so.
     pub fn close(&mut self) -> bool
         ensures may { result ≡ may_close self.old }
         ensures new { self.new ≡ (if result then changed self.old SendEvent.CloseWritten else self.old) }
@@ -239,7 +240,7 @@ impl<A: Allocator + Copy> Sending<A> {
         }
     }
 
-    /// Moves the first bytes that wait into `out`, as many as it holds, and answers how many.
+    /// Moves the first bytes that wait into `out`, as many as it holds, and returns how many.
     pub fn read_into(&mut self, out: &mut [u8]) -> usize
         ensures count { result ≡ min (length out.old) (length self.old.unsent) }
         ensures read { out.new ≡ take result self.old.unsent ++ drop result out.old }

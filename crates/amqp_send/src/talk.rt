@@ -9,7 +9,7 @@ pub enum Talk {
     Silent,
     /// The opening was written.
     Talking,
-    /// The own close was written, and the receiver's has not come [2.4.3].
+    /// The sender's own close was written, and the receiver's has not come [2.4.3].
     Closing,
     /// It ended: the receiver said so, or its bytes can't be read.
     Ended(Condition),

@@ -14,14 +14,14 @@ use std::alloc::Allocator;
 /// What a flow states [2.7.4].
 #[derive(Clone, Copy, Debug, PartialEq, Eq)]
 pub struct Limits {
-    /// 0 where it is absent.
+    /// 0 if it is absent.
     pub next_incoming_id: u32,
     pub incoming_window: u32,
     /// It has a handle.
     pub of_link: bool,
-    /// 0 where it is absent.
+    /// 0 if it is absent.
     pub delivery_count: u32,
-    /// 0 where it is absent.
+    /// 0 if it is absent.
     pub link_credit: u32,
     pub drain: bool,
     pub echo: bool,
@@ -48,7 +48,7 @@ pub enum Telling {
     Unread,
 }
 
-/// What a flow tells.
+/// Returns what a flow tells.
 #[tactic(auto, using(crate::proofs::Fields::fields_are))]
 fn told_by_flow(p: &Flow<'_>) -> Telling
     ensures { result ≡ flow_told (flow_cells p.now) }
@@ -64,7 +64,7 @@ fn told_by_flow(p: &Flow<'_>) -> Telling
     })
 }
 
-/// What a disposition tells: nothing where it is of a sender, or has no outcome and does not settle.
+/// Returns what a disposition tells: nothing if it is of a sender, or has no outcome and does not settle.
 #[tactic(auto, using(crate::proofs::Fields::fields_are))]
 fn told_by_disposition(p: &Disposition<'_>) -> Telling
     ensures { result ≡ disposition_told (disposition_cells p.now) }
@@ -79,7 +79,7 @@ fn told_by_disposition(p: &Disposition<'_>) -> Telling
     }
 }
 
-/// What a performative tells.
+/// Returns what a performative tells.
 #[tactic(auto, using(crate::proofs::Fields::fields_are))]
 fn performative_told(performative: &Performative<'_>) -> Telling
     ensures { result ≡ performative_told (type_of performative.now) (performative_cells performative.now) }
@@ -96,7 +96,7 @@ fn performative_told(performative: &Performative<'_>) -> Telling
     }
 }
 
-/// What the body of a frame tells. A max-frame-size that is told is at least 512 [2.7.1].
+/// Returns what the body of a frame tells. A max-frame-size that is told is at least 512 [2.7.1].
 fn told_in(body: &[u8]) -> Telling
     ensures told { result ≡ told_in body.now }
     ensures lawful { IsLawful result }
@@ -111,8 +111,8 @@ fn told_in(body: &[u8]) -> Telling
     }
 }
 
-/// What the unit that waits tells; `None` where none waits. A max-frame-size that is told is at least 512
-/// [2.7.1].
+/// Returns what the unit that waits tells; `None` if none waits. A max-frame-size that is told is at
+/// least 512 [2.7.1].
 pub fn told_by_unit<A: Allocator + Copy>(input: &Splitter<A>) -> Option<Telling>
     requires { 8 ≤ input.now.limit }
     ensures some { IfSome result (λ t. (u : StreamUnit) × Waits input.now u × (t ≡ told_of u)) }
@@ -132,7 +132,7 @@ pub fn told_by_unit<A: Allocator + Copy>(input: &Splitter<A>) -> Option<Telling>
     }
 }
 
-/// What the receiver's header tells.
+/// Returns what the receiver's header tells.
 fn told_by_header(header: &[u8; 8]) -> Telling
     ensures { result ≡ told_of (StreamUnit.HeaderUnit header.now) }
 {

@@ -28,7 +28,7 @@ pub record Made : Type 0 where
 
 -- Calls. --------------------------------------------------------------------------------------------------------------
 
--- A call for a session, where nothing waits to be sent. Refused, it changes nothing.
+-- A call to a session, when nothing waits to be sent. A refused call changes nothing.
 abbrev pub called_by : Option CallFault → Made → ℕ → session.Call → Made
 called_by None m channel c = record {
   connection = connection_after m.connection (call_event m.connection channel c);
@@ -40,7 +40,7 @@ called_by (Some fault) m channel c = m
 abbrev pub called : Made → ℕ → session.Call → Made
 called m channel c = called_by (call_fault m.connection [] channel c) m channel c
 
--- its answer
+-- the answer to such a call
 abbrev pub answered_by : Option CallFault → Answer → Answer
 answered_by None answer = answer
 answered_by (Some fault) answer = Refused fault
@@ -54,7 +54,7 @@ abbrev pub supply_channel : Supply → ℕ
 supply_channel (WindowOf channel) = channel
 supply_channel (CreditOf channel handle) = channel
 
--- the call that gives a supply so much
+-- the call that gives a supply this much
 abbrev pub call_for : Supply → ℕ → session.Call
 call_for (WindowOf channel) n = Widen n
 call_for (CreditOf channel handle) n = Grant handle n
@@ -78,7 +78,7 @@ topped_up p m = all_topped p (all_supplies m.connection.config) m
 
 -- What is done from a stand on, until the next piece is fed. ------------------------------------------------------------
 
--- once a message was taken
+-- after a message was taken
 abbrev pub done_taken : Rule → Stand → Made → Made
 done_taken p (ToppingUp supplies) m = all_topped p supplies m
 done_taken p (Receiving channel handle) m = m  -- no take leads there, nor to the last two
@@ -125,7 +125,7 @@ left_over s rest = if is_dead s.phase then [] else rest
 abbrev pub end_with : ConnectionState → List ℕ → End
 end_with s buffer = if s.failed then ended.Failed else (if s.closed then ended.Closed else end_between (length buffer))
 
--- The bytes are units and a rest; the units served one by one, until the connection is over or none is left, make this of a new connection, and it ends so.
+-- The bytes are units and a rest. Served one by one, until the connection is over or none is left, the units make this of a new connection, and it ends so.
 pub record IsMade (p : Rule) (config : Configured) (bytes : List ℕ) (made : Made) (end : End) : Type 0 where
   pub units : List StreamUnit
   pub rest : List ℕ
@@ -136,10 +136,10 @@ pub record IsMade (p : Rule) (config : Configured) (bytes : List ℕ) (made : Ma
   pub is : made ≡ served_all p (first_made config) units
   pub ends : end ≡ end_with made.connection (left_over made.connection rest)
 
--- Two devices that held the same bytes, where these are known, hold the same.
+-- Two devices that held the same bytes, if these are known, hold the same bytes now.
 abbrev pub AreAlike : Option (List ℕ) → Option (List ℕ) → Option (List ℕ) → Option (List ℕ) → Type 0
 AreAlike held now held2 now2 = (bytes : List ℕ) → held ≡ Some bytes → held2 ≡ Some bytes → now ≡ now2
 
--- the bytes begin so
+-- the bytes begin with this front
 abbrev pub IsFront : List ℕ → List ℕ → Type 0
 IsFront front bytes = (behind : List ℕ) × (bytes ≡ front ++ behind)

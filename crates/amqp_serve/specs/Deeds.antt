@@ -1,4 +1,4 @@
--- What a call that serves did, and how it came out.
+-- What a serving call did, and how it ended.
 use Rattle.std.specs.Prelude.{◌≡◌, ◌≢◌, ◌↔◌, ℕ, ◌+◌, ◌-◌, ◌^◌, min, sum_by, length, Bool, true, false, List, [], ◌∷◌, Option, Result, Ok, Err, IsTrue}
 use Rattle.std.specs.List.{flat_map}
 use Rattle.amqp_frame.specs.Devices.{device_inner, has_failed}
@@ -24,11 +24,11 @@ use Rattle.amqp_serve.specs.Serving.{Stand, Step, stand_told, reading, Served, W
 
 -- What was done. ------------------------------------------------------------------------------------------------------
 
--- a number that stops at the highest that 32 bits hold
+-- a number, or the highest that 32 bits hold if it is larger
 abbrev pub most : ℕ → ℕ
 most n = min n (2 ^ 32 - 1)
 
--- what a feed told
+-- what a feed reported
 abbrev pub outcomes_by : Answer → List Outcome
 outcomes_by (Fed used told) = told ∷ []
 outcomes_by _ = []
@@ -36,19 +36,19 @@ outcomes_by _ = []
 abbrev pub received_as : Handed → Received
 received_as d = record { delivery_id = d.delivery_id; len = most (length d.message) }
 
--- what came of a take: the message, and whether its sender had settled it
+-- the result of a take: the message, and whether its sender had settled it
 abbrev pub takes_by : Call → Answer → List (Result (Received × Bool) CallFault)
 takes_by (InSession channel (Take handle)) (HandedUp d) = Ok (received_as d, d.settled) ∷ []
 takes_by (InSession channel (Take handle)) (Refused f) = Err f ∷ []
 takes_by _ _ = []
 
--- and of a settle
+-- the result of a settle
 abbrev pub settles_by : Call → Answer → List (Result (Unit {0}) CallFault)
 settles_by (InSession channel (Settle id outcome)) Accepted = Ok tt ∷ []
 settles_by (InSession channel (Settle id outcome)) (Refused f) = Err f ∷ []
 settles_by _ _ = []
 
--- places that a window was widened by
+-- by how many places a window was widened
 abbrev pub widened_by : Call → Answer → ℕ
 widened_by (InSession channel (Widen n)) Accepted = n
 widened_by _ _ = 0
@@ -58,7 +58,7 @@ abbrev pub granted_by : Call → Answer → ℕ
 granted_by (InSession channel (Grant handle n)) Accepted = n
 granted_by _ _ = 0
 
--- a supply that was refused what it lacked
+-- 1 for a supply that was refused what it lacked
 abbrev pub refused_by : Call → Answer → ℕ
 refused_by (InSession channel (Widen n)) (Refused f) = 1
 refused_by (InSession channel (Grant handle n)) (Refused f) = 1
@@ -70,7 +70,7 @@ pub record Deeds : Type 0 where
   pub settles : List (Result (Unit {0}) CallFault)
   pub topped : Topped
 
--- These steps did that, and nothing else but to move answers out.
+-- This is what these steps reported, took, settled and topped up.
 pub record AreDeeds (d : Deeds) (steps : List Step) : Type 0 where
   pub told : d.told ≡ flat_map (λ x. outcomes_by x.answer) steps
   pub takes : d.takes ≡ flat_map (λ x. takes_by x.call x.answer) steps
@@ -82,7 +82,7 @@ pub record AreDeeds (d : Deeds) (steps : List Step) : Type 0 where
 abbrev pub with_both : Topped → Topped → Topped
 with_both a b = record { widened = most (a.widened + b.widened); granted = most (a.granted + b.granted); refused = most (a.refused + b.refused) }
 
--- what topping a supply up by so much came to
+-- what topping up a supply by `n` did, by the answer to the call
 abbrev pub topped_as : Supply → ℕ → Result (Unit {0}) CallFault → Topped
 topped_as (WindowOf channel) n (Ok x) = record { widened = n; granted = 0; refused = 0 }
 topped_as (CreditOf channel handle) n (Ok x) = record { widened = 0; granted = n; refused = 0 }
@@ -100,7 +100,7 @@ no_deeds = topped_deeds nothing_topped
 abbrev pub fed_deeds : Outcome → Deeds
 fed_deeds told = record { told = told ∷ []; takes = []; settles = []; topped = nothing_topped }
 
--- what came of the take of a message, and of its settle
+-- the results of the take and of the settle that a receipt stands for
 abbrev pub takes_of : Receipt → List (Result (Received × Bool) CallFault)
 takes_of receipt.Nothing = []
 takes_of (receipt.Refused f) = Err f ∷ []
@@ -115,7 +115,7 @@ settles_of (receipt.Settled m) = []
 settles_of (receipt.Told m) = Ok tt ∷ []
 settles_of (receipt.Untold m f) = Err f ∷ []
 
--- what became of a message that was to be settled
+-- the receipt of a message, by the answer to its settle
 abbrev pub receipt_by : Received → Result (Unit {0}) CallFault → Receipt
 receipt_by m (Ok x) = receipt.Told m
 receipt_by m (Err f) = receipt.Untold m f
@@ -123,7 +123,7 @@ receipt_by m (Err f) = receipt.Untold m f
 abbrev pub receipt_deeds : Receipt → Deeds
 receipt_deeds r = record { told = []; takes = takes_of r; settles = settles_of r; topped = nothing_topped }
 
--- all but what was told
+-- all but what the feed reported
 abbrev pub rest_deeds : Done → Deeds
 rest_deeds d = record { told = []; takes = takes_of d.receipt; settles = settles_of d.receipt; topped = d.topped }
 
@@ -132,7 +132,7 @@ done_deeds told d = record { told = told ∷ []; takes = takes_of d.receipt; set
 
 -- How it came out. ----------------------------------------------------------------------------------------------------
 
--- What a writer and a sink hold, where that is known, and which of them failed.
+-- What a writer and a sink hold, if that is known, and which of them failed.
 pub record Ends : Type 0 where
   pub writer : Option (List ℕ)
   pub sink : Option (List ℕ)
@@ -147,7 +147,7 @@ pub record AreOpen (e : Ends) : Type 0 where
   pub writer : ¬ (IsTrue e.writer_failed)
   pub sink : ¬ (IsTrue e.sink_failed)
 
--- the fault names which of them failed
+-- the fault names the one that failed, if one did
 pub record IsMarked (x : ServeFault) (e : Ends) : Type 0 where
   pub writer : (x ≡ fault.Write) ↔ IsTrue e.writer_failed
   pub sink : (x ≡ fault.Sink) ↔ IsTrue e.sink_failed
@@ -158,13 +158,13 @@ IsOfEnds fault.Write = Unit {0}
 IsOfEnds fault.Sink = Unit {0}
 IsOfEnds fault.NoMemory = ⊥
 
--- It was served from one stand to another with no piece fed, and this was done.
+-- Serving went from one stand to another with no piece fed, and did this. Neither device failed.
 pub record WentOn (p : Rule) (d : Deeds) (a b : Stand) (old new : EndpointState) (e f : Ends) : Type 0 where
   pub works : Works p a b old new e.writer f.writer e.sink f.sink
   pub deeds : AreDeeds d works.served.steps
   pub still : AreOpen f
 
--- It broke off where one of them failed.
+-- Serving broke off, since the writer or the sink failed.
 pub record WentOff (p : Rule) (x : ServeFault) (a : Stand) (old new : EndpointState) (e f : Ends) : Type 0 where
   pub which : IsOfEnds x
   pub broke : BrokeOff p x a [] old new e.writer f.writer e.sink f.sink
@@ -174,7 +174,7 @@ abbrev pub Went : {X : Type 0} → Rule → (X → Deeds) → Stand → Stand �
 Went p tells a b (Ok x) old new e f = WentOn p (tells x) a b old new e f
 Went p tells a b (Err x) old new e f = WentOff p x a old new e f
 
--- What follows from what a feed told was done, and no answer waits then.
+-- What follows from a feed that reported this was done, and no answer waits.
 pub record HasFollowed (p : Rule) (told : Outcome) (d : Done) (old new : EndpointState) (e f : Ends) : Type 0 where
   pub fed : told ≢ outcome.NoMemory
   pub works : Works p (stand_told old.connection.config told) reading old new e.writer f.writer e.sink f.sink
@@ -182,7 +182,7 @@ pub record HasFollowed (p : Rule) (told : Outcome) (d : Done) (old new : Endpoin
   pub sent : new.unsent ≡ []
   pub still : AreOpen f
 
--- Or it broke off; where memory was refused nothing was done.
+-- It broke off instead. If memory was refused, nothing was done.
 pub record HasFailed (p : Rule) (told : Outcome) (x : ServeFault) (old new : EndpointState) (e f : Ends) : Type 0 where
   pub which : x ≢ fault.Read
   pub broke : BrokeOff p x (stand_told old.connection.config told) [] old new e.writer f.writer e.sink f.sink
@@ -193,12 +193,13 @@ abbrev pub Follows : Rule → Outcome → Result Done ServeFault → EndpointSta
 Follows p told (Ok d) old new e f = HasFollowed p told d old new e f
 Follows p told (Err x) old new e f = HasFailed p told x old new e f
 
--- an answer that was filled in
+-- an answer whose value was stored
 abbrev pub filled : Result (Unit {0}) ServeFault → Done → Result Done ServeFault
 filled (Ok x) d = Ok d
 filled (Err x) d = Err x
 
--- These bytes were fed at once, what follows was done and told; no answer waits then, and no unit.
+-- These bytes were fed, and what follows was done and reported. No answer waits, and no unit unless the connection was over
+-- before.
 pub record HasStepped (p : Rule) (told : Outcome) (d : Done) (bytes : List ℕ) (old new : EndpointState) (e f : Ends) : Type 0 where
   pub served : Served p reading reading bytes old new e.writer f.writer e.sink f.sink
   pub deeds : AreDeeds (done_deeds told d) served.steps
@@ -206,7 +207,8 @@ pub record HasStepped (p : Rule) (told : Outcome) (d : Done) (bytes : List ℕ) 
   pub idle : is_dead old.connection.phase ≡ false → IsIdle new
   pub still : AreOpen f
 
--- Or it broke off. Where memory was refused the unit waits, and nothing was written or recorded, nor did the connection change.
+-- The step broke off instead. If memory was refused, the unit waits, nothing was written or recorded, and the connection did
+-- not change.
 pub record HasStopped (p : Rule) (x : ServeFault) (bytes : List ℕ) (old new : EndpointState) (e f : Ends) : Type 0 where
   pub which : x ≢ fault.Read
   pub broke : BrokeOff p x reading bytes old new e.writer f.writer e.sink f.sink
@@ -218,7 +220,7 @@ abbrev pub IsStepped : Rule → List ℕ → Outcome → Result Done ServeFault 
 IsStepped p bytes told (Ok d) old new e f = HasStepped p told d bytes old new e f
 IsStepped p bytes told (Err x) old new e f = HasStopped p x bytes old new e f
 
--- A reader was read by steps, and serving broke off.
+-- Bytes of a reader were served by steps, and serving broke off.
 pub record IsLost (p : Rule) (x : ServeFault) (old new : EndpointState) (input left : Option (List ℕ)) (reader_failed : Bool) (e f : Ends) : Type 0 where
   pub broken : HasBroken p x old new input left e.writer f.writer e.sink f.sink
   pub read : (x ≡ fault.Read) ↔ IsTrue reader_failed
@@ -227,7 +229,7 @@ pub record IsLost (p : Rule) (x : ServeFault) (old new : EndpointState) (input l
   pub waited : x ≡ fault.Read → (new.unsent ≡ []) × (is_dead new.connection.phase ≡ false)
   pub starved : x ≡ fault.NoMemory → IsStarved new
 
--- They made a step, with what the reader had at hand or gave.
+-- A step was made, with what the reader had at hand or gave.
 pub record HasGone (p : Rule) (old new : EndpointState) (input left : Option (List ℕ)) (reader_failed : Bool) (e f : Ends) : Type 0 where
   pub read : HasRead p old new input left e.writer f.writer e.sink f.sink
   pub idle : IsIdle new

@@ -8,18 +8,18 @@ use Rattle.amqp_serve.specs.declared.steps.Course.{Course}
 use Rattle.amqp_serve.specs.declared.steps.Done.{Done}
 use Rattle.amqp_serve.specs.Supplied.{IsRight}
 
--- the endpoint, the rule by which it is served, and which end failed
+-- the endpoint, the rule by which it is served, and which device failed
 pub record ServerState : Type 0 where
   pub endpoint : EndpointState
   pub rule : Rule
   pub lost : Option ServeFault
 
--- unless an end failed, no answer waits
+-- unless a device failed no answer waits, and what the course knows is right
 pub record IsAtRest (s : EndpointState) (course : Course) (lost : Option ServeFault) : Type 0 where
   pub sent : lost ≡ None → s.unsent ≡ []
   pub right : IsRight course s.connection
 
--- the end that a step lost
+-- the fault of a step at which the writer or the sink failed
 abbrev pub lost_by : Result Done ServeFault → Option ServeFault
 lost_by (Ok d) = None
 lost_by (Err fault.Read) = None

@@ -1,4 +1,4 @@
--- Serving by a policy: by the rule that tops a link up where it has any less than the policy's credit (AMQP 1.0, part 2, section 2.6.7).
+-- Serving by a policy: by the rule that tops up a link that has any less than the policy's credit (AMQP 1.0, part 2, section 2.6.7).
 use Rattle.std.specs.Prelude.{ℕ, ◌-◌, Bool, List, Option}
 use Rattle.amqp_endpoint.specs.declared.event.End.{End}
 use Rattle.amqp_endpoint.specs.Configs.{Configured}

@@ -1,9 +1,10 @@
--- How much room the answers to one unit want.
+-- How much room the answers to one unit need.
 use Rattle.std.specs.Prelude.{ℕ, ◌+◌, ◌*◌, length}
 use Rattle.amqp_endpoint.specs.Calls.{reply_room}
 use Rattle.amqp_endpoint.specs.Configs.{Configured}
 use Rattle.amqp_serve.specs.Serving.{all_supplies}
 
--- At most so much: for the unit itself, for the message that it made ready, for what became of it, and for each supply.
+-- At most this many bytes: an answer for the unit itself, one for the message that it made ready, one for what became
+-- of it, and one for each supply.
 abbrev pub answers_room : Configured → ℕ
 answers_room config = (3 + length (all_supplies config)) * reply_room

@@ -30,13 +30,13 @@ use Rattle.amqp_endpoint.specs.Traces.{IsInRange, AreInRange, taken_by, moved_by
 
 -- What is lacking. ----------------------------------------------------------------------------------------------------
 
--- Where at most half of the places that a session began with are left, it lacks the others.
+-- If at most half of the places that a session began with are left, it lacks the others.
 abbrev pub window_lack : ℕ → Slot SessionState → ℕ
 window_lack window Free = 0
 window_lack window (Live s) = if nat_le (2 * s.window) window then window - s.window else 0
 window_lack window Awaits = 0
 
--- A link whose credit is at most the mark lacks what it is short of the rule's, within what it is allowed beside its credit and its open deliveries.
+-- A link whose credit is at most the mark lacks what it is short of the rule's credit, within what it is allowed less its credit and its open deliveries.
 abbrev pub credit_lack : Rule → Slot LiveLink → ℕ
 credit_lack p Free = 0
 credit_lack p (Live l) = if nat_le l.link.credit p.mark then min (p.credit - l.link.credit) (l.link.terms.bounds.allowed - l.link.credit - open_count l.link) else 0
@@ -46,7 +46,7 @@ abbrev pub lack : Rule → ConnectionState → Supply → ℕ
 lack p s (WindowOf channel) = window_lack s.config.window (slot_at s channel)
 lack p s (CreditOf channel handle) = credit_lack p (link_in handle (slot_at s channel))
 
--- the call that gives a supply so much
+-- the call that gives a supply this much
 abbrev pub top_up_by : Supply → ℕ → Call
 top_up_by (WindowOf channel) n = InSession channel (Widen n)
 top_up_by (CreditOf channel handle) n = InSession channel (Grant handle n)
@@ -55,7 +55,7 @@ top_up_by (CreditOf channel handle) n = InSession channel (Grant handle n)
 abbrev pub session_supplies : ℕ → ℕ → List Supply
 session_supplies handles channel = WindowOf channel ∷ tabulate 0 handles (λ handle. CreditOf channel handle)
 
--- of so many channels from this one on, by rising channel
+-- the supplies of this many channels from this one on, by rising channel
 unfoldable pub all_supplies_from : ℕ → ℕ → ℕ → List Supply
 all_supplies_from handles channel count = flat_map (λ k. session_supplies handles k) (tabulate channel count (λ k. k))
 
@@ -65,7 +65,7 @@ all_supplies config = all_supplies_from (suc config.handle_max) 0 (channels conf
 -- Where the server stands. --------------------------------------------------------------------------------------------
 
 pub data Stand : Type 0 where
-  ToppingUp : List Supply → Stand  -- these supplies are yet to be topped up; where none is, the next piece is fed
+  ToppingUp : List Supply → Stand  -- these supplies are yet to be topped up; if there is none, the next piece is fed
   Receiving : ℕ → ℕ → Stand  -- a message is ready on this channel, on the link with this handle
   Settling : ℕ → ℕ → Stand  -- the delivery on this channel with this id was handed up, and its sender has not settled it
   Starved : Stand  -- memory was refused
@@ -74,7 +74,7 @@ pub data Stand : Type 0 where
 abbrev pub reading : Stand
 reading = ToppingUp []
 
--- where it stands once a feed told this
+-- where the server stands after a feed that reported this
 abbrev pub stand_told : Configured → Outcome → Stand
 stand_told config (outcome.Event (event.Ready channel handle)) = Receiving channel handle
 stand_told config outcome.NoMemory = Starved
@@ -83,7 +83,7 @@ stand_told config _ = ToppingUp (all_supplies config)
 abbrev pub stand_handed : Configured → ℕ → Handed → Stand
 stand_handed config channel d = if d.settled then ToppingUp (all_supplies config) else Settling channel d.delivery_id
 
--- once a take had this answer
+-- where it stands after a take with this answer
 abbrev pub stand_taken : Configured → ℕ → Answer → Stand
 stand_taken config channel (HandedUp d) = stand_handed config channel d
 stand_taken config channel _ = ToppingUp (all_supplies config)  -- refused
@@ -95,7 +95,7 @@ pub record Step : Type 0 where
   pub call : Call
   pub answer : Answer
 
--- These calls with their answers lead the server from where it stands, with the endpoint in this state, to where it stands then, and the endpoint to that state.
+-- These calls with their answers lead the server from the first stand to the second, and the endpoint from the first state to the second.
 pub data Serves : Rule → Stand → EndpointState → List Step → Stand → EndpointState → Type 0 where
   Rests : {p : Rule} {a : Stand} {s : EndpointState} → Serves p a s [] a s
   -- at any time some of what waits to be sent is moved out
@@ -110,7 +110,7 @@ pub data Serves : Rule → Stand → EndpointState → List Step → Stand → E
   Takes : {p : Rule} {b : Stand} {s last : EndpointState} {steps : List Step} (next : EndpointState) (channel handle : ℕ) (answer : Answer)
       → Does s next (InSession channel (Take handle)) answer → Serves p (stand_taken next.connection.config channel answer) next steps b last
       → Serves p (Receiving channel handle) s (record { call = InSession channel (Take handle); answer = answer } ∷ steps) b last
-  -- nothing waits, and it is settled
+  -- nothing waits, and the message is settled
   Settles : {p : Rule} {b : Stand} {s last : EndpointState} {steps : List Step} (next : EndpointState) (channel id : ℕ) (answer : Answer)
       → s.unsent ≡ [] → id < 2 ^ 32 → Does s next (InSession channel (Settle id p.outcome)) answer → Serves p (ToppingUp (all_supplies next.connection.config)) next steps b last
       → Serves p (Settling channel id) s (record { call = InSession channel (Settle id p.outcome); answer = answer } ∷ steps) b last
@@ -118,7 +118,7 @@ pub data Serves : Rule → Stand → EndpointState → List Step → Stand → E
   TopsUp : {p : Rule} {b : Stand} {s last : EndpointState} {steps : List Step} (next : EndpointState) (supply : Supply) (supplies : List Supply) (answer : Answer)
       → s.unsent ≡ [] → 0 < lack p s.connection supply → Does s next (top_up_by supply (lack p s.connection supply)) answer → Serves p (ToppingUp supplies) next steps b last
       → Serves p (ToppingUp (supply ∷ supplies)) s (record { call = top_up_by supply (lack p s.connection supply); answer = answer } ∷ steps) b last
-  -- it lacks nothing
+  -- the first supply lacks nothing
   Passes : {p : Rule} {b : Stand} {s last : EndpointState} {steps : List Step} (supply : Supply) (supplies : List Supply)
       → lack p s.connection supply ≡ 0 → Serves p (ToppingUp supplies) s steps b last
       → Serves p (ToppingUp (supply ∷ supplies)) s steps b last
@@ -129,8 +129,8 @@ pub data Serves : Rule → Stand → EndpointState → List Step → Stand → E
 
 -- What is read, written and recorded. ---------------------------------------------------------------------------------
 
--- The record of a message: its channel in 2 bytes, its handle, delivery-id, message-format and length in 4 bytes each, the highest byte first, and the message.
--- Of a length that 4 bytes do not hold it says the largest that they do.
+-- The head of a record: the channel in 2 bytes, then the handle, delivery-id, message-format and length in 4 bytes each, the highest byte first. For a length that 4
+-- bytes do not hold it has the largest that they do.
 unfoldable pub record_head : ℕ → ℕ → Handed → List ℕ
 record_head channel handle d =
     to_be_bytes w16 channel ++ to_be_bytes w32 handle ++ to_be_bytes w32 d.delivery_id ++ to_be_bytes w32 d.message_format ++ to_be_bytes w32 (min (length d.message) (2 ^ 32 - 1))
@@ -151,7 +151,7 @@ moved steps = flat_map (λ x. moved_by x.answer) steps
 abbrev pub recorded : List Step → List ℕ
 recorded steps = flat_map (λ x. recorded_by x.call x.answer) steps
 
--- From one stand to another these bytes were fed; what was moved out stands behind what the writer held, and the records behind what the sink held.
+-- From one stand to another these bytes were fed. What was moved out follows what the writer held, and the records follow what the sink held.
 pub record Served (p : Rule) (a b : Stand) (bytes : List ℕ) (old new : EndpointState) (held now kept keeps : Option (List ℕ)) : Type 0 where
   pub steps : List Step
   pub serves : Serves p a old steps b new
@@ -159,7 +159,7 @@ pub record Served (p : Rule) (a b : Stand) (bytes : List ℕ) (old new : Endpoin
   pub written : Appends held now (moved steps)
   pub recorded : Appends kept keeps (recorded steps)
 
--- All that was taken is recorded but for the message of the last call, a take, whose record is begun.
+-- All that was taken is recorded, except the message of the last call, a take, whose record is begun.
 pub record IsLastRecordBegun (steps : List Step) (noted : List ℕ) : Type 0 where
   pub before : List Step
   pub channel : ℕ
@@ -169,15 +169,16 @@ pub record IsLastRecordBegun (steps : List Step) (noted : List ℕ) : Type 0 whe
   pub part : List ℕ
   pub all : noted ≡ recorded before ++ part
 
--- Where serving breaks off. At Read and NoMemory no call is owed but what the reader, or the memory, would have led to. All that was taken is recorded, but at Sink perhaps the message of the last call.
+-- Where serving breaks off: at Read when the next piece is due, at NoMemory when memory was refused. All that was taken is recorded, except perhaps, at Sink, the message
+-- of the last call.
 abbrev pub IsLeft : ServeFault → Stand → List Step → List ℕ → List ℕ → Type 0
 IsLeft fault.Read stand steps noted unnoted = (stand ≡ reading) × (unnoted ≡ [])
 IsLeft fault.Write stand steps noted unnoted = unnoted ≡ []
 IsLeft fault.Sink stand steps noted unnoted = (unnoted ≡ []) ⊎ IsLastRecordBegun steps noted
 IsLeft fault.NoMemory stand steps noted unnoted = (stand ≡ Starved) × (unnoted ≡ [])
 
--- Serving broke off with this fault: these bytes were fed, all that was moved out was written, and a beginning of the records was recorded. A reader that failed may have put something into the room of the
--- endpoint's buffer, where it says nothing.
+-- Serving broke off with this fault. These bytes were fed, all that was moved out was written, and a beginning of the records was recorded. A reader that failed may have
+-- put something into the room of the endpoint's buffer, where it does not count.
 pub record BrokeOff (p : Rule) (e : ServeFault) (a : Stand) (bytes : List ℕ) (old new : EndpointState) (held now kept keeps : Option (List ℕ)) : Type 0 where
   pub stand : Stand
   pub steps : List Step
@@ -198,7 +199,7 @@ pub record HasRead (p : Rule) (old new : EndpointState) (input left held now kep
   pub read : Consumes input left bytes
   pub served : Served p reading reading bytes old new held now kept keeps
 
--- They were read, and serving broke off with this fault.
+-- Some bytes were read, and serving broke off with this fault.
 abbrev pub HasBroken : Rule → ServeFault → EndpointState → EndpointState → Option (List ℕ) → Option (List ℕ) → Option (List ℕ) → Option (List ℕ) → Option (List ℕ) → Option (List ℕ) → Type 0
 HasBroken p e old new input left held now kept keeps = (bytes : List ℕ) × Consumes input left bytes × BrokeOff p e reading bytes old new held now kept keeps
 
@@ -218,7 +219,7 @@ pub record IsStarved (s : EndpointState) : Type 0 where
 abbrev pub HasAllTaken : ConnectionState → Type 0
 HasAllTaken s = (channel handle : ℕ) → slot_ready (link_at s channel handle) ≡ 0
 
--- these were served with no piece fed
+-- serving went on with no piece fed
 pub record Works (p : Rule) (a b : Stand) (old new : EndpointState) (held now kept keeps : Option (List ℕ)) : Type 0 where
   pub served : Served p a b [] old new held now kept keeps
   pub input : IsUnchanged old.input new.input

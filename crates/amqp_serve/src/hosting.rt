@@ -12,8 +12,9 @@ use std::alloc::{Allocator, Global};
 use std::io::Write;
 use std::marker::Model;
 
-/// Serves one connection, a step at a time, whose bytes its host brings. Between two steps all answers have gone to the writer.
-/// Once a writer or a sink failed, an answer may be owed: from then on each step is refused with that fault.
+/// Serves one connection step by step, with the bytes that its host brings. Between two steps all answers have
+/// gone to the writer. Once a writer or a sink has failed, an answer may be missing: from then on each step is
+/// refused with that fault.
 #[derive(Drop)]
 pub struct Server<A: Allocator + Copy = Global> {
     endpoint: Endpoint<A>,
@@ -32,7 +33,8 @@ impl<A: Allocator + Copy> Model for Server<A> {
 }
 
 impl<A: Allocator + Copy> Server<A> {
-    /// Serves an endpoint of which no answer waits, as a new one, by a rule.
+    /// Makes a server that serves `endpoint` by `rule`. No answer may wait in the endpoint; in a new one none
+    /// does.
     pub fn new(endpoint: Endpoint<A>, rule: Rule) -> Self
         requires { endpoint.unsent ≡ [] }
         ensures endpoint { result.endpoint ≡ endpoint }
@@ -49,7 +51,13 @@ impl<A: Allocator + Copy> Server<A> {
         }
     }
 
-    /// Serves a piece of what the peer sent, up to the end of a unit, as [`serve_piece`] does.
+    /// Serves a piece of what the peer sent, up to the end of one unit. The unit is acted upon, and what follows
+    /// is done, as [`serve_piece`] says. The rest of the piece is for the next step.
+    ///
+    /// # Errors
+    ///
+    /// `Write`, `Sink` and `NoMemory`, each when [`serve_piece`] returns it. After `Write` or `Sink` each step is
+    /// refused with that fault: it uses no byte and changes nothing.
     #[tactic(auto, using(crate::proofs::Stepping::rests))]
     pub fn step<W: Write + HoldsBack + Drop, S: Write + Drop>(
         &mut self,
@@ -77,7 +85,8 @@ impl<A: Allocator + Copy> Server<A> {
         stepped
     }
 
-    /// The input has ended. Answers how the connection stood, as [`Endpoint::finish`] does, which is over then.
+    /// Ends the input, and returns how the connection stood, as [`Endpoint::finish`] does. The connection is over
+    /// then.
     pub fn finish(&mut self) -> End
         ensures end { result ≡ end_of self.old.endpoint }
         ensures finished { IsFinished self.old.endpoint self.new.endpoint }
@@ -88,7 +97,7 @@ impl<A: Allocator + Copy> Server<A> {
         self.endpoint.finish()
     }
 
-    /// The endpoint that it serves.
+    /// Returns the endpoint that it serves.
     pub fn endpoint(&self) -> &Endpoint<A>
         ensures { result.now ≡ self.now.endpoint }
     {
@@ -96,7 +105,7 @@ impl<A: Allocator + Copy> Server<A> {
     }
 }
 
-/// The end that a step lost.
+/// Returns the fault of a step at which the writer or the sink failed.
 fn lost_by(done: Result<Done, ServeFault>) -> Option<ServeFault>
     ensures { result ≡ lost_by done }
 {

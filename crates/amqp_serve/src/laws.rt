@@ -17,22 +17,23 @@ ghost use Rattle.amqp_serve.specs.declared.serving.Policy.{Policy};
 
 use amqp_endpoint::laws::runs_have_a_history;
 
-/// By a policy a link lacks all that it is short of the policy's credit, within what it is allowed beside its credit and its
-/// open deliveries [2.6.7].
+/// By a policy a link lacks what its credit is short of the policy's, within what it is allowed less its credit
+/// and its open deliveries [2.6.7].
 #[tactic(auto, using(crate::proofs::Policies::policy_lacks))]
 pub fn a_policy_keeps_each_link_at_its_credit()
     ensures { (p : Policy) (l : LiveLink) → credit_lack (rule_of p) (Live l) ≡ min (p.credit - l.link.credit) (l.link.terms.bounds.allowed - l.link.credit - open_count l.link) }
 {}
 
-/// What is served is a run: each call stands in it with its answer.
+/// What is served is a run of the endpoint: the calls are in their ranges, and each is in the run with its answer.
 #[tactic(auto, using(crate::proofs::Servings::run_of, crate::proofs::Servings::ranges_of))]
 pub fn serving_is_a_run()
     ensures range { (p : Policy) (a b : Stand) (s t : EndpointState) (steps : List Step) → Serves p a s steps b t → AreInRange (calls_of steps) }
     ensures run { (p : Policy) (a b : Stand) (s t : EndpointState) (steps : List Step) → Serves p a s steps b t → Run s (calls_of steps) (answers_of steps) t }
 {}
 
-/// What is served by a new endpoint has a history, as every run has: what it holds is bounded, what it told are the
-/// events of its units, and what it recorded are the first of each link's whole deliveries [2.2 to 2.7].
+/// What is served by a new endpoint has a history, as every run has. The bytes held are bounded, the events
+/// reported are those of its units, and the messages handed up are the first of each link's whole deliveries [2.2
+/// to 2.7].
 pub fn what_is_served_has_a_history()
     ensures { (p : Policy) (a b : Stand) (config : Configured) (s t : EndpointState) (steps : List Step) → IsConfigured config.container_id config.max_frame config.window → IsStart config s → Serves p a s steps b t → IsWholeRun config (calls_of steps) (answers_of steps) t }
 {
@@ -46,23 +47,24 @@ pub fn records_are_what_was_handed_up()
     ensures { (steps : List Step) → recorded steps ≡ flat_map (λ m. record_of m.0 m.1 m.2) (flat_map message_in (heard (calls_of steps) (answers_of steps))) }
 {}
 
-/// A new endpoint that was served to its end wrote and recorded what the units of the bytes make, served one by one,
-/// and ended so. Where its reader cut the bytes does not count.
+/// If a new endpoint was served to its end, what was written and recorded, and the end, are what the units of the
+/// bytes make, served one by one. Where the reader cut the bytes does not matter.
 pub fn serving_follows_the_units()
     ensures { (p : Policy) (config : Configured) (end : End) (bytes : List ℕ) (ended : Bool) (old new : EndpointState) (held now kept keeps : Option (List ℕ)) → IsStart config old → (x : IsServed p end bytes ended old new held now kept keeps) → IsMade p config bytes (record { connection = x.before.connection; written = moved x.steps; recorded = recorded x.steps }) end }
 {}
 
-/// So they are a function of the bytes: over the same bytes, by the same policy, two new endpoints that were served to
-/// their end wrote the same bytes, recorded the same, and ended alike, however their readers cut the bytes.
+/// What is written and recorded, and the end, are a function of the bytes. Two new endpoints that were served to
+/// their end over the same bytes, by the same policy and configuration, wrote and recorded the same, and ended
+/// alike. How their readers cut the bytes does not matter.
 pub fn serving_ignores_cuts()
     ensures { (p : Policy) (config : Configured) (bytes : List ℕ) (end end2 : End) (ended ended2 : Bool) (old old2 new new2 : EndpointState) (held held2 now now2 kept kept2 keeps keeps2 : Option (List ℕ)) → IsConfigured config.container_id config.max_frame config.window → IsStart config old → IsStart config old2 → (x : IsServed p end bytes ended old new held now kept keeps) → (y : IsServed p end2 bytes ended2 old2 new2 held2 now2 kept2 keeps2) → (end ≡ end2) × (moved x.steps ≡ moved y.steps) × (recorded x.steps ≡ recorded y.steps) × AreAlike held now held2 now2 × AreAlike kept keeps kept2 keeps2 }
 {
     serving_follows_the_units();
 }
 
-/// At any moment before its end, as where it breaks off, serving has moved out a beginning of what is written once the
-/// bytes go on and are served to their end, and recorded a beginning of what is recorded then: of what the units of
-/// these bytes make, whether another server comes to their end or not.
+/// At any moment before its end, also where it breaks off, serving has moved out and recorded a beginning of what
+/// longer bytes make. `made` says so of what the units of these bytes make, and `same` of another new endpoint
+/// that was served to their end.
 pub fn serving_begins_the_same()
     ensures made { (p : Policy) (config : Configured) (end : End) (bytes unfed : List ℕ) (old now : EndpointState) (stand : Stand) (steps : List Step) (made : Made) → IsConfigured config.container_id config.max_frame config.window → IsStart config old → Serves p reading old steps stand now → (stand ≡ Over → ⊥) → bytes ≡ fed steps ++ unfed → IsMade p config bytes made end → IsFront (moved steps) made.written × IsFront (recorded steps) made.recorded }
     ensures same { (p : Policy) (config : Configured) (end : End) (bytes unfed : List ℕ) (ended : Bool) (old old2 now new : EndpointState) (stand : Stand) (steps : List Step) (held has kept keeps : Option (List ℕ)) → IsConfigured config.container_id config.max_frame config.window → IsStart config old → IsStart config old2 → Serves p reading old steps stand now → (stand ≡ Over → ⊥) → bytes ≡ fed steps ++ unfed → (y : IsServed p end bytes ended old2 new held has kept keeps) → IsFront (moved steps) (moved y.steps) × IsFront (recorded steps) (recorded y.steps) }
@@ -70,31 +72,36 @@ pub fn serving_begins_the_same()
     serving_follows_the_units();
 }
 
-/// What is served one behind another is served at once: so any list of steps is one run of the rule over the joined bytes.
+/// What is served in two parts, one after the other, is served at once. So any list of steps is one run of the
+/// rule over the joined bytes.
 #[tactic(auto, using(crate::proofs::Servings::served_on))]
 pub fn steps_are_one_run()
     ensures { (r : Rule) (a b c : Stand) (bytes more : List ℕ) (old mid new : EndpointState) (held now last kept keeps lasts : Option (List ℕ)) → Served r a b bytes old mid held now kept keeps → Served r b c more mid new now last keeps lasts → Served r a c (bytes ++ more) old new held last kept lasts }
 {}
 
-/// And it is a function of these bytes: over the same bytes, by the same rule, two new endpoints of which no answer and no unit waits
-/// stand alike, and wrote and recorded the same, however the bytes were cut into steps.
+/// What steps result in is a function of their bytes. Take two new endpoints that were served the same bytes by
+/// the same rule, in which no answer and no unit waits. Their connections are equal, and they wrote and recorded
+/// the same, however the bytes were cut into steps.
 pub fn steps_ignore_cuts()
     ensures { (r : Rule) (config : Configured) (bytes : List ℕ) (old old2 new new2 : EndpointState) (held held2 now now2 kept kept2 keeps keeps2 : Option (List ℕ)) → IsConfigured config.container_id config.max_frame config.window → IsStart config old → IsStart config old2 → (x : Served r reading reading bytes old new held now kept keeps) → (y : Served r reading reading bytes old2 new2 held2 now2 kept2 keeps2) → new.unsent ≡ [] → new2.unsent ≡ [] → IsIdle new → IsIdle new2 → (new.connection ≡ new2.connection) × (moved x.steps ≡ moved y.steps) × (recorded x.steps ≡ recorded y.steps) }
 {}
 
-/// No message is ready in a new endpoint. Serving one in which none is leaves none ready, but the one that it takes next.
+/// No message is ready in a new endpoint. If none is ready before serving, none is ready after it, unless it stops
+/// just before it takes one.
 #[tactic(auto, using(crate::proofs::AllTaken::start_taken, crate::proofs::AllTaken::leaves_taken))]
 pub fn serving_takes_what_is_ready()
     ensures start { (config : Configured) (s : EndpointState) → IsStart config s → HasAllTaken s.connection }
     ensures taken { (p : Policy) (b : Stand) (s t : EndpointState) (steps : List Step) → 8 ≤ s.input.limit → HasAllTaken s.connection → Serves p reading s steps b t → ((channel handle : ℕ) → b ≡ Receiving channel handle → ⊥) → HasAllTaken t.connection }
 {}
 
-/// Serving that broke off where memory was refused and went on from where it was left, as often as it did so, is one run over
-/// all bytes that were read, as if memory had been ample: what was written and recorded is what that run moved out and
-/// recorded, and it ends so. (That the buffer of every endpoint has room for eight bytes `holds_a_header` says.) So two new
-/// endpoints that were served to their end over the same bytes wrote and recorded the same and ended alike, whether or not
-/// memory was refused on the way, and at any moment before its end such serving has moved out and recorded a beginning of it.
-/// The calls that were made, those with the refused feeds, are a run of the endpoint too.
+/// Serving that broke off as memory was refused and then went on, any number of times, is one run over all bytes
+/// that were read, as if memory had been ample. What was written and recorded is what that run moved out and
+/// recorded, and it ends so. (`holds_a_header` says that the buffer of every endpoint has room for eight bytes.)
+///
+/// Take two new endpoints that were served to their end over the same bytes. They wrote and recorded the same and
+/// ended alike, even if memory was refused to one of them on the way. At any moment before its end such serving
+/// has moved out and recorded a beginning of it. The calls that were made, with the refused feeds, are a run of
+/// the endpoint too.
 pub fn refusals_leave_no_trace()
     ensures served { (p : Policy) (end : End) (more : List ℕ) (ended : Bool) (old mid new : EndpointState) (held now last kept keeps lasts : Option (List ℕ)) (steps : List Step) → 8 ≤ old.input.limit → Interrupted p old held kept steps mid now keeps → (y : IsServed p end more ended mid new now last keeps lasts) → (z : IsServed p end (fed steps ++ more) ended old new held last kept lasts) × (moved z.steps ≡ moved (steps ++ y.steps)) × (recorded z.steps ≡ recorded (steps ++ y.steps)) }
     ensures same { (p : Policy) (config : Configured) (more : List ℕ) (end end2 : End) (ended ended2 : Bool) (old mid new old2 new2 : EndpointState) (held now last kept keeps lasts held2 now2 kept2 keeps2 : Option (List ℕ)) (steps : List Step) → IsConfigured config.container_id config.max_frame config.window → IsStart config old → IsStart config old2 → Interrupted p old held kept steps mid now keeps → (y : IsServed p end more ended mid new now last keeps lasts) → (z : IsServed p end2 (fed steps ++ more) ended2 old2 new2 held2 now2 kept2 keeps2) → (end ≡ end2) × (moved (steps ++ y.steps) ≡ moved z.steps) × (recorded (steps ++ y.steps) ≡ recorded z.steps) × AreAlike held last held2 now2 × AreAlike kept lasts kept2 keeps2 }

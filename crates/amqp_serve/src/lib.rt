@@ -1,9 +1,12 @@
-//! One connection after another, served with an endpoint over a reader, a writer and a sink.
+//! Serves a connection: runs an endpoint over a reader, a writer and a sink.
 //!
-//! [`serve`] reads what a peer sends into an [`amqp_endpoint::Endpoint`], takes each message, writes its record to
-//! the sink and settles it by a [`Policy`], tops up windows and credit, and writes what the endpoint answers. It stands on
-//! the endpoint's public contracts alone, as any application does. `specs/Serving.antt` has what it does step by step, and
-//! `specs/Cuts.antt` what a stream comes to that is served unit by unit. The tests stand in `test_layer_rows` and `test_endpoint`.
+//! [`serve`] reads what a peer sends into an [`amqp_endpoint::Endpoint`]. It takes each message, writes its record
+//! to the sink and settles it by a [`Policy`]. It tops up windows and credit, and writes the endpoint's answers.
+//! [`Server`] does so step by step, for a host with a loop of its own. Both use the endpoint's public contracts
+//! alone, as any application does.
+//!
+//! Begin reading at [`serve`]. `specs/Serving.antt` defines what it does step by step, and `specs/Cuts.antt` what
+//! serving a stream unit by unit results in. The tests are in `test_layer_rows` and `test_endpoint`.
 #![tactic(auto)]
 
 mod hosting;

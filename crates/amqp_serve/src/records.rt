@@ -11,7 +11,8 @@ use amqp_link::{Message, Taken};
 use std::alloc::Allocator;
 use std::io::Write;
 
-/// Writes the record of a message: its head, and the message.
+/// Writes the record of a message: its head, and the message. If the sink fails it returns `Sink`,
+/// and the sink has a beginning of the record.
 pub fn write_record<A: Allocator + Copy, S: Write + Drop>(
     sink: &mut Device<S>,
     channel: u16,
@@ -34,7 +35,7 @@ pub fn write_record<A: Allocator + Copy, S: Write + Drop>(
     }
 }
 
-/// The bytes of a message that lies in one piece.
+/// Returns the bytes of a message if they lie in one piece.
 // Written at once: 2.4 in 100 of `telemetry` (docs/PERF.md).
 fn in_one_piece<A: Allocator + Copy>(message: &Message<A>) -> Option<&[u8]>
     ensures { IfSome result (λ bytes. bytes.now ≡ message.now) }
@@ -47,7 +48,8 @@ fn in_one_piece<A: Allocator + Copy>(message: &Message<A>) -> Option<&[u8]>
     }
 }
 
-/// Writes all of some bytes.
+/// Writes all of the bytes to the sink. If the sink fails it returns `Sink`, and the sink has a
+/// beginning of them.
 fn put_out<S: Write + Drop>(sink: &mut Device<S>, bytes: &[u8]) -> Result<(), ServeFault>
     requires { ¬ (IsTrue (has_failed sink.old)) }
     ensures fault { OnErr result (result ≡ Err ServeFault.Sink) }
@@ -61,7 +63,7 @@ fn put_out<S: Write + Drop>(sink: &mut Device<S>, bytes: &[u8]) -> Result<(), Se
     }
 }
 
-/// The record of a message but for the message.
+/// Returns the head of a record: the record without its message.
 #[tactic(auto, unfolding(crate::specs::Serving::record_head))]
 fn head_of<A: Allocator + Copy>(channel: u16, handle: u32, taken: &Taken<A>) -> [u8; 18]
     ensures { result ≡ record_head channel handle (handed_in taken.now) }
@@ -76,14 +78,15 @@ fn head_of<A: Allocator + Copy>(channel: u16, handle: u32, taken: &Taken<A>) -> 
     head
 }
 
-/// How long a record says that its message is.
+/// Returns the length that a record gives for its message, in bytes: `u32::MAX` if the message is
+/// longer.
 pub fn recorded_len<A: Allocator + Copy>(message: &Message<A>) -> u32
     ensures { result ≡ min (length message.now) (2 ^ 32 - 1) }
 {
     u32::try_from(message.len()).unwrap_or(u32::MAX)
 }
 
-/// Puts the bytes at their place.
+/// Copies the bytes into `out`, from `at` on.
 fn put(out: &mut [u8], at: usize, bytes: &[u8])
     requires { at + length bytes.now ≤ length out.old }
     ensures length { length out.new ≡ length out.old }

@@ -10,14 +10,15 @@ use amqp_perform::Outcome;
 pub struct Rule {
     /// The credit that a link is topped up to, within what it is allowed.
     pub credit: u32,
-    /// A link is topped up where its credit is at most that. One that is allowed no more is topped up behind each message.
+    /// A link is topped up if its credit is at most this. If a link is allowed no more than this, it is topped up
+    /// after each message.
     pub mark: u32,
-    /// What becomes of each message that its sender has not settled.
+    /// The outcome of each message that its sender has not settled.
     pub outcome: Outcome,
 }
 
 impl Rule {
-    /// That of a policy: its mark is one below the credit.
+    /// Returns the rule of a policy: its mark is one below the credit, or 0 if that is 0.
     pub fn of(policy: Policy) -> Rule
         ensures { result ≡ rule_of policy }
     {

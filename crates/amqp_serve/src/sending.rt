@@ -1,4 +1,4 @@
-//! What is written to the peer, what is flushed before it, and the one read.
+//! Writing to the peer, the flushes before it, and the one read.
 ghost use Rattle.std.specs.Prelude.{◌≡◌, ◌≢◌, ◌↔◌, ◌≤◌, ◌⊎◌, ◌<◌, [], length, take, true, false, Err, Ok, IsErr, IsTrue, IfOk, OnErr, OnOk, IfErr};
 ghost use Rattle.std.specs.Io.KnownBytes.{Appends, Consumes, Keeps};
 ghost use Rattle.amqp_frame.specs.Devices.{device_inner, has_failed, device_hand, has_ended, is_flushed, reads_ahead};
@@ -14,8 +14,9 @@ use amqp_frame::{AtHand, Device, HoldsBack};
 use std::alloc::Allocator;
 use std::io::{Read, Write};
 
-/// Reads into the endpoint's room. It may wait for the peer, so that it needs that all answers have gone out, and the records
-/// before them.
+/// Reads into the endpoint's room, and returns how many bytes came. The read may wait for the peer, so all answers
+/// must have gone out before it, and the records before them. If the reader fails it returns `Read`, and nothing
+/// was read.
 pub fn read_in<A: Allocator + Copy, R: Read + Drop, W: Write + Drop, S: Write + Drop>(
     endpoint: &mut Endpoint<A>,
     reader: &mut Device<R>,
@@ -41,8 +42,9 @@ pub fn read_in<A: Allocator + Copy, R: Read + Drop, W: Write + Drop, S: Write + 
     }
 }
 
-/// Lets the reader fill what it has at hand, which is empty, where the endpoint stands between two units. It may wait for the
-/// peer, so that it needs what [`read_in`] needs. Answers whether the reader was asked, so that it has some at hand or has ended.
+/// Lets the reader fill what it has at hand, if the endpoint is between two units. The reader may wait for the
+/// peer, so [`read_in`]'s conditions hold here too. Returns whether the reader was asked: it then has bytes at
+/// hand, or has ended.
 pub fn fill_hand<A: Allocator + Copy, R: AtHand + Drop, W: Write + Drop, S: Write + Drop>(
     endpoint: &Endpoint<A>,
     reader: &mut Device<R>,
@@ -71,6 +73,7 @@ pub fn fill_hand<A: Allocator + Copy, R: AtHand + Drop, W: Write + Drop, S: Writ
 }
 
 /// Flushes the records, and then the answers to them, so that no peer hears of a message that is not recorded.
+/// Returns `Sink` if the sink fails, which leaves the writer unchanged, and `Write` if the writer fails.
 pub fn flush_both<W: Write + Drop, S: Write + Drop>(
     writer: &mut Device<W>,
     sink: &mut Device<S>,
@@ -94,7 +97,7 @@ pub fn flush_both<W: Write + Drop, S: Write + Drop>(
     flush_answers(writer, sink)
 }
 
-/// Flushes what the writer keeps to itself, which answers to records: they must be flushed.
+/// Flushes the answers that the writer holds back. The records that they answer must be flushed.
 fn flush_answers<W: Write + Drop, S: Write + Drop>(
     writer: &mut Device<W>,
     sink: &Device<S>,
@@ -112,7 +115,7 @@ fn flush_answers<W: Write + Drop, S: Write + Drop>(
     }
 }
 
-/// Writes all that waits to be sent. Before a write that the writer passes on, the records are flushed.
+/// Writes all that waits to be sent. The records are flushed before a write that the writer may pass on.
 // For `telemetry` and `gateway` (docs/PERF.md).
 #[inline(always)]
 pub fn write_out<A: Allocator + Copy, W: Write + HoldsBack + Drop, S: Write + Drop>(
@@ -135,7 +138,7 @@ pub fn write_out<A: Allocator + Copy, W: Write + HoldsBack + Drop, S: Write + Dr
     Ok(())
 }
 
-/// Flushes the records, unless the writer keeps so many more bytes to itself.
+/// Flushes the records, unless the writer can hold back `count` more bytes.
 fn record_first<W: Write + HoldsBack + Drop, S: Write + Drop>(
     count: usize,
     writer: &Device<W>,
@@ -156,7 +159,8 @@ fn record_first<W: Write + HoldsBack + Drop, S: Write + Drop>(
     }
 }
 
-/// Hands bytes to the writer, which must keep them to itself, or the records be flushed. Answers how many it took.
+/// Passes bytes to the writer, and returns how many it took. Either the writer has room to hold them back, or the
+/// records must be flushed.
 fn hand_over<W: Write + HoldsBack + Drop, S: Write + Drop>(
     piece: &[u8],
     writer: &mut Device<W>,

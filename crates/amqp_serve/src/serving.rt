@@ -1,4 +1,4 @@
-//! A whole connection, over a reader, a writer and a sink.
+//! Serving a whole connection, over a reader, a writer and a sink.
 ghost use Rattle.std.specs.Prelude.{◌≡◌, ◌↔◌, ◌<◌, [], ℕ, List, true, false, length, Err, IsTrue, OnOk, IfOk, IfErr};
 ghost use Rattle.std.specs.Io.KnownBytes.{Consumes};
 ghost use Rattle.amqp_frame.specs.Devices.{device_inner, device_hand, has_failed, has_ended, is_flushed, reads_ahead};
@@ -20,12 +20,12 @@ use std::alloc::Allocator;
 use std::io::Write;
 use thiserror::Error;
 
-/// What is done with each message.
+/// What is done with each message, and what credit a link gets.
 #[derive(Clone, Copy, Debug)]
 pub struct Policy {
-    /// The credit that each link is kept at, from 1 to what it is allowed.
+    /// The credit that each link is topped up to, within what it is allowed. At 0 no link gets credit.
     pub credit: u32,
-    /// What becomes of each message that its sender has not settled.
+    /// The outcome of each message that its sender has not settled.
     pub outcome: Settlement,
 }
 
@@ -46,33 +46,40 @@ pub enum ServeFault {
     NoMemory,
 }
 
-/// Serves an endpoint, a new one or one that `NoMemory` left: feeds it what the reader has at hand. Where that is nothing, and no
-/// byte of a unit waits, the reader may fill what it has at hand; else it is asked to read into the endpoint's buffer what is due
-/// next, no byte beyond the unit. What is to be sent is written before each of these, and before each call that writes. A message
-/// that is ready is taken, its record goes to the sink, and it is settled unless its sender settled it. After each feed windows and
-/// credit are topped up: a session whose window is at most half of its opening places is widened to them, and a link is granted up
-/// to the policy's credit, within what it is allowed. It stops when the connection is over or the reader has ended, and answers how
-/// the connection stood then. Where a unit waits at first, it is acted upon before anything is read.
+/// Serves an endpoint until its connection is over or the reader has ended, and returns how the connection stood
+/// then. The endpoint may be new, or one that `NoMemory` left.
 ///
-/// The writer and the sink may buffer. The sink is flushed, and then the writer, before each read, and at the end: so no peer
-/// waits for an answer that stands in a buffer while this side waits for
-/// the peer. The sink is flushed too before a write that the writer doesn't hold back: so no answer leaves before the record
-/// that it answers. No clause says this of a whole run; the calls that read and write
-/// require it. Of a writer that holds back less
-/// than it says an answer may leave first. Nothing else that is promised here changes for it.
+/// It feeds the endpoint what the reader has at hand. If that is nothing and no byte of a unit waits, the reader
+/// may fill what it has at hand. Otherwise it reads into the endpoint's buffer what is due next, and no byte
+/// beyond the unit. What is to be sent is written before each of these, and before each call that writes. A unit
+/// that waits at entry is acted upon before anything is read.
 ///
-/// A record is the channel (2 bytes), the handle, the delivery-id, the message-format and the message's length (4 bytes
-/// each), big-endian, and the message.
+/// A message that is ready is taken, its record goes to the sink, and it is settled unless its sender settled it.
+/// After each feed windows and credit are topped up. A session whose window is at most half of its opening places
+/// is widened to them. A link is granted up to the policy's credit, within what it is allowed.
+///
+/// The writer and the sink may buffer. The sink is flushed, and then the writer, before each read and at the end.
+/// So no peer waits for an answer that is in a buffer while this side waits for the peer. The sink is also flushed
+/// before a write that the writer doesn't hold back. So no answer leaves before the record that it answers. No
+/// clause says this of a whole run; the calls that read and write require it. If a writer holds back less than it
+/// says, an answer may leave first. Nothing else that is promised here changes then.
+///
+/// A record is the channel (2 bytes), the handle, the delivery-id, the message-format and the message's length (4
+/// bytes each), big-endian, and the message.
 ///
 /// # Errors
 ///
-/// `Read`, `Write` and `Sink` where that device has failed; of two that failed the sink is named, and else the writer.
-/// `NoMemory` at the first unit that wants memory and is refused it, also one that waits at entry, unless the flush behind it
-/// fails: the unit waits in the endpoint, and nothing that was read is lost, so that another call goes on from there as if
-/// memory had been ample (`refusals_leave_no_trace`). What was written until then begins what would be written, and what was
-/// recorded what would be recorded; at `Read` and `NoMemory` it is all of it. At each error but `Sink` what was recorded is
-/// flushed, and then what was written, as far as these devices let it. Behind `Sink` the writer may hold back answers whose
-/// records were lost: its bytes are to be thrown away.
+/// `Read`, `Write` and `Sink` if that device has failed. If more than one failed, the sink is named before the
+/// writer, and the writer before the reader.
+///
+/// `NoMemory` at the first unit that wants memory and is refused it, also one that waits at entry, unless the
+/// flush after it fails. The unit waits in the endpoint, and nothing that was read is lost. So another call goes
+/// on from there as if memory had been ample (`refusals_leave_no_trace`).
+///
+/// At an error, what was written so far begins what would be written, and what was recorded begins what would be
+/// recorded. At `Read` and `NoMemory` nothing of it is missing so far. At each error but `Sink` the records are
+/// flushed, and then the answers, as far as these devices let it. After `Sink` the writer may hold back answers
+/// whose records were lost: throw its bytes away.
 pub fn serve<A: Allocator + Copy, R: AtHand + Drop, W: Write + HoldsBack + Drop, S: Write + Drop>(
     endpoint: &mut Endpoint<A>,
     reader: &mut Device<R>,
@@ -84,7 +91,7 @@ pub fn serve<A: Allocator + Copy, R: AtHand + Drop, W: Write + HoldsBack + Drop,
     requires writer { ¬ (IsTrue (has_failed writer.old)) }
     requires sink { ¬ (IsTrue (has_failed sink.old)) }
 
-    // A sink that failed is named before a writer, and that before a reader.
+    // A failed sink is named before a failed writer, and that before a failed reader.
     ensures sink { (result ≡ Err ServeFault.Sink) ↔ IsTrue (has_failed sink.new) }
     ensures write { (result ≡ Err ServeFault.Write) ↔ (IsTrue (has_failed writer.new) × ¬ (IsTrue (has_failed sink.new))) }
     ensures read { (result ≡ Err ServeFault.Read) ↔ (IsTrue (has_failed reader.new) × ¬ (IsTrue (has_failed writer.new)) × ¬ (IsTrue (has_failed sink.new))) }
@@ -92,7 +99,8 @@ pub fn serve<A: Allocator + Copy, R: AtHand + Drop, W: Write + HoldsBack + Drop,
     // Nothing waits to be written while it reads, and it reads only until the connection is over.
     ensures waited { result ≡ Err ServeFault.Read → (endpoint.new.unsent ≡ []) × (is_dead endpoint.new.connection.phase ≡ false) }
 
-    // Where memory was refused the unit that wants it waits in the endpoint, and no message is ready there, unless one was at entry.
+    // If memory was refused, the unit that wants it waits in the endpoint, and no message is ready there, unless
+    // one was at entry.
     ensures starved { result ≡ Err ServeFault.NoMemory → IsStarved endpoint.new }
     ensures taken { HasAllTaken endpoint.old.connection → result ≡ Err ServeFault.NoMemory → HasAllTaken endpoint.new.connection }
 
@@ -111,7 +119,12 @@ pub fn serve<A: Allocator + Copy, R: AtHand + Drop, W: Write + HoldsBack + Drop,
     serve_watched(endpoint, reader, writer, sink, policy, &mut Unwatched)
 }
 
-/// The same, where a watch is told of each step behind it, before the next one reads.
+/// Serves an endpoint until its connection is over or the reader has ended, and reports each step to a watch. A
+/// step is reported after it was made, before the next one reads. Everything else is as [`serve`] says.
+///
+/// # Errors
+///
+/// `Read`, `Write`, `Sink` and `NoMemory`, each when [`serve`] returns it. What is left then is the same too.
 pub fn serve_watched<
     A: Allocator + Copy,
     R: AtHand + Drop,
@@ -130,7 +143,7 @@ pub fn serve_watched<
     requires writer { ¬ (IsTrue (has_failed writer.old)) }
     requires sink { ¬ (IsTrue (has_failed sink.old)) }
 
-    // A sink that failed is named before a writer, and that before a reader.
+    // A failed sink is named before a failed writer, and that before a failed reader.
     ensures sink { (result ≡ Err ServeFault.Sink) ↔ IsTrue (has_failed sink.new) }
     ensures write { (result ≡ Err ServeFault.Write) ↔ (IsTrue (has_failed writer.new) × ¬ (IsTrue (has_failed sink.new))) }
     ensures read { (result ≡ Err ServeFault.Read) ↔ (IsTrue (has_failed reader.new) × ¬ (IsTrue (has_failed writer.new)) × ¬ (IsTrue (has_failed sink.new))) }
@@ -138,7 +151,8 @@ pub fn serve_watched<
     // Nothing waits to be written while it reads, and it reads only until the connection is over.
     ensures waited { result ≡ Err ServeFault.Read → (endpoint.new.unsent ≡ []) × (is_dead endpoint.new.connection.phase ≡ false) }
 
-    // Where memory was refused the unit that wants it waits in the endpoint, and no message is ready there, unless one was at entry.
+    // If memory was refused, the unit that wants it waits in the endpoint, and no message is ready there, unless
+    // one was at entry.
     ensures starved { result ≡ Err ServeFault.NoMemory → IsStarved endpoint.new }
     ensures taken { HasAllTaken endpoint.old.connection → result ≡ Err ServeFault.NoMemory → HasAllTaken endpoint.new.connection }
 
@@ -173,7 +187,7 @@ pub fn serve_watched<
     }
 }
 
-/// The same, without the flush behind a failure.
+/// Serves an endpoint until its connection is over or the reader has ended, without the flush after a failure.
 fn run<
     A: Allocator + Copy,
     R: AtHand + Drop,
@@ -215,7 +229,8 @@ fn run<
     Ok(endpoint.finish())
 }
 
-/// Makes a step with what the reader has at hand, which it may be asked for, or else with what it reads.
+/// Makes a step with what the reader has at hand. If that is nothing, the reader may fill it. If it doesn't, the
+/// step is made with what the reader reads.
 fn go_on<
     A: Allocator + Copy,
     R: AtHand + Drop,
@@ -258,7 +273,7 @@ fn go_on<
 }
 
 /// Makes a step with what the reader has at hand.
-// Else the answer of the step is copied: 72 instructions of a message.
+// Without it the answer of the step is copied: 72 instructions for each message.
 #[inline(always)]
 fn hand_on<
     A: Allocator + Copy,
@@ -291,7 +306,7 @@ fn hand_on<
     stepped.done
 }
 
-/// Makes a step with what it reads.
+/// Reads, and makes a step with what came.
 fn read_on<
     A: Allocator + Copy,
     R: AtHand + Drop,

@@ -21,34 +21,34 @@ use amqp_perform::Outcome as Settlement;
 use std::alloc::Allocator;
 use std::io::Write;
 
-/// By what a step goes: the rule, and what is known of the endpoint that it serves.
+/// What a step goes by: the rule, and what is known of the endpoint.
 #[derive(Clone, Copy, Debug)]
 pub struct Course {
     pub rule: Rule,
-    /// Whether it is known that no window and no link lacks anything. It need not be known.
+    /// Whether it is known that no window and no link lacks anything. `false` is always right.
     pub supplied: bool,
 }
 
-/// A message that was taken, and recorded, from the link that was told of.
+/// A message that was taken and recorded, from the link that the event named.
 #[derive(Clone, Copy, Debug, PartialEq, Eq)]
 pub struct Received {
     pub delivery_id: u32,
-    /// How long it is, as its record says it.
+    /// Its length in bytes, as its record gives it: `u32::MAX` if it is longer.
     pub len: u32,
 }
 
 /// What became of the message that was ready.
 #[derive(Clone, Copy, Debug, PartialEq, Eq)]
 pub enum Receipt {
-    /// None was.
+    /// No message was ready.
     Nothing,
-    /// It was not taken.
+    /// It was not taken: the call was refused.
     Refused(CallFault),
     /// It was taken and recorded, and its sender had settled it.
     Settled(Received),
-    /// It was taken and recorded, and its sender is told what became of it.
+    /// It was taken, recorded and settled.
     Told(Received),
-    /// It was taken and recorded, but its sender could not be told.
+    /// It was taken and recorded, but the call that settles it was refused.
     Untold(Received, CallFault),
 }
 
@@ -60,34 +60,35 @@ pub struct Done {
 }
 
 impl Done {
-    /// Nothing.
+    /// Nothing was done.
     pub const NOTHING: Done = Done {
         receipt: Receipt::Nothing,
         topped: Topped::NOTHING,
     };
 }
 
-/// What a step came to.
+/// The result of a step.
 #[derive(Clone, Copy, Debug, PartialEq, Eq)]
 pub struct Stepped {
-    /// How many bytes were taken: up to the end of one unit at most, and none once the connection is over.
+    /// How many bytes were used: up to the end of one unit at most, and none once the connection is over.
     pub used: usize,
-    /// What the bytes came to.
+    /// What feeding the bytes reported.
     pub told: Outcome,
     pub done: Result<Done, ServeFault>,
 }
 
-/// Serves a piece of what the peer sent: up to the end of a unit, which is acted upon. A message that is ready then is taken,
-/// its record goes to the sink, and it is settled unless its sender settled it; what lacks something by the rule is topped up.
-/// All answers have gone to the writer, and the record to the sink, when it returns. It flushes neither, but the sink before a
-/// write that the writer doesn't hold back. The rest of the piece is for the next step. So any list of steps is one run of the
-/// rule, and comes to the same however the bytes are cut into pieces.
+/// Serves a piece of what the peer sent, up to the end of one unit, which is acted upon. A message that is ready
+/// then is taken, its record goes to the sink, and it is settled unless its sender settled it. What lacks
+/// something by the rule is topped up. When the call returns without an error, all answers have gone to the writer
+/// and the record to the sink. It flushes neither, except the sink before a write that the writer doesn't hold
+/// back. The rest of the piece is for the next step. So any list of steps is one run of the rule, with the same
+/// result however the bytes are cut into pieces.
 ///
 /// # Errors
 ///
-/// `Write` and `Sink` where that device has failed: an answer may be owed then, and the endpoint is not to be served on.
-/// `NoMemory` where memory for the unit is refused: it waits in the endpoint, nothing else has changed, and the next step, also
-/// one of no bytes, tries it again. `Read` never.
+/// `Write` and `Sink` if that device has failed. An answer may then be missing, and the endpoint is not to be
+/// served on. `NoMemory` if memory for the unit is refused. The unit waits in the endpoint, and nothing else has
+/// changed. The next step, also one of no bytes, tries it again. `Read` never comes.
 // For the same reason as `hand_on`.
 #[inline(always)]
 pub fn serve_piece<A: Allocator + Copy, W: Write + HoldsBack + Drop, S: Write + Drop>(
@@ -119,7 +120,8 @@ pub fn serve_piece<A: Allocator + Copy, W: Write + HoldsBack + Drop, S: Write + 
     }
 }
 
-/// Serves the `n` bytes that were read into the room that the endpoint lends, as [`serve_piece`] does with a piece of them.
+/// Serves the `n` bytes that were read into the room that the endpoint lends. It uses all of them. What it does
+/// with them, and each error, is as [`serve_piece`] says.
 pub fn serve_read<A: Allocator + Copy, W: Write + HoldsBack + Drop, S: Write + Drop>(
     endpoint: &mut Endpoint<A>,
     course: &mut Course,
@@ -135,7 +137,7 @@ pub fn serve_read<A: Allocator + Copy, W: Write + HoldsBack + Drop, S: Write + D
     ensures rule { course.new.rule ≡ course.old.rule }
     ensures course { IsRight course.new endpoint.new.connection }
 
-    // It is so from before they were read, since what stands in that room says nothing.
+    // It holds from the state before they were read too, since what is in that room doesn't count.
     ensures stepped { (s : EndpointState) → IsKept s endpoint.old → IsStepped course.old.rule (take n endpoint.old.input.spare) result.told result.done s endpoint.new
         (ends W.contents S.contents writer.old sink.old) (ends W.contents S.contents writer.new sink.new) }
 {
@@ -152,7 +154,8 @@ pub fn serve_read<A: Allocator + Copy, W: Write + HoldsBack + Drop, S: Write + D
     }
 }
 
-/// Does what follows from what a feed told. Where nothing was lacking before it, what may lack something then is named by that.
+/// Does what follows from a feed that reported `told`. If nothing lacked anything before the feed, `told` names
+/// what may lack something now.
 #[inline(always)]
 fn follow<A: Allocator + Copy, W: Write + HoldsBack + Drop, S: Write + Drop>(
     endpoint: &mut Endpoint<A>,
@@ -175,8 +178,8 @@ fn follow<A: Allocator + Copy, W: Write + HoldsBack + Drop, S: Write + Drop>(
     }
 }
 
-/// The same, which fills in what was done.
-// Filled in, since a large answer is copied with its gaps: 67 instructions of a message.
+/// Does what follows from a feed that reported `told`, and stores in `done` what was done.
+// Stored, since a large answer is copied with its gaps: 67 instructions for each message.
 fn follow_into<A: Allocator + Copy, W: Write + HoldsBack + Drop, S: Write + Drop>(
     endpoint: &mut Endpoint<A>,
     course: &mut Course,
@@ -213,8 +216,8 @@ fn follow_into<A: Allocator + Copy, W: Write + HoldsBack + Drop, S: Write + Drop
     Ok(())
 }
 
-/// Takes the message that is ready, if one is, writes its record, and settles it unless its sender did. Answers what may lack
-/// something behind it.
+/// Takes the message that is ready, if there is one, writes its record, and settles it unless its sender did.
+/// Returns what may lack something afterwards.
 #[tactic(auto, using(crate::proofs::Deeds::went_none, crate::proofs::Supplied::only_same))]
 #[inline(always)]
 fn receive<A: Allocator + Copy, W: Write + HoldsBack + Drop, S: Write + Drop>(
@@ -249,8 +252,8 @@ fn receive<A: Allocator + Copy, W: Write + HoldsBack + Drop, S: Write + Drop>(
     }
 }
 
-/// What may lack something behind what was told, where nothing lacked anything before it, if that is known. It is told whether
-/// no byte of a unit waits.
+/// Returns what may lack something after a feed that reported `told`. That is all, unless it is known (`supplied`)
+/// that nothing lacked anything before the feed. `between`: no byte of a unit waits.
 fn look_behind(supplied: bool, told: Outcome, between: bool) -> Look
     ensures { result ≡ look_behind supplied told between }
 {
@@ -317,7 +320,7 @@ fn record_and_settle<A: Allocator + Copy, W: Write + HoldsBack + Drop, S: Write 
 ) -> Result<(), ServeFault>
     requires ends { AreOpen (ends W.contents S.contents writer.old sink.old) }
 
-    // From before it was taken.
+    // From the state before it was taken.
     ensures only { (s : EndpointState) → CallDone s endpoint.old channel (Take handle) (HandedUp (handed_in taken.now))
         → OnOk result (IsOnlyAt rule.now (look.Link channel handle) s.connection endpoint.new.connection) }
     ensures went { (s : EndpointState) → CallDone s endpoint.old channel (Take handle) (HandedUp (handed_in taken.now))
@@ -338,7 +341,7 @@ fn record_and_settle<A: Allocator + Copy, W: Write + HoldsBack + Drop, S: Write 
     Ok(())
 }
 
-/// What became of a message that was to be settled.
+/// Returns the receipt of a message, by the answer to the call that settles it.
 fn receipt_of(message: Received, told: Result<(), CallFault>) -> Receipt
     ensures { result ≡ receipt_by message told }
 {
@@ -348,7 +351,7 @@ fn receipt_of(message: Received, told: Result<(), CallFault>) -> Receipt
     }
 }
 
-/// What is told of a message.
+/// Returns what is reported of a message.
 fn received_of<A: Allocator + Copy>(taken: &Taken<A>) -> Received
     ensures { result ≡ received_as (handed_in taken.now) }
 {

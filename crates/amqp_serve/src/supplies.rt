@@ -1,4 +1,4 @@
-//! What is topped up: the windows of sessions and the credit of links.
+//! Topping up: the windows of sessions and the credit of links.
 ghost use Rattle.std.specs.Prelude.{◌≡◌, ◌≢◌, ◌≤◌, ◌<◌, ◌↔◌, ◌++◌, ◌∷◌, [], ℕ, List, suc, OnOk, IfOk};
 ghost use Rattle.amqp_endpoint.specs.Connections.{channels, slot_at};
 ghost use Rattle.amqp_endpoint.specs.Endpoints.{accepted_by};
@@ -18,16 +18,16 @@ use amqp_frame::{Device, HoldsBack};
 use std::alloc::Allocator;
 use std::io::Write;
 
-/// What is topped up.
+/// Something that is topped up.
 #[derive(Clone, Copy, Debug, PartialEq, Eq)]
 pub enum Supply {
     /// The incoming window of the session on a channel [2.5.6].
     WindowOf { channel: u16 },
-    /// The credit of the link with a handle, of the session on a channel [2.6.7].
+    /// The credit of the link with a handle, in the session on a channel [2.6.7].
     CreditOf { channel: u16, handle: u32 },
 }
 
-/// What may lack something.
+/// Which supplies may lack something.
 #[derive(Clone, Copy, Debug, PartialEq, Eq)]
 pub enum Look {
     Nothing,
@@ -38,26 +38,26 @@ pub enum Look {
     All,
 }
 
-/// What was topped up. Each number stops at the highest that it holds.
+/// What was topped up. Each number stops at `u32::MAX`.
 #[derive(Clone, Copy, Debug, PartialEq, Eq)]
 pub struct Topped {
-    /// The places that windows were widened by.
+    /// By how many places windows were widened.
     pub widened: u32,
-    /// The credit that links were granted.
+    /// How much credit links were granted.
     pub granted: u32,
     /// How many windows and links were refused what they lacked.
     pub refused: u32,
 }
 
 impl Topped {
-    /// Nothing.
+    /// Nothing was topped up.
     pub const NOTHING: Topped = Topped {
         widened: 0,
         granted: 0,
         refused: 0,
     };
 
-    /// This, and then more.
+    /// Returns the sum of both.
     fn and(self, more: Topped) -> Topped
         ensures { result ≡ with_both self more }
     {
@@ -69,8 +69,8 @@ impl Topped {
     }
 }
 
-/// Tops up what may lack something, the windows and the credit of sessions and their links by rising channel and handle, and
-/// fills in what was.
+/// Tops up the supplies that `look` names, by rising channel and handle, and stores in `topped` what was topped
+/// up. No other supply may lack anything. Returns `Write` or `Sink` if that device failed.
 #[inline(always)]
 pub fn top_up<A: Allocator + Copy, W: Write + HoldsBack + Drop, S: Write + Drop>(
     endpoint: &mut Endpoint<A>,
@@ -103,7 +103,7 @@ pub fn top_up<A: Allocator + Copy, W: Write + HoldsBack + Drop, S: Write + Drop>
     }
 }
 
-/// Tops up a link and the window of its session, where nothing else lacks anything.
+/// Tops up a link and the window of its session. Nothing else may lack anything.
 #[inline(always)]
 fn top_up_link<A: Allocator + Copy, W: Write + HoldsBack + Drop, S: Write + Drop>(
     endpoint: &mut Endpoint<A>,
@@ -130,7 +130,7 @@ fn top_up_link<A: Allocator + Copy, W: Write + HoldsBack + Drop, S: Write + Drop
     Ok(())
 }
 
-/// Tops up the sessions from one channel to before another, where no other session lacks anything.
+/// Tops up the sessions on channels from `first` to before `end`, and their links. Nothing else may lack anything.
 fn top_up_sessions<A: Allocator + Copy, W: Write + HoldsBack + Drop, S: Write + Drop>(
     endpoint: &mut Endpoint<A>,
     first: u16,
@@ -160,7 +160,7 @@ fn top_up_sessions<A: Allocator + Copy, W: Write + HoldsBack + Drop, S: Write + 
     Ok(())
 }
 
-/// Tops up the session on a channel, which has so many handles.
+/// Tops up the session on a channel: its window, and its links at handles below `handles`.
 fn top_up_session<A: Allocator + Copy, W: Write + HoldsBack + Drop, S: Write + Drop>(
     endpoint: &mut Endpoint<A>,
     channel: u16,
@@ -187,7 +187,8 @@ fn top_up_session<A: Allocator + Copy, W: Write + HoldsBack + Drop, S: Write + D
     Ok(topped)
 }
 
-/// The first handle from one on, of so many, whose link lacks credit; so many where none does.
+/// Returns the first handle from `from` on whose link may lack credit, or `handles` if there is none below that.
+/// No link that is passed lacks credit.
 fn first_lacking<A: Allocator + Copy>(
     endpoint: &Endpoint<A>,
     channel: u16,
@@ -200,7 +201,7 @@ fn first_lacking<A: Allocator + Copy>(
     ensures within { result ≤ handles }
     ensures passed { (h : ℕ) → from ≤ h → h < result → credit_lack rule.now (link_at endpoint.now.connection channel h) ≡ 0 }
 {
-    // A link at its mark, or at less, has less than that.
+    // A link lacks credit only if it has less than this.
     let short = rule.mark.saturating_add(1).min(rule.credit);
     match endpoint.first_lacking(channel, from, short) {
         Some(handle) => handle.min(handles),
@@ -232,7 +233,7 @@ fn top_up_one<A: Allocator + Copy, W: Write + HoldsBack + Drop, S: Write + Drop>
     Ok(topped_by(supply, more, given))
 }
 
-/// What topping up a supply by so much came to.
+/// Returns what topping up a supply by `n` did, by the answer to the call.
 #[inline(always)]
 fn topped_by(supply: Supply, n: u32, given: Result<(), CallFault>) -> Topped
     ensures { result ≡ topped_as supply n given }
@@ -253,7 +254,7 @@ fn topped_by(supply: Supply, n: u32, given: Result<(), CallFault>) -> Topped
     }
 }
 
-/// Widens a window, or grants credit.
+/// Widens a window by `n` places, or grants a link `n` credit.
 #[inline(always)]
 fn give<A: Allocator + Copy>(
     endpoint: &mut Endpoint<A>,
@@ -268,7 +269,7 @@ fn give<A: Allocator + Copy>(
     }
 }
 
-/// What a supply lacks.
+/// Returns what a supply lacks: places of a window, or credit.
 #[inline(always)]
 fn lack<A: Allocator + Copy>(endpoint: &Endpoint<A>, supply: Supply, rule: &Rule) -> u32
     ensures { result ≡ lack rule.now endpoint.now.connection supply }
@@ -279,7 +280,7 @@ fn lack<A: Allocator + Copy>(endpoint: &Endpoint<A>, supply: Supply, rule: &Rule
     }
 }
 
-/// What the window of the session on a channel lacks.
+/// Returns how many places the window of the session on a channel lacks; 0 if there is no session.
 fn window_lack<A: Allocator + Copy>(endpoint: &Endpoint<A>, channel: u16) -> u32
     ensures { result ≡ window_lack endpoint.now.connection.config.window (slot_at endpoint.now.connection channel) }
 {
@@ -294,7 +295,7 @@ fn window_lack<A: Allocator + Copy>(endpoint: &Endpoint<A>, channel: u16) -> u32
     }
 }
 
-/// What a link lacks.
+/// Returns how much credit a link lacks; 0 if there is no link.
 fn credit_lack<A: Allocator + Copy>(
     endpoint: &Endpoint<A>,
     channel: u16,

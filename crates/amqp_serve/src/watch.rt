@@ -1,10 +1,11 @@
-//! Who is told of a connection while it is served.
+//! Watching a connection while it is served.
 
 use crate::Stepped;
 
-/// Is told of a connection while it is served. What its calls do has no influence on that.
+/// Gets a report of each step while a connection is served. What it does has no influence on the serving.
 pub trait Watch {
-    /// A step was made, and came to this. What it answered has gone to the writer, and its record to the sink, as far as they took it.
+    /// Takes the report of a step that was made. The step's answers have gone to the writer and its record to the
+    /// sink, as far as these took them.
     fn did(&mut self, stepped: &Stepped);
 }
 
@@ -17,12 +18,12 @@ impl Watch for Unwatched {
     fn did(&mut self, _stepped: &Stepped) {}
 }
 
-/// That watch, if there is one.
+/// Passes each report on to the watch, if there is one.
 impl<T: Watch> Watch for Option<T> {
     #[inline(always)]
     fn did(&mut self, stepped: &Stepped) {
         if let Some(watch) = self {
-            let stepped = *stepped; // copied here alone, so that without a watch it needs no place in memory
+            let stepped = *stepped; // copied here alone, so that it needs no place in memory if there is no watch
             watch.did(&stepped);
         }
     }

@@ -15,7 +15,7 @@ use Rattle.amqp_perform.specs.Said.{Said, said}
 use Rattle.amqp_session.specs.Frames.{Frame, Attaches, attach_said, refusal_said, failure_said}
 use Rattle.amqp_session.specs.Sessions.{SessionState, session_after, SessionMay}
 
--- what is written for an answer that stands alone
+-- what is written for an answer that needs nothing of its frame
 abbrev pub said_by : Answer → List Said
 said_by answer.Nothing = []
 said_by (answer.Flow p) = said (performative.Flow p) ∷ []
@@ -23,30 +23,30 @@ said_by (answer.Detach p) = said (performative.Detach p) ∷ []
 said_by answer.Attach = []
 said_by (answer.Refusal p) = said (performative.Detach p) ∷ []
 
--- and for the answer to a frame
+-- what is written for the answer to a frame
 abbrev pub answer_said : SessionTerms → Frame → Answer → List Said
 answer_said terms (Attaches a) answer.Attach = attach_said a.bounds.max_message_size a ∷ []
 answer_said terms (Attaches a) (answer.Refusal p) = refusal_said a ∷ said (performative.Detach p) ∷ []
 answer_said terms f x = said_by x
 
--- it answers an attach
+-- the answer is one to an attach
 abbrev pub IsOfAttach : Answer → Type 0
 IsOfAttach answer.Attach = Unit {0}
 IsOfAttach (answer.Refusal p) = Unit {0}
 IsOfAttach _ = ⊥
 
--- it answers another frame
+-- the answer is one to another frame
 abbrev pub IsPlain : Answer → Type 0
 IsPlain answer.Attach = ⊥
 IsPlain (answer.Refusal p) = ⊥
 IsPlain _ = Unit {0}
 
--- an attach is answered by what answers attaches, and no other frame is
+-- an attach is answered by an answer to an attach, and no other frame is
 abbrev pub IsAnswerTo : Frame → Answer → Type 0
 IsAnswerTo (Attaches a) x = IsOfAttach x
 IsAnswerTo f x = IsPlain x
 
--- an attach is answered, or its link refused
+-- an attach is answered, or its link is refused
 abbrev pub IsAttachAnswer : Report → Answer → Type 0
 IsAttachAnswer (report.Failed handle condition dropped) x = (p : Detach) × (x ≡ answer.Refusal p) × (said (performative.Detach p) ≡ failure_said handle condition)
 IsAttachAnswer _ x = x ≡ answer.Attach
@@ -65,7 +65,7 @@ pub record IsDone (old new : SessionState) (f : Frame) (done : Done) : Type 0 wh
   pub answer : answer_of old f ≡ answer_said old.terms f done.answer
   pub kind : IsAnswerTo f done.answer
 
--- and one that is not for it, which does nothing
+-- a frame that is not for the session did nothing
 pub record IsPassed (old new : SessionState) (done : Done) : Type 0 where
   pub after : new ≡ old
   pub report : done.report ≡ report.Nothing

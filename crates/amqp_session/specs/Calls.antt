@@ -1,4 +1,4 @@
--- What a session does with a call of its application: why it is refused, or the event that it is, and what it says (AMQP 1.0, part 2, sections 2.5.6, 2.6.6, 2.6.7, 2.6.12 and 2.7.6).
+-- What a session does with a call of its application: why it is refused, or which event it is, and what it says (AMQP 1.0, part 2, sections 2.5.6, 2.6.6, 2.6.7, 2.6.12 and 2.7.6).
 use Rattle.std.specs.Prelude.{ℕ, ◌+◌, ◌^◌, Bool, true, false, ◌&&◌, ◌||◌, if◌then◌else◌, nat_le, nat_lt, List, [], ◌∷◌, Option, Some, None, is_none}
 use Rattle.std.specs.List.{list_any}
 use Rattle.amqp_serial.specs.Numbers.{distance_of}
@@ -18,17 +18,17 @@ use Rattle.amqp_session.specs.Sessions as event
 use Rattle.amqp_session.specs.Faults.{where_so, session_flow, link_flow}
 
 pub data Call : Type 0 where
-  Widen : ℕ → Call  -- so many places more for the window
-  Grant : ℕ → ℕ → Call  -- the link with this handle gets so much credit more
-  Drain : ℕ → Call  -- its sender is asked to use its credit up
-  Take : ℕ → Call  -- its first ready delivery is handed up
+  Widen : ℕ → Call  -- the window gets this many more places
+  Grant : ℕ → ℕ → Call  -- the link with this handle gets this much more credit
+  Drain : ℕ → Call  -- the sender of the link with this handle is asked to use its credit up
+  Take : ℕ → Call  -- the first ready delivery of the link with this handle is handed up
   Settle : ℕ → Outcome → Call  -- what became of the delivery with this id
   SettleRange : ℕ → ℕ → Outcome → Call  -- what became of the open deliveries with the ids from the first to the last
-  Detach : ℕ → Call  -- the link is ended
+  Detach : ℕ → Call  -- the link with this handle is ended
 
 -- Settling. -----------------------------------------------------------------------------------------------------------
 
--- what an open delivery of the link there with this id is to its receiver
+-- how the delivery with this id stands at a place
 abbrev pub slot_standing : ℕ → Slot LiveLink → Standing
 slot_standing id Free = Absent
 slot_standing id (Live l) = standing_of id (open_set l.link)
@@ -38,12 +38,12 @@ abbrev pub or_later : Standing → Standing → Standing
 or_later Absent later = later
 or_later standing later = standing
 
--- and one of the session: on the first link that has one, and no two have
+-- how the delivery with this id stands in the session: on the first link that has an open one, and no two have
 abbrev pub standing_in : ℕ → List (Slot LiveLink) → Standing
 standing_in id [] = Absent
 standing_in id (s ∷ slots) = or_later (slot_standing id s) (standing_in id slots)
 
--- no open delivery stands so
+-- this is the standing of no open delivery
 abbrev pub is_absent : Standing → Bool
 is_absent Absent = true
 is_absent Untaken = false
@@ -52,21 +52,21 @@ is_absent (Awaiting mode) = false
 
 -- Ranges of ids. ------------------------------------------------------------------------------------------------------------
 
--- the last id is behind the first [2.8.10]
+-- the last id is before the first [2.8.10]
 abbrev pub is_behind : ℕ → ℕ → Bool
 is_behind first last = nat_le (2 ^ 31) (distance_of first last)
 
--- a test of the link at a place, where one is live there
+-- a test of the link at a place; false if none is live there
 abbrev pub live_has : (LinkState → Bool) → Slot LiveLink → Bool
 live_has test Free = false
 live_has test (Live l) = test l.link
 live_has test Waits = false
 
--- an open delivery there with one of the ids from the first to the last was not handed up
+-- an open delivery at a place with one of the ids from the first to the last was not handed up
 abbrev pub slot_names_untaken : ℕ → ℕ → Slot LiveLink → Bool
 slot_names_untaken first last s = live_has (λ l. names_untaken first last (open_set l)) s
 
--- of one that was handed up the sender was told, which is done in mode second alone [2.8.3]
+-- the sender was told what became of one that was handed up; that is done only in mode second [2.8.3]
 abbrev pub slot_names_told : ℕ → ℕ → Slot LiveLink → Bool
 slot_names_told first last s = live_has (λ l. list_any (λ d. is_covered first last d && d.told) l.awaiting) s
 
@@ -80,7 +80,7 @@ slot_names_second first last s = live_has (λ l. list_any (tells first last) l.a
 
 -- Refusals. -----------------------------------------------------------------------------------------------------------------
 
--- a fault of the link at a handle, where one is live there
+-- a fault of the link at a handle; NoLink if none is live there
 abbrev pub at_link : Slot LiveLink → (LinkState → Option CallFault) → Option CallFault
 at_link Free test = Some refused.NoLink
 at_link (Live l) test = test l.link
@@ -92,8 +92,8 @@ standing_fault Untaken = Some refused.NotTaken
 standing_fault Told = Some refused.AlreadyTold
 standing_fault (Awaiting mode) = None
 
--- The first fault of a settle of the ids from the first to the last. Both are ids of open deliveries; between them an id may be closed, or not be in use. All
--- that it names were handed up, and are in one mode, since one disposition says of all that they are settled, or of none. [2.6.12, 2.7.6, 2.8.3]
+-- The first fault of a settle of the ids from the first to the last. Both are ids of open deliveries; an id between them may belong to a closed delivery, or to none. All deliveries
+-- that it names were handed up, and are in one mode, since one disposition says either of all that they are settled, or of none. [2.6.12, 2.7.6, 2.8.3]
 abbrev pub range_fault : ℕ → ℕ → SessionState → Option CallFault
 range_fault first last s =
     if is_absent (standing_in first s.links) || is_absent (standing_in last s.links) || is_behind first last then Some refused.NoDelivery
@@ -131,16 +131,16 @@ call_event s (Settle id outcome) = event.Settled id id
 call_event s (SettleRange first last outcome) = event.Settled first last
 call_event s (Detach handle) = event.Detached handle
 
--- the delivery is settled by the call, which is so in mode first [2.7.5, 2.8.3]
+-- the call settles the delivery, which is so in mode first [2.7.5, 2.8.3]
 abbrev pub settles_at_once : Standing → Bool
 settles_at_once (Awaiting First) = true
 settles_at_once standing = false
 
--- what is said of these ids: all that they name are in the mode of the first [2.7.6]
+-- what is said of these ids: all deliveries that they name are in the mode of the first [2.7.6]
 abbrev pub range_said : ℕ → ℕ → Outcome → SessionState → Said
 range_said first last outcome s = disposition_said first last (settles_at_once (standing_in first s.links)) outcome
 
--- Credit, drain and the window are said with the state after the call. [2.6.7, 2.7.4]
+-- The answer states credit, drain and the window as they are after the call. [2.6.7, 2.7.4]
 abbrev pub call_answer : SessionState → Call → List Said
 call_answer s (Widen n) = session_flow (session_after s (call_event s (Widen n))) ∷ []
 call_answer s (Grant handle n) = link_flow (session_after s (call_event s (Grant handle n))) handle

@@ -1,4 +1,4 @@
--- How the type of a coordinator is found in front of a target.
+-- How the type of a coordinator is found at the beginning of a target.
 use Rattle.std.specs.Prelude.{◌≡◌, ℕ, ◌≤◌, ◌==◌, Bool, false, List, ◌++◌, codes, bytes_eq}
 use Rattle.amqp_types.specs.declared.kind.Kind.TheVariants as kind
 use Rattle.amqp_types.specs.declared.peeked.Peek.{Peek}

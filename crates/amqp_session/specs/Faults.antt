@@ -1,4 +1,4 @@
--- What a session does with a frame: its first fault, or the event that the frame is, what it tells of it, and what it says in answer (AMQP 1.0, part 2, sections 2.5 to 2.7).
+-- What a session does with a frame (AMQP 1.0, part 2, sections 2.5 to 2.7): its first fault, or the event that it is, what is reported, and what is said in answer.
 use Rattle.std.specs.Prelude.{◌≡◌, ℕ, ◌+◌, Bool, true, false, not, ◌&&◌, ◌||◌, if◌then◌else◌, nat_eq, nat_lt, List, [], ◌∷◌, length, sum_by, Option, Some, None, is_none, unwrap_or}
 use Rattle.amqp_perform.specs.declared.condition.Condition.{Condition}
 use Rattle.amqp_perform.specs.declared.condition.Condition.TheVariants as condition
@@ -28,7 +28,7 @@ is_free Free = true
 is_free (Live l) = false
 is_free Waits = false
 
--- One of these two, the first before the second.
+-- The first of these two that is there.
 abbrev pub or_else : {A : Type 0} → Option A → Option A → Option A
 or_else None later = later
 or_else (Some a) later = Some a
@@ -51,7 +51,7 @@ abbrev pub named_fault : SessionState → Option ℕ → Option SessionFault
 named_fault s None = None
 named_fault s (Some handle) = handle_fault s handle
 
--- A transfer needs a place of the window, which is looked for before its handle: amqp:session:window-violation. [2.5.6]
+-- A transfer needs a place of the window, which is checked before its handle: amqp:session:window-violation. [2.5.6]
 abbrev pub session_fault : SessionState → Frame → Option SessionFault
 session_fault s (Attaches a) = attach_fault s a
 session_fault s (Flows f) = named_fault s f.handle
@@ -59,7 +59,7 @@ session_fault s (Transfers handle t) = or_else (where_so (nat_eq s.window 0) fau
 session_fault s (Disposes d) = None
 session_fault s (Detaches handle closed) = handle_fault s handle
 
--- The condition with which the session ends. Want of memory ends nothing. [2.8.15, 2.8.17]
+-- The condition with which the session ends. A refusal of memory does not end it. [2.8.15, 2.8.17]
 abbrev pub session_condition : SessionFault → Condition
 session_condition fault.WindowViolation = condition.WindowViolation
 session_condition fault.HandleInUse = condition.HandleInUse
@@ -78,8 +78,8 @@ refusal terms a =
     (or_else (where_so (nat_lt 1024 (length a.source + length a.target)) condition.ResourceLimitExceeded)
     (where_so (nat_lt terms.max_frame_size (length (said_frame 0 (attach_said a.bounds.max_message_size a) []))) condition.FrameSizeTooSmall))
 
--- A transfer that resumes comes first (amqp:not-implemented), then one that begins a delivery under an open id, a duplicate (amqp:invalid-field), then what
--- else the link says. [2.6.12, 2.7.5]
+-- A transfer that resumes is the first fault (amqp:not-implemented). The next is one that begins a delivery with an open id, a duplicate (amqp:invalid-field); then come the
+-- other faults of the link. [2.6.12, 2.7.5]
 abbrev pub transfer_fault : SessionState → LinkState → Sent → Option LinkFault
 transfer_fault s l t = if not t.resume && is_reused s l t then Some link_fault.InvalidField else fault_of l t
 
@@ -117,12 +117,12 @@ flow_event handle f (Live l) = if is_beyond_credit l.link.delivery_count l.link.
     f.delivery_count
 flow_event handle f Waits = event.Ignored
 
--- The fields of a link say nothing without a handle. [2.7.4]
+-- Without a handle the fields of a link are ignored. [2.7.4]
 abbrev pub named_event : SessionState → Flowing → Option ℕ → SessionEvent
 named_event s f None = event.FlowCame f.next_outgoing_id
 named_event s f (Some handle) = flow_event handle f (slot_at s handle)
 
--- it is the sender's, and settles [2.7.6]
+-- the disposition is the sender's, and has settled true [2.7.6]
 abbrev pub is_settling : Disposing → Bool
 is_settling d = not (is_receiver d.role) && d.settled
 
@@ -137,7 +137,7 @@ event_of s (Transfers handle t) = transfer_event s handle t (slot_at s handle)
 event_of s (Disposes d) = if is_settling d then event.PeerSettled d.first (last_of d) else event.Ignored
 event_of s (Detaches handle closed) = event.PeerDetached handle
 
--- What is told of it. ------------------------------------------------------------------------------------------------------
+-- What is reported of it. ---------------------------------------------------------------------------------------------------
 
 abbrev pub attach_report : ℕ → Option Condition → Report
 attach_report handle None = report.Attached handle
@@ -174,7 +174,7 @@ slot_settled first last Free = 0
 slot_settled first last (Live l) = newly_settled first last (open_set l.link)
 slot_settled first last Waits = 0
 
--- and of the session
+-- how many open deliveries of the session a disposition settles
 abbrev pub settled_count : SessionState → ℕ → ℕ → ℕ
 settled_count s first last = sum_by (slot_settled first last) s.links
 
@@ -190,7 +190,7 @@ report_of s (Detaches handle closed) = report.Detached handle (slot_ready (slot_
 
 -- What is said in answer: nothing, one performative, or two for a link that is refused. -----------------------------------------
 
--- the flow of a session, and of a link of it [2.7.4]
+-- the flow of a session, and of one of its links [2.7.4]
 abbrev pub session_flow : SessionState → Said
 session_flow s = flow_said s.next_incoming_id s.window
 
@@ -211,7 +211,7 @@ abbrev pub failure_answer : Report → List Said
 failure_answer (report.Failed handle condition dropped) = failure_said handle condition ∷ []
 failure_answer _ = []
 
--- The answer to an echo, of the state after the flow: of the link that it names, else of the session. A link that ended, or waits, has none. [2.7.4]
+-- The answer to an echo, stating what is so after the flow: of the link that it names, else of the session. A link that ended, or waits, has none. [2.7.4]
 abbrev pub echo_answer : SessionState → Option ℕ → List Said
 echo_answer after None = session_flow after ∷ []
 echo_answer after (Some handle) = link_flow after handle
@@ -233,7 +233,8 @@ answer_of s (Transfers handle t) = failure_answer (report_of s (Transfers handle
 answer_of s (Disposes d) = []
 answer_of s (Detaches handle closed) = detach_answer handle closed (slot_at s handle)
 
--- A frame may want memory where it attaches a link, or where a transfer has no fault that ends its link, and its link may. A fault that ends the session comes before.
+-- A frame may need memory if it attaches a link, or if it is a transfer without a fault that ends its link, for which the link may need memory. A fault that ends the session
+-- comes before.
 abbrev pub slot_may_grow : SessionState → Sent → Slot LiveLink → Bool
 slot_may_grow s t Free = false
 slot_may_grow s t (Live l) = is_none (transfer_fault s l.link t) && may_grow l.link t
@@ -246,7 +247,7 @@ frame_may_grow s (Transfers handle t) = slot_may_grow s t (slot_at s handle)
 frame_may_grow s (Disposes d) = false
 frame_may_grow s (Detaches handle closed) = false
 
--- Why a frame is refused: its first fault, or memory that it wants, where it has none.
+-- Why a frame is refused: its first fault, or, if it has none, memory that it needs.
 abbrev pub IsRefusal : SessionState → Frame → SessionFault → Type 0
 IsRefusal s f fault.NoMemory = (session_fault s f ≡ None) × (frame_may_grow s f ≡ true)
 IsRefusal s f fault.WindowViolation = session_fault s f ≡ Some fault.WindowViolation

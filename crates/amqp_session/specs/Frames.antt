@@ -32,10 +32,10 @@ pub record Attaching : Type 0 where
   pub role : Role  -- of the peer
   pub snd_settle_mode : SenderSettleMode
   pub rcv_settle_mode : ReceiverSettleMode
-  pub source : List ℕ  -- as it is spelled; nothing where it is absent
+  pub source : List ℕ  -- as it is encoded; empty if it is absent
   pub target : List ℕ
   pub initial_delivery_count : Option ℕ
-  pub bounds : Bounds  -- what its link may keep
+  pub bounds : Bounds  -- what its link may hold
 
 -- a flow of the peer [2.7.4]
 pub record Flowing : Type 0 where
@@ -55,9 +55,9 @@ pub record Disposing : Type 0 where
 pub data Frame : Type 0 where
   Attaches : Attaching → Frame
   Flows : Flowing → Frame
-  Transfers : ℕ → Sent → Frame  -- on the link with this handle
+  Transfers : ℕ → Sent → Frame  -- a transfer on the link with this handle
   Disposes : Disposing → Frame
-  Detaches : ℕ → Bool → Frame  -- the link with this handle, closed or not
+  Detaches : ℕ → Bool → Frame  -- a detach of the link with this handle, with closed or not
 
 abbrev pub attaching : Attach → Bounds → Attaching
 attaching p bounds = record {
@@ -78,7 +78,7 @@ flowing p = record { next_outgoing_id = p.next_outgoing_id; handle = p.handle; d
 abbrev pub disposing : Disposition → Disposing
 disposing p = record { role = p.role; first = p.first; last = p.last; settled = p.settled }
 
--- what a performative with its payload is to its session; the others are not for it
+-- which frame of the session a performative with its payload is; None if it is not for the session
 abbrev pub frame_of : Performative → List ℕ → Bounds → Option Frame
 frame_of (performative.Open p) payload bounds = None
 frame_of (performative.Begin p) payload bounds = None
@@ -90,7 +90,7 @@ frame_of (performative.Detach p) payload bounds = Some (Detaches p.handle p.clos
 frame_of (performative.End p) payload bounds = None
 frame_of (performative.Close p) payload bounds = None
 
--- A target that describes a coordinator of transactions: by the ulong 0x30 or the symbol, in any spelling, whatever stands behind. [part 4, 4.5.1]
+-- A target describes a coordinator of transactions by the ulong 0x30 or the symbol, in any spelling, whatever follows. [part 4, 4.5.1]
 abbrev pub is_coordinator_type : Tree → Bool
 is_coordinator_type (Number kind.Ulong n) = n == 0x30
 is_coordinator_type (Octets kind.Symbol octets) = bytes_eq octets (codes "amqp:coordinator:list")
@@ -104,7 +104,7 @@ abbrev pub is_coordinator : List ℕ → Bool
 is_coordinator [] = false
 is_coordinator (code ∷ rest) = if code == 0 then is_coordinator_in (value_of 31 None rest) else false
 
--- A delivery-id and an initial-delivery-count have 32 bits, and a link attaches at a handle up to this one.
+-- A delivery-id and an initial-delivery-count have 32 bits, and a link attaches at a handle of at most handle_max.
 abbrev pub IsInRange : ℕ → Frame → Type 0
 IsInRange handle_max (Attaches a) = (a.handle ≤ handle_max) × (unwrap_or a.initial_delivery_count 0 < 2 ^ 32)
 IsInRange handle_max (Flows f) = Unit {0}
@@ -114,7 +114,7 @@ IsInRange handle_max (Detaches handle closed) = Unit {0}
 
 -- What is said. ---------------------------------------------------------------------------------------------------------
 
--- the role of this side, where that is the peer's [2.8.1]
+-- the role of this side, given the peer's [2.8.1]
 abbrev pub other_role : Role → Role
 other_role of_role.Sender = of_role.Receiver
 other_role of_role.Receiver = of_role.Sender
@@ -129,7 +129,7 @@ attach_said longest a = record {
       ∷ Span (canonical (Number kind.Ulong longest)) ∷ Absent ∷ Absent ∷ Absent ∷ [];
 }
 
--- where this side would be the sender it states an initial-delivery-count [2.7.3]
+-- if this side would be the sender, it states an initial-delivery-count [2.7.3]
 abbrev pub count_stated : Role → Cell
 count_stated of_role.Sender = Absent
 count_stated of_role.Receiver = Whole 0

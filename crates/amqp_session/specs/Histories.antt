@@ -1,4 +1,4 @@
--- The history of one session, its events newest first, and what stands in it: sums over the whole list, and the part that each link has of it, in plain numbers (AMQP 1.0, part 2, 2.5 and 2.6).
+-- The history of one session, its events newest first. Its state follows by sums over the list and from each link's part of it, in plain numbers (AMQP 1.0, part 2, 2.5 and 2.6).
 use Rattle.std.specs.Prelude.{ℕ, ◌+◌, ◌-◌, ◌%◌, ◌^◌, ◌<◌, ◌≤◌, List, [], ◌∷◌, Option, Some, None}
 use Rattle.amqp_link.specs.Links.{LinkEvent}
 use Rattle.amqp_link.specs.Histories as link
@@ -20,11 +20,11 @@ abbrev pub transfers : List SessionEvent → ℕ
 transfers [] = 0
 transfers (e ∷ h) = transfers h + one_if (is_transfer e)
 
--- the window: the opening one, and what was added, but a place for each transfer [2.5.6]
+-- the window: that of the begin plus what was added, less a place for each transfer [2.5.6]
 abbrev pub window : SessionTerms → List SessionEvent → ℕ
 window terms h = terms.incoming_window + widenings h - transfers h
 
--- a next-outgoing-id that is stated is counted from; else a transfer is the next one [2.5.6]
+-- a next-outgoing-id that is stated replaces the known one [2.5.6]
 abbrev pub counted_from : Option ℕ → ℕ → ℕ
 counted_from None known = known
 counted_from (Some stated) known = stated
@@ -34,21 +34,21 @@ abbrev pub last_stated : SessionTerms → List SessionEvent → ℕ
 last_stated terms [] = terms.next_outgoing_id
 last_stated terms (e ∷ h) = counted_from (stated_by e) (last_stated terms h)
 
--- a count that begins anew where one is stated
+-- a count that restarts at 0 when a next-outgoing-id is stated
 abbrev pub restarted : Option ℕ → ℕ → ℕ
 restarted None n = n
 restarted (Some stated) n = 0
 
--- how many transfers came since
+-- how many transfers came since a next-outgoing-id was stated last
 abbrev pub since_stated : List SessionEvent → ℕ
 since_stated [] = 0
 since_stated (e ∷ h) = restarted (stated_by e) (since_stated h) + one_if (is_transfer e)
 
--- next-incoming-id: the last one stated, and one more for each transfer since, round the end at 2^32 [2.5.6]
+-- next-incoming-id: the next-outgoing-id stated last plus 1 for each transfer since then, modulo 2^32 [2.5.6]
 abbrev pub next_id : SessionTerms → List SessionEvent → ℕ
 next_id terms h = (last_stated terms h + since_stated h) % 2 ^ 32
 
--- The part of the history that the link now at a handle has: what it attached with and its events, newest first. None is left of a link that is gone.
+-- The part of the history that the link now at a handle has: what it attached with and its events, newest first. A link that is gone has none.
 abbrev pub part : ℕ → List SessionEvent → Slot (Life Attached LinkEvent)
 part handle [] = Free
 part handle (e ∷ h) = life_after handle (happens e) (part handle h)
@@ -65,12 +65,12 @@ state_of terms h = record {
   links = states live_state (handles terms) (λ handle. part handle h);
 }
 
--- what holds of each part
+-- what holds for each part
 pub record IsSoundPart (terms : SessionTerms) (a : Attached) (h : List LinkEvent) : Type 0 where
   pub attached : IsAttached a
   pub link : link.Sound a.terms h
 
--- what holds of every history of accepted events
+-- what holds for every history of accepted events
 pub record Sound (terms : SessionTerms) (h : List SessionEvent) : Type 0 where
   -- no more transfers came than the window had places
   pub spent : transfers h ≤ terms.incoming_window + widenings h
@@ -78,7 +78,7 @@ pub record Sound (terms : SessionTerms) (h : List SessionEvent) : Type 0 where
   pub narrow : window terms h < 2 ^ 31
   -- every live link is sound
   pub links : AreSound (IsSoundPart terms) (handles terms) (λ handle. part handle h)
-  -- no two open deliveries have one id
+  -- no two open deliveries have the same id
   pub apart : IsApart (state_of terms h)
 
 -- the session after all these events, step by step
@@ -86,7 +86,7 @@ abbrev pub after_all : SessionTerms → List SessionEvent → SessionState
 after_all terms [] = session_begins terms
 after_all terms (e ∷ h) = session_after (after_all terms h) e
 
--- each of them was accepted
+-- each event was accepted
 abbrev pub Accepted : SessionTerms → List SessionEvent → Type 0
 Accepted terms [] = Unit {0}
 Accepted terms (e ∷ h) = Accepted terms h × SessionMay (after_all terms h) e

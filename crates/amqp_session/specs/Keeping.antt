@@ -1,4 +1,4 @@
--- How what is kept of a link is seen.
+-- What is seen of the record of a link.
 use Rattle.amqp_session.specs.declared.state.Record.{Record}
 use Rattle.amqp_session.specs.Sessions.{LiveLink}
 

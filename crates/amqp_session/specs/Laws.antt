@@ -1,4 +1,4 @@
--- What the laws of a session speak of, beside its states and its history.
+-- What the laws of a session use, besides its states and its history.
 use Rattle.std.specs.Prelude.{◌*◌, ◌≡◌, ℕ, ◌+◌, ◌^◌, ◌<◌, not, nat_eq, if◌then◌else◌, List, [], ◌∷◌, ◌++◌, length, filter, sum_by, Some, None}
 use Rattle.std.specs.List.{count_by}
 use Rattle.amqp_link.specs.Bounds.{Bounds}
@@ -27,7 +27,7 @@ IsCallInRange c = Unit {0}
 abbrev pub parts : SessionTerms → List SessionEvent → List (Slot (Life Attached LinkEvent))
 parts terms h = tabulate 0 (handles terms) (λ handle. part handle h)
 
--- It is no event of this place: it happens at another one, or at none.
+-- It is no event of place k: it happens at another place, or at none.
 abbrev pub IsElsewhere : {B E : Type 0} → ℕ → Happens B E → Type 0
 IsElsewhere k Nothing = Unit {0}
 IsElsewhere k (Begins place begin) = place ≡ k → ⊥
@@ -42,7 +42,7 @@ abbrev pub IsOfTransfer : Frame → Type 0
 IsOfTransfer (Transfers handle t) = Unit {0}
 IsOfTransfer f = ⊥
 
--- the credit of the link at a handle; none where no link is live there
+-- the credit of the link at a place; 0 if none is live there
 abbrev pub credit_in : Slot LiveLink → ℕ
 credit_in Free = 0
 credit_in (Live l) = l.link.credit
@@ -64,11 +64,11 @@ granted_in k AllGone = 0
 abbrev pub granted_at : ℕ → SessionEvent → ℕ
 granted_at handle e = granted_in handle (happens e)
 
--- what a link with these bounds keeps at most: 128 for itself, a name of 255 bytes, ends of 1024, and for each delivery that is allowed its message and 96
+-- the most bytes held for a link with these bounds: 128 for itself, a name of 255, ends of 1024, and for each allowed delivery its message and 96
 abbrev pub link_most : Bounds → ℕ
 link_most b = 1407 + b.allowed * (b.max_message_size + 96)
 
--- What a handle keeps at most: of a live link what its bounds allow. One that waits for the peer's detach keeps itself alone. [2.6.6]
+-- The most bytes held for a handle: for a live link what its bounds allow. A link that waits for the peer's detach has 128 for itself. [2.6.6]
 abbrev pub slot_most : Slot LiveLink → ℕ
 slot_most Free = 0
 slot_most (Live l) = link_most l.link.terms.bounds
@@ -78,7 +78,7 @@ slot_most Waits = 128
 abbrev pub used_count : SessionState → ℕ
 used_count s = count_by (λ x. not (is_free x)) s.links
 
--- What counts as kept of a part: 128 for its link, its name, source and target, and what is kept of each open delivery.
+-- The bytes held for a part: 128 for its link, its name, source and target, and what is held of each open delivery.
 abbrev pub part_bytes : Slot (Life Attached LinkEvent) → ℕ
 part_bytes Free = 0
 part_bytes (Live l) =
@@ -91,17 +91,17 @@ part_settled first last Free = 0
 part_settled first last (Live l) = length (filter (link.is_settled_by l.0.terms l.1 first last) (link.groups l.1))
 part_settled first last Waits = 0
 
--- how many open deliveries at a handle a settle of this side over these ids names: they were handed up, and have one of the ids [2.7.6]
+-- how many open deliveries at a handle a settle of these ids by this side names: they were handed up, and have one of the ids [2.7.6]
 abbrev pub slot_named : ℕ → ℕ → Slot LiveLink → ℕ
 slot_named first last Free = 0
 slot_named first last (Live l) = named_count first last (open_set l.link)
 slot_named first last Waits = 0
 
--- and in the session
+-- how many it names in the session
 abbrev pub named_total : ℕ → ℕ → SessionState → ℕ
 named_total first last s = sum_by (slot_named first last) s.links
 
--- and of a part
+-- how many it names of a part
 abbrev pub part_named : ℕ → ℕ → Slot (Life Attached LinkEvent) → ℕ
 part_named first last Free = 0
 part_named first last (Live l) = length (filter (is_named_by l.0.terms l.1 first last) (link.groups l.1))

@@ -1,4 +1,4 @@
--- What is kept of a link, and a place, end as, once the link that they lent has ended.
+-- What the record of a link, and a place, are once the loan of their link has ended.
 use Rattle.std.specs.Prelude.{Option}
 use Rattle.std.specs.declared.alloc.Allocator.{Ghosts}
 use Rattle.std.specs.Borrow.{Lends, LendsIf, MutBor, Fml, RattleType}
@@ -10,10 +10,10 @@ use Rattle.amqp_session.specs.contracts.state.KeptLink.{the_row as kept_row}
 use Rattle.amqp_session.specs.Sessions.{LiveLink}
 use Rattle.amqp_session.specs.Links.{relinked, slot_relinked}
 
--- its name and both its ends stay
+-- its name, source and target stay
 abbrev pub LendsLink : (A : RattleType) (heap : Ghosts A.Denot) → MutBor LiveLink → MutBor LinkState → Fml
 LendsLink A heap s r = Lends (kept_row A heap) (link_row A heap) s r (relinked s.now)
 
--- the place ends with it
+-- the place has the link as it was given back
 abbrev pub LendsPlace : (A : RattleType) (heap : Ghosts A.Denot) → MutBor (Slot LiveLink) → Option (MutBor LinkState) → Fml
 LendsPlace A heap s r = LendsIf (slot_row (kept_row A heap)) (link_row A heap) s r (slot_relinked s.now) s.now

@@ -1,10 +1,10 @@
--- A table of places at which lives follow one another: the links of a session by handle, the sessions of a connection by channel (AMQP 1.0, part 2, sections
--- 2.5.1, 2.5.3, 2.6.2, 2.6.4). Each event changes what stands at one place, or goes on at all that live, and the same events give the history of each place.
+-- A table of places at which one life follows another: the links of a session by handle, the sessions of a connection by channel (AMQP 1.0, part 2, sections
+-- 2.5.1, 2.5.3, 2.6.2, 2.6.4). An event changes what is at one place, or goes on with all lives. The same events result in the history of each place.
 use Rattle.std.specs.Prelude.{◌≡◌, ℕ, zero, suc, ◌<◌, nat_eq, if◌then◌else◌, List, [], ◌∷◌, slice_get, Option, Some, None}
 use Rattle.amqp_session.specs.declared.slot.Slot.{Slot}
 use Rattle.amqp_session.specs.declared.slot.Slot.TheVariants.{Free, Live, Waits}
 
--- What happens in a table, where a life begins with a value of B, and goes on by events of E.
+-- What happens in a table. A life begins with a value of B, and goes on by events of E.
 pub data Happens (B E : Type 0) : Type 0 where
   Nothing : Happens B E
   -- a life begins at this place
@@ -15,7 +15,7 @@ pub data Happens (B E : Type 0) : Type 0 where
   AllGoOn : E → Happens B E
   -- this side ends what lives at this place, or lets nothing live there: the place waits for the peer
   Leaves : ℕ → Happens B E
-  -- the peer ends what stands at this place, and the place is free
+  -- the peer ends what is at this place, and the place is free
   Gone : ℕ → Happens B E
   -- all places are free
   AllGone : Happens B E
@@ -29,19 +29,19 @@ slot_map f Free = Free
 slot_map f (Live s) = Live (f s)
 slot_map f Waits = Waits
 
--- what lives, if anything does
+-- what lives at a place, if anything does
 abbrev pub live_in : {T : Type 0} → Slot T → Option T
 live_in Free = None
 live_in (Live t) = Some t
 live_in Waits = None
 
--- a fact of what lives, where something does
+-- a fact about what lives at a place, if something does
 abbrev pub IfLive : {T : Type 0} → (T → Type 0) → Slot T → Type 0
 IfLive fact Free = Unit {0}
 IfLive fact (Live t) = fact t
 IfLive fact Waits = Unit {0}
 
--- What stands at place k after an event, where `start` begins a life and `next` goes on with it.
+-- What is at place k after an event, where `start` begins a life and `next` goes on with it.
 abbrev pub slot_after : {B E T : Type 0} → (B → T) → (T → E → T) → ℕ → Happens B E → Slot T → Slot T
 slot_after start next k Nothing s = s
 slot_after start next k (Begins place begin) s = if nat_eq place k then Live (start begin) else s
@@ -51,7 +51,7 @@ slot_after start next k (Leaves place) s = if nat_eq place k then Waits else s
 slot_after start next k (Gone place) s = if nat_eq place k then Free else s
 slot_after start next k AllGone s = Free
 
--- the same of the table, whose first place is k
+-- the table after an event, where its first place is k
 abbrev pub places_from : {B E T : Type 0} → (B → T) → (T → E → T) → ℕ → Happens B E → List (Slot T) → List (Slot T)
 places_from start next k x [] = []
 places_from start next k x (s ∷ slots) = slot_after start next k x s ∷ places_from start next (suc k) x slots
@@ -59,18 +59,18 @@ places_from start next k x (s ∷ slots) = slot_after start next k x s ∷ place
 abbrev pub places_after : {B E T : Type 0} → (B → T) → (T → E → T) → List (Slot T) → Happens B E → List (Slot T)
 places_after start next slots x = places_from start next 0 x slots
 
--- a life that begins, and one with an event more
+-- a life that begins, and one with one more event
 abbrev pub new_life : {B E : Type 0} → B → Life B E
 new_life begin = (begin, [])
 
 abbrev pub lived_on : {B E : Type 0} → Life B E → E → Life B E
 lived_on l e = (l.0, e ∷ l.1)
 
--- the life at place k after an event: the one that stands there now, with none of those before it
+-- the life at place k after an event: the one that is there now, and nothing of earlier ones
 abbrev pub life_after : {B E : Type 0} → ℕ → Happens B E → Slot (Life B E) → Slot (Life B E)
 life_after k x l = slot_after new_life lived_on k x l
 
--- the values of a function from k on, so many
+-- the given number of values of a function, from k on
 abbrev pub tabulate : {A : Type 0} → ℕ → ℕ → (ℕ → A) → List A
 tabulate k zero f = []
 tabulate k (suc n) f = f k ∷ tabulate (suc k) n f
@@ -83,7 +83,7 @@ life_state state l = slot_map (λ life. state life.0 life.1) l
 abbrev pub states : {B E T : Type 0} → (B → List E → T) → ℕ → (ℕ → Slot (Life B E)) → List (Slot T)
 states state n lives = tabulate 0 n (λ k. life_state state (lives k))
 
--- something stands at a place, or waits there
+-- something lives at a place, or waits there
 abbrev pub IsInUse : {T : Type 0} → Slot T → Type 0
 IsInUse Free = ⊥
 IsInUse (Live t) = Unit {0}

@@ -1,4 +1,4 @@
--- What an answer to an attach repeats of it.
+-- What an answer repeats of its attach.
 use Rattle.std.specs.Prelude.{◌≡◌, ℕ, List}
 use Rattle.amqp_session.specs.declared.replies.Modes.{Modes}
 use Rattle.amqp_session.specs.Frames.{Attaching}

@@ -1,4 +1,4 @@
--- What a session keeps at one handle, and what each frame and call makes of it.
+-- What a session holds at one handle, and what each frame and call makes of it.
 use Rattle.std.specs.Prelude.{◌≡◌, ℕ, zero, suc, ◌+◌, ◌<◌, ◌≤◌, Bool, true, false, if◌then◌else◌, List, [], ◌∷◌, length, Option, Some, None, unwrap_or, IsSomeAnd, slice_get}
 use Rattle.amqp_link.specs.declared.link.Taken.{Taken}
 use Rattle.amqp_link.specs.HandedUps.{IsHandedUp}
@@ -16,7 +16,7 @@ use Rattle.amqp_session.specs.Sessions.{LiveLink, live_after, SessionState, hand
 
 -- The table. ----------------------------------------------------------------------------------------------------------------
 
--- so many places: those that were reached, and free ones behind them
+-- the given number of places: those that were reached, and then free ones
 abbrev pub padded : ℕ → List (Slot LiveLink) → List (Slot LiveLink)
 padded zero slots = []
 padded (suc n) [] = Free ∷ padded n []
@@ -26,14 +26,14 @@ padded (suc n) (s ∷ slots) = s ∷ padded n slots
 abbrev pub session_of : SessionTerms → ℕ → ℕ → List (Slot LiveLink) → SessionState
 session_of terms window next slots = record { terms = terms; window = window; next_incoming_id = next; links = padded (handles terms) slots }
 
--- no more places were reached than there are handles
+-- at most as many places were reached as there are handles
 pub record IsReached (terms : SessionTerms) (slots : List (Slot LiveLink)) : Type 0 where
   pub reached : length slots ≤ handles terms
   pub handles : terms.handle_max < 256
 
 -- One link. -----------------------------------------------------------------------------------------------------------------
 
--- what is kept of a link beside its deliveries is short
+-- what is held of a link besides its deliveries is short
 pub record IsKept (l : LiveLink) : Type 0 where
   pub name : length l.name ≤ 255
   pub ends : length l.source + length l.target ≤ 1024
@@ -46,23 +46,23 @@ is_live Free = false
 is_live (Live l) = true
 is_live Waits = false
 
--- what stands at a place of these
+-- what is at a place of these
 abbrev pub at_place : List (Slot LiveLink) → ℕ → Slot LiveLink
 at_place slots place = unwrap_or (slice_get slots place) Free
 
--- what a flow leaves there
+-- what is at a place after a flow
 abbrev pub slot_flowed : Flowing → Slot LiveLink → Slot LiveLink
 slot_flowed f Free = Free
 slot_flowed f (Live l) = if is_beyond_credit l.link.delivery_count l.link.credit f.delivery_count then Waits else Live (live_after l (FlowStated f.delivery_count))
 slot_flowed f Waits = Waits
 
--- what is told of it: nothing where it is dropped
+-- what is reported of a flow; nothing if it is dropped
 abbrev pub IsFlowTold : ℕ → Flowing → Slot LiveLink → Option Report → Type 0
 IsFlowTold handle f Free told = ⊥
 IsFlowTold handle f (Live l) told = told ≡ Some (flow_report handle f (Live l))
 IsFlowTold handle f Waits told = told ≡ None
 
--- a call for the link there
+-- a place after an event of the link there
 abbrev pub slot_called : LinkEvent → Slot LiveLink → Slot LiveLink
 slot_called e s = slot_map (λ l. live_after l e) s
 
@@ -75,7 +75,7 @@ IsStated Free stated = ⊥
 IsStated (Live l) stated = stated ≡ stated_of l.link
 IsStated Waits stated = ⊥
 
--- what a take of the link there hands up
+-- what a take from the link at a place hands up
 abbrev pub HandsUp : {A : Type 0} → Slot LiveLink → Taken A → Type 0
 HandsUp Free taken = ⊥
 HandsUp (Live l) taken = IsSomeAnd (first_ready l.link) (λ d. IsHandedUp taken d)

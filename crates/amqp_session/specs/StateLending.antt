@@ -1,4 +1,4 @@
--- What a session ends as, once the link that it lent has ended.
+-- What a session is once the loan of a link has ended.
 use Rattle.std.specs.Prelude.{ℕ, Option}
 use Rattle.std.specs.declared.alloc.Allocator.{Ghosts}
 use Rattle.std.specs.Borrow.{LendsIf, MutBor, Fml, RattleType}

@@ -1,4 +1,4 @@
--- How the open deliveries of a session stand that a range of ids names.
+-- How the open deliveries that a range of ids names stand in a session.
 use Rattle.std.specs.Prelude.{◌≡◌, ℕ, ◌+◌, Bool, true, false, not, ◌&&◌, nat_lt, if◌then◌else◌, List, sum_by, Option, Some, None}
 use Rattle.std.specs.List.{count_by}
 use Rattle.amqp_perform.specs.declared.modes.ReceiverSettleMode.TheVariants.{Second}
@@ -17,66 +17,67 @@ use Rattle.amqp_session.specs.Indexes.{is_untaken}
 
 -- One delivery. -------------------------------------------------------------------------------------------------------------
 
--- the sender was told of a delivery that stands so
+-- the sender was told what became of a delivery with this standing
 abbrev pub is_told : Standing → Bool
 is_told Absent = false
 is_told Untaken = false
 is_told Told = true
 is_told (Awaiting mode) = false
 
--- the sender can be told of it [2.8.3]
+-- the sender can be told what became of a delivery with this standing [2.8.3]
 abbrev pub can_tell : Standing → Bool
 can_tell (Awaiting Second) = true
 can_tell standing = false
 
 -- Those of a range. ---------------------------------------------------------------------------------------------------------
 
--- a number of the link at a place, where one is live there
+-- a number of the link at a place; 0 if none is live there
 abbrev pub live_number : (LinkState → ℕ) → Slot LiveLink → ℕ
 live_number count Free = 0
 live_number count (Live l) = count l.link
 live_number count Waits = 0
 
--- those that were not handed up
+-- how many of the range were not handed up
 abbrev pub untaken_in : ℕ → ℕ → List (Slot LiveLink) → ℕ
 untaken_in first last slots = sum_by (live_number (λ l. count_by (is_covered first last) (untaken (open_set l)))) slots
 
--- those of which the sender was told
+-- for how many of the range the sender was told what became of them
 abbrev pub told_in : ℕ → ℕ → List (Slot LiveLink) → ℕ
 told_in first last slots = sum_by (live_number (λ l. count_by (λ d. is_covered first last d && d.told) l.awaiting)) slots
 
--- the others in mode first, and in mode second
+-- the others that were handed up: how many in mode first, and how many in mode second
 abbrev pub to_settle_in : ℕ → ℕ → List (Slot LiveLink) → ℕ
 to_settle_in first last slots = sum_by (live_number (λ l. count_by (λ d. receiver_settles first last d && not d.told) l.awaiting)) slots
 
 abbrev pub to_tell_in : ℕ → ℕ → List (Slot LiveLink) → ℕ
 to_tell_in first last slots = sum_by (live_number (λ l. count_by (λ d. tells first last d && not d.told) l.awaiting)) slots
 
--- so many there are
+-- the survey has these counts
 pub record IsSurvey (first last : ℕ) (slots : List (Slot LiveLink)) (v : Survey) : Type 0 where
   pub untaken : v.untaken ≡ untaken_in first last slots
   pub told : v.told ≡ told_in first last slots
   pub to_settle : v.to_settle ≡ to_settle_in first last slots
   pub to_tell : v.to_tell ≡ to_tell_in first last slots
 
--- one more that stands so
+-- the counts with one more delivery, which has this standing
 pub record IsNoted (old : Survey) (standing : Standing) (new : Survey) : Type 0 where
   pub untaken : new.untaken ≡ old.untaken + one_if (is_untaken standing)
   pub told : new.told ≡ old.told + one_if (is_told standing)
   pub to_settle : new.to_settle ≡ old.to_settle + one_if (settles_at_once standing)
   pub to_tell : new.to_tell ≡ old.to_tell + one_if (can_tell standing)
 
--- how many there are in all
+-- how many deliveries the survey counts in total
 abbrev pub in_all : Survey → ℕ
 in_all v = v.untaken + v.told + v.to_settle + v.to_tell
 
--- the first fault of a settle of those, as far as they are in hand
+-- the first fault of a settle of the deliveries that a survey counts
 abbrev pub survey_fault : Survey → Option CallFault
 survey_fault v =
     if nat_lt 0 v.untaken then Some refused.NotTaken
     else (if nat_lt 0 v.told then Some refused.AlreadyTold else (if nat_lt 0 v.to_settle && nat_lt 0 v.to_tell then Some refused.MixedModes else None))
 
--- a settle of them can be done: none was not handed up, and of none the sender was told
+-- a settle of the range is possible: all its open deliveries were handed up, and the
+-- sender was told of none
 pub record AreReady (first last : ℕ) (slots : List (Slot LiveLink)) : Type 0 where
   pub untaken : untaken_in first last slots ≡ 0
   pub told : told_in first last slots ≡ 0

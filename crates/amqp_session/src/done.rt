@@ -1,18 +1,18 @@
-//! What becomes of a frame.
+//! What a frame results in.
 
 use crate::report::Report;
 use amqp_perform::{Detach, Flow};
 
-/// A frame was taken.
+/// What a frame that was taken results in.
 #[derive(Clone, Copy, Debug)]
 pub struct Done {
-    /// What is told of it.
+    /// What is reported.
     pub report: Report,
     /// What is to be written.
     pub answer: Answer,
 }
 
-/// What answers a frame.
+/// The answer to a frame.
 #[derive(Clone, Copy, Debug)]
 pub enum Answer {
     /// Nothing.
@@ -21,8 +21,8 @@ pub enum Answer {
     Flow(Flow<'static>),
     /// A detach [2.7.7].
     Detach(Detach<'static>),
-    /// What [`crate::Session::write_attach_reply`] writes [2.6.3].
+    /// What [`crate::write_attach_reply`] writes [2.6.3].
     Attach,
-    /// What [`crate::refusal_reply`] gives, and behind it this detach [2.6.3].
+    /// What [`crate::refusal_reply`] returns, and then this detach [2.6.3].
     Refusal(Detach<'static>),
 }

@@ -4,7 +4,7 @@ ghost use Rattle.amqp_session.specs.declared.fault.SessionFault.TheVariants.{NoM
 
 use std::alloc::AllocError;
 
-/// Why a session refuses a frame. The session is then as it was.
+/// Why a session refuses a frame. The session is unchanged.
 #[derive(Clone, Copy, Debug, PartialEq, Eq)]
 pub enum SessionFault {
     /// A transfer came and the incoming window had no place left [2.5.6].
@@ -29,19 +29,19 @@ impl From<AllocError> for SessionFault {
     }
 }
 
-/// Why a session refuses a call. The session is then as it was.
+/// Why a session refuses a call. The session is unchanged.
 #[derive(Clone, Copy, Debug, PartialEq, Eq)]
 pub enum CallFault {
     /// No link is live at the handle.
     NoLink,
-    /// No open delivery has the id, or the first or the last of a range; or the last is behind the first.
+    /// No open delivery has the id, or one end of the range; or the last id is before the first.
     NoDelivery,
     /// The delivery, or one of them, was not handed up.
     NotTaken,
-    /// The sender was told what became of the delivery, or of one of them, which it has to settle.
+    /// The sender was already told what became of the delivery, or of one of them, and has to settle it.
     AlreadyTold,
-    /// One of the deliveries is in mode first, and another in mode second: a disposition says of all that they are
-    /// settled, or of none [2.7.6, 2.8.3].
+    /// One of the deliveries is in mode first, and another in mode second. A disposition says either of all
+    /// that they are settled, or of none [2.7.6, 2.8.3].
     MixedModes,
     /// No delivery of the link is ready.
     NothingReady,

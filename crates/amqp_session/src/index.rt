@@ -11,22 +11,22 @@ use std::alloc::{AllocError, Allocator, Global};
 use std::collections::{BTreeMap, VecDeque};
 use std::marker::Model;
 
-/// Where an open delivery is kept.
+/// Where an open delivery is stored.
 #[derive(Clone, Copy, Drop)]
 pub struct Kept {
     /// The handle of its link.
     pub handle: u32,
-    /// Its key there.
+    /// Its key in that link.
     pub key: usize,
 }
 
 /// The open deliveries of a session by their ids.
 ///
-/// The one that began last stands beside the others as long as it is open, so that it takes no memory and no search where it
-/// is closed before the next begins.
+/// The delivery that began last is stored beside the others while it is open. So it takes no memory and no
+/// search if it is closed before the next one begins.
 #[derive(Drop)]
 pub struct Index<A: Allocator + Copy = Global> {
-    /// The one that began last, if it is open, with its id.
+    /// The delivery that began last, if it is open, with its id.
     newest: Option<(u32, Kept)>,
     /// The others.
     older: Older<A>,
@@ -46,7 +46,7 @@ impl<A: Allocator + Copy> Model for Index<A> {
 }
 
 impl<A: Allocator + Copy> Index<A> {
-    /// None is open.
+    /// Returns an index with no open delivery.
     pub fn new(alloc: A) -> Self
         ensures { result ≡ [] }
     {
@@ -56,8 +56,8 @@ impl<A: Allocator + Copy> Index<A> {
         }
     }
 
-    /// Where the one with this id is kept.
-    // For `telemetry` and `gateway` (docs/PERF.md).
+    /// Returns where the delivery with this id is stored; `None` if there is none.
+    // Inlined for `telemetry` and `gateway` (docs/PERF.md).
     #[inline(always)]
     pub fn get(&self, id: u32) -> Option<Kept>
         ensures { result ≡ found self.now id }
@@ -70,7 +70,7 @@ impl<A: Allocator + Copy> Index<A> {
         self.older.get(id)
     }
 
-    /// Whether one has this id. An id above all others is known to be none of them at once.
+    /// Returns whether an open delivery has this id. For an id above all others the answer needs no search.
     pub fn has(&self, id: u32) -> bool
         ensures { result ≡ is_some (found self.now id) }
     {
@@ -82,7 +82,7 @@ impl<A: Allocator + Copy> Index<A> {
         !self.older.all_below(id) && self.older.get(id).is_some()
     }
 
-    /// What was told of a flow of a link, which was this one if it ended.
+    /// Updates the index after a flow: the ids of a link that failed go. `ended` is that link.
     pub fn flowed(&mut self, report: Report, ended: Option<KeptLink<A>>)
         ensures { (id : ℕ) → id < 2 ^ 32 → found self.new id ≡ told_of report ended id (found self.old id) }
     {
@@ -91,7 +91,8 @@ impl<A: Allocator + Copy> Index<A> {
         }
     }
 
-    /// A delivery begins. The one that began before it is put to the others.
+    /// Adds a delivery that begins; the one that began before it goes to the others. If memory is refused,
+    /// nothing has changed.
     pub fn insert(&mut self, id: u32, kept: Kept) -> Result<(), AllocError>
         requires { found self.old id ≡ None }
         ensures ok { OnOk result (IsPut self.old self.new id (Some kept)) }
@@ -104,8 +105,8 @@ impl<A: Allocator + Copy> Index<A> {
         Ok(())
     }
 
-    /// It is open no longer.
-    // For `telemetry` and `gateway` (docs/PERF.md).
+    /// Removes the delivery with this id, if there is one: it is open no longer.
+    // Inlined for `telemetry` and `gateway` (docs/PERF.md).
     #[inline(always)]
     pub fn remove(&mut self, id: u32)
         ensures { IsPut self.old self.new id None }
@@ -119,7 +120,7 @@ impl<A: Allocator + Copy> Index<A> {
         self.older.remove(id);
     }
 
-    /// The one with this id is open no longer, if it is closed.
+    /// Removes the delivery with this id if `closed` is true.
     pub fn close(&mut self, id: u32, closed: bool)
         ensures { (q : ℕ) → q < 2 ^ 32 → found self.new q ≡ closed_of closed id q (found self.old q) }
     {
@@ -128,7 +129,7 @@ impl<A: Allocator + Copy> Index<A> {
         }
     }
 
-    /// Those of a link that ended are open no longer, if one ended.
+    /// Removes the deliveries of a link that ended, if one ended.
     pub fn forget_link(&mut self, ended: Option<KeptLink<A>>)
         ensures { (id : ℕ) → id < 2 ^ 32 → found self.new id ≡ gone_of (ids_of ended) id (found self.old id) }
     {
@@ -141,7 +142,7 @@ impl<A: Allocator + Copy> Index<A> {
         }
     }
 
-    /// The next one from this id on, up to the last.
+    /// Returns the delivery with the least id from `from` to `last`; `None` if there is none.
     pub fn next(&self, from: u32, last: u32) -> Option<(u32, Kept)>
         requires { from ≤ last }
         ensures { IsNext self.now from last result }
@@ -158,7 +159,7 @@ impl<A: Allocator + Copy> Index<A> {
     }
 }
 
-/// Whether an id is less than that of another, if there is another.
+/// Returns whether an id is less than that of another delivery, if there is another.
 pub fn is_before(id: u32, other: Option<(u32, Kept)>) -> bool
     ensures { result ≡ is_before id other }
 {
@@ -168,8 +169,10 @@ pub fn is_before(id: u32, other: Option<(u32, Kept)>) -> bool
     }
 }
 
-/// Open deliveries by their ids. Those that began under rising ids stand one behind the other, as many as one link can have,
-/// so that they are found, and gone through, without a search; the others in a tree.
+/// Open deliveries by their ids.
+///
+/// Those that began with rising ids are stored in a queue, about as many as one link can have, so that most are
+/// found and gone through without a search. The others are in a tree.
 #[derive(Drop)]
 pub struct Older<A: Allocator + Copy = Global> {
     recent: Recent<A>,
@@ -190,7 +193,7 @@ impl<A: Allocator + Copy> Model for Older<A> {
 }
 
 impl<A: Allocator + Copy> Older<A> {
-    /// There is none. Takes no memory.
+    /// Returns an empty one. Takes no memory.
     pub fn new(alloc: A) -> Self
         ensures { result ≡ [] }
     {
@@ -200,7 +203,7 @@ impl<A: Allocator + Copy> Older<A> {
         }
     }
 
-    /// Where the one with this id is kept.
+    /// Returns where the delivery with this id is stored; `None` if there is none.
     pub fn get(&self, id: u32) -> Option<Kept>
         ensures { result ≡ found self.now id }
     {
@@ -210,14 +213,15 @@ impl<A: Allocator + Copy> Older<A> {
         }
     }
 
-    /// Whether all ids are below this one, as far as that is known at once.
+    /// Returns true only if all ids are below this one. It looks at no id but the last, so it may miss that
+    /// this is so.
     pub fn all_below(&self, id: u32) -> bool
         ensures { result ≡ true → found self.now id ≡ None }
     {
         self.recent.is_above(id) && self.rest.is_empty()
     }
 
-    /// One is put in that is not there.
+    /// Adds a delivery whose id is not there. If memory is refused, nothing has changed.
     pub fn insert(&mut self, id: u32, kept: Kept) -> Result<(), AllocError>
         requires { found self.old id ≡ None }
         ensures ok { OnOk result (IsPut self.old self.new id (Some kept)) }
@@ -231,7 +235,7 @@ impl<A: Allocator + Copy> Older<A> {
         Ok(())
     }
 
-    /// The one with this id is taken out, if there is one.
+    /// Removes the delivery with this id, if there is one.
     pub fn remove(&mut self, id: u32)
         ensures { IsPut self.old self.new id None }
     {
@@ -240,7 +244,7 @@ impl<A: Allocator + Copy> Older<A> {
         }
     }
 
-    /// The next one from this id on, up to the last.
+    /// Returns the delivery with the least id from `from` to `last`; `None` if there is none.
     pub fn next(&self, from: u32, last: u32) -> Option<(u32, Kept)>
         requires { from ≤ last }
         ensures { IsNext self.now from last result }
@@ -259,7 +263,8 @@ impl<A: Allocator + Copy> Older<A> {
         }
     }
 
-    /// The first of the recent ones goes to the rest where they are as many as they may be, if there is memory for it.
+    /// Moves the first of the recent deliveries to the rest if there are as many as allowed, and if there is
+    /// memory for that.
     fn make_room(&mut self)
         ensures { FindsAlike self.old self.new }
     {
@@ -275,18 +280,20 @@ impl<A: Allocator + Copy> Older<A> {
     }
 }
 
-/// How many places there are to be at most: as many as one link can have open.
+/// The most places that the queue should have: as many as one link can have open.
 const MOST: usize = 1_024;
 
-/// A delivery that began, and where it is kept as long as it is open.
+/// A delivery that began, and where it is stored while it is open.
 #[derive(Clone, Copy, Drop)]
 struct Begun {
     id: u32,
     kept: Option<Kept>,
 }
 
-/// The last deliveries that began under rising ids, in their order. One that closes leaves its place as it is, so that the
-/// others stay where they are; the first places are given back as soon as they are closed, and all memory with the last.
+/// The last deliveries that began with rising ids, in that order.
+///
+/// A delivery that closes leaves its place closed, so that the others don't move. Closed places at the front
+/// are given back at once, and all memory with the last place.
 #[derive(Drop)]
 pub struct Recent<A: Allocator + Copy = Global> {
     begun: VecDeque<Begun, A>,
@@ -306,7 +313,7 @@ impl<A: Allocator + Copy> Model for Recent<A> {
 }
 
 impl<A: Allocator + Copy> Recent<A> {
-    /// There is none. Takes no memory.
+    /// Returns an empty one. Takes no memory.
     pub fn new(alloc: A) -> Self
         ensures { result ≡ [] }
     {
@@ -315,7 +322,7 @@ impl<A: Allocator + Copy> Recent<A> {
         }
     }
 
-    /// Whether an id is greater than all that have a place.
+    /// Returns whether an id is greater than all that have a place.
     pub fn is_above(&self, id: u32) -> bool
         ensures { IsTrue result ↔ AreBelow id (length self.now) self.now }
     {
@@ -325,32 +332,32 @@ impl<A: Allocator + Copy> Recent<A> {
         }
     }
 
-    /// Whether no place is left.
+    /// Returns whether no place is left.
     pub fn is_full(&self) -> bool
         ensures { result ≡ nat_le MOST (length self.now) }
     {
         self.len() >= MOST
     }
 
-    /// Where the open one with this id is kept.
+    /// Returns where the open delivery with this id is stored; `None` if there is none.
     pub fn get(&self, id: u32) -> Option<Kept>
         ensures { result ≡ found (open_of self.now) id }
     {
-        let _ = &self.begun; // the ids rise
+        let _ = &self.begun; // the invariant: the ids rise
         let begun = self.begun_at(self.place_of(id))?;
         if begun.id == id { begun.kept } else { None }
     }
 
-    /// Where the open one with this id is kept, if it stands where it is guessed.
+    /// Returns where the open delivery with this id is stored, if it is at the guessed place.
     fn guessed(&self, id: u32) -> Option<Kept>
         ensures { IfSome result (λ kept. found (open_of self.now) id ≡ Some kept) }
     {
-        let _ = &self.begun; // the ids rise
+        let _ = &self.begun; // the invariant: the ids rise
         let begun = self.begun_at(self.guess(id))?;
         if begun.id == id { begun.kept } else { None }
     }
 
-    /// One begins.
+    /// Adds a delivery that begins. If memory is refused, nothing has changed.
     pub fn push(&mut self, id: u32, kept: Kept) -> Result<(), AllocError>
         requires { AreBelow id (length self.old) self.old }
         ensures ok { OnOk result (IsPut (open_of self.old) (open_of self.new) id (Some kept)) }
@@ -363,12 +370,12 @@ impl<A: Allocator + Copy> Recent<A> {
         Ok(())
     }
 
-    /// The one with this id is open no longer. True where it was.
+    /// Removes the open delivery with this id. Returns whether there was one.
     pub fn remove(&mut self, id: u32) -> bool
         ensures left { IsPut (open_of self.old) (open_of self.new) id None }
         ensures was { result ≡ is_some (found (open_of self.old) id) }
     {
-        let _ = &self.begun; // the ids rise
+        let _ = &self.begun; // the invariant: the ids rise
         let place = self.place_of(id);
         if !self.close(place, id) {
             return false;
@@ -377,11 +384,11 @@ impl<A: Allocator + Copy> Recent<A> {
         true
     }
 
-    /// The next open one from this id on, up to the last.
+    /// Returns the open delivery with the least id from `from` to `last`; `None` if there is none.
     pub fn next(&self, from: u32, last: u32) -> Option<(u32, Kept)>
         ensures { IsNext (open_of self.now) from last result }
     {
-        let _ = &self.begun; // the ids rise
+        let _ = &self.begun; // the invariant: the ids rise
         let mut place = self.place_of(from);
         while let Some(begun) = self.begun_at(place) {
             if last < begun.id {
@@ -395,21 +402,21 @@ impl<A: Allocator + Copy> Recent<A> {
         None
     }
 
-    /// How many places are in use.
+    /// Returns how many places are in use.
     fn len(&self) -> usize
         ensures { result ≡ length self.now }
     {
         self.begun.len()
     }
 
-    /// What stands at a place.
+    /// Returns what is at a place; `None` after the last place.
     fn begun_at(&self, place: usize) -> Option<Begun>
         ensures { result ≡ slice_get self.now place }
     {
         self.begun.get(place).copied()
     }
 
-    /// The one at this place is open no longer, if it has this id. True where it was.
+    /// Closes the place if it has this id and is open. Returns whether it did; else nothing has changed.
     fn close(&mut self, place: usize, id: u32) -> bool
         ensures closed { result ≡ true → IsClosed self.old self.new place id }
         ensures same { result ≡ false → self.new ≡ self.old }
@@ -425,7 +432,7 @@ impl<A: Allocator + Copy> Recent<A> {
         true
     }
 
-    /// The first places that are closed are given back.
+    /// Gives back the closed places at the front, and all memory with the last place.
     fn give_back(&mut self)
         ensures { open_of self.new ≡ open_of self.old }
     {
@@ -437,7 +444,7 @@ impl<A: Allocator + Copy> Recent<A> {
         }
     }
 
-    /// Whether the first place is closed.
+    /// Returns whether the first place is closed.
     fn starts_closed(&self) -> bool
         ensures { result ≡ is_closed_at (slice_get self.now 0) }
     {
@@ -447,11 +454,12 @@ impl<A: Allocator + Copy> Recent<A> {
         }
     }
 
-    /// The first place whose id is this one or greater. Where the ids came one after the other, it is where it is guessed.
+    /// Returns the first place whose id is this one or greater. If the ids came one after the other, the guess
+    /// finds it.
     fn place_of(&self, id: u32) -> usize
         ensures { IsPlaceOf id self.now result }
     {
-        let _ = &self.begun; // the ids rise
+        let _ = &self.begun; // the invariant: the ids rise
         let guess = self.guess(id);
         if self.has_at(guess, id) {
             return guess;
@@ -462,7 +470,7 @@ impl<A: Allocator + Copy> Recent<A> {
         self.search(id)
     }
 
-    /// How far an id is from the first.
+    /// Guesses the place of an id: its distance from the first id.
     fn guess(&self, id: u32) -> usize {
         match self.begun.front() {
             Some(first) => id.saturating_sub(first.id) as usize,
@@ -470,7 +478,7 @@ impl<A: Allocator + Copy> Recent<A> {
         }
     }
 
-    /// Whether the place has this id.
+    /// Returns whether the place has this id.
     fn has_at(&self, place: usize, id: u32) -> bool
         ensures { result ≡ has_id_at id (slice_get self.now place) }
     {
@@ -480,11 +488,11 @@ impl<A: Allocator + Copy> Recent<A> {
         }
     }
 
-    /// The same, looked for between all.
+    /// Returns the first place whose id is this one or greater, by a binary search.
     fn search(&self, id: u32) -> usize
         ensures { IsPlaceOf id self.now result }
     {
-        let _ = &self.begun; // the ids rise
+        let _ = &self.begun; // the invariant: the ids rise
         let (mut low, mut high) = (0, self.len());
         while low < high {
             let middle = low + (high - low) / 2;
@@ -497,7 +505,7 @@ impl<A: Allocator + Copy> Recent<A> {
         low
     }
 
-    /// Whether the place has a lesser id.
+    /// Returns whether the place has a lesser id.
     fn is_below(&self, place: usize, id: u32) -> bool
         ensures { result ≡ is_lesser_at id (slice_get self.now place) }
     {
@@ -508,7 +516,7 @@ impl<A: Allocator + Copy> Recent<A> {
     }
 }
 
-/// Open deliveries by their ids, in the order of these as plain numbers.
+/// Open deliveries in the order of their ids as plain numbers.
 #[derive(Drop)]
 pub struct Tree<A: Allocator + Copy = Global> {
     entries: BTreeMap<u32, Kept, A>,
@@ -524,7 +532,7 @@ impl<A: Allocator + Copy> Model for Tree<A> {
 }
 
 impl<A: Allocator + Copy> Tree<A> {
-    /// There is none. Takes no memory.
+    /// Returns an empty one. Takes no memory.
     pub fn new(alloc: A) -> Self
         ensures { result ≡ [] }
     {
@@ -533,21 +541,21 @@ impl<A: Allocator + Copy> Tree<A> {
         }
     }
 
-    /// Where the one with this id is kept.
+    /// Returns where the delivery with this id is stored; `None` if there is none.
     pub fn get(&self, id: u32) -> Option<Kept>
         ensures { result ≡ found self.now id }
     {
         self.entries.get(&id).copied()
     }
 
-    /// Whether it has none.
+    /// Returns whether there is none.
     pub fn is_empty(&self) -> bool
         ensures { IsTrue result ↔ (self.now ≡ []) }
     {
         self.entries.is_empty()
     }
 
-    /// One is put in.
+    /// Adds a delivery, in place of one with the same id. If memory is refused, nothing has changed.
     pub fn insert(&mut self, id: u32, kept: Kept) -> Result<(), AllocError>
         ensures ok { OnOk result (IsPut self.old self.new id (Some kept)) }
         ensures err { OnErr result (self.new ≡ self.old) }
@@ -556,14 +564,14 @@ impl<A: Allocator + Copy> Tree<A> {
         Ok(())
     }
 
-    /// The one with this id is taken out, if there is one.
+    /// Removes the delivery with this id, if there is one.
     pub fn remove(&mut self, id: u32)
         ensures { IsPut self.old self.new id None }
     {
         self.entries.remove(&id);
     }
 
-    /// The next one from this id on, up to the last.
+    /// Returns the delivery with the least id from `from` to `last`; `None` if there is none.
     pub fn next(&self, from: u32, last: u32) -> Option<(u32, Kept)>
         requires { from ≤ last }
         ensures { IsNext self.now from last result }

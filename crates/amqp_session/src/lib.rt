@@ -1,11 +1,11 @@
 //! One session that receives: its window, its links by handle, and what each frame does to them [2.5, 2.6].
 //!
-//! [`Session::begin`], then for each frame of the peer the call for its performative, or [`Session::frame`]; and
-//! the calls of the application: [`Session::widen`], [`Session::grant`], [`Session::drain`], [`Session::take`],
-//! [`Session::settle`], [`Session::settle_range`] and [`Session::detach`]. `specs/Sessions.antt` has the state and
-//! what each event does to it, `specs/Faults.antt` and `specs/Calls.antt` which event a frame and a call are, or why
-//! they are refused.
-//! The tests stand in `test_layer_rows`.
+//! Begin with `session.rt`. [`Session::begin`] makes a session. Each frame of the peer goes to the call for its
+//! performative, or to [`Session::frame`]. The calls of the application are [`Session::widen`],
+//! [`Session::grant`], [`Session::drain`], [`Session::take`], [`Session::settle`], [`Session::settle_range`]
+//! and [`Session::detach`]. `specs/Sessions.antt` has the state and what each event does to it;
+//! `specs/Faults.antt` and `specs/Calls.antt` say which event a frame or a call is, or why it is refused. The
+//! tests are in `test_layer_rows`.
 #![tactic(auto)]
 
 mod done;

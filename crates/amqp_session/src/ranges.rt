@@ -1,4 +1,4 @@
-//! What the receiver settles: one delivery by its id, or those of a range of ids [2.7.6].
+//! Settles by the receiver: of one delivery by its id, or of those with a range of ids [2.7.6].
 ghost use Rattle.std.specs.Prelude.{◌≡◌, ◌≤◌, ◌<◌, ◌+◌, ◌^◌, ◌||◌, not, Some, None, OnOk, IfOk, IfErr};
 ghost use Rattle.amqp_serial.specs.Numbers.{distance_of};
 ghost use Rattle.amqp_link.specs.Links.{IsAwaiting};
@@ -17,18 +17,18 @@ use amqp_link::{Standing, laws};
 use amqp_serial::Serial;
 use std::alloc::Allocator;
 
-/// What a settle of a range of ids names.
+/// The deliveries that a settle of a range of ids names.
 #[derive(Clone, Copy, Debug)]
 pub struct Named {
-    /// The deliveries are in mode first: they are settled by it [2.8.3].
+    /// The deliveries are in mode first (rcv-settle-mode), so that the settle ends them [2.8.3].
     pub settled: bool,
-    /// How many they are.
+    /// How many there are.
     pub count: u32,
 }
 
-/// The receiver settles the open delivery with this id, which is kept so if it is open, where it awaits that. Answers how
-/// it stood.
-// For `telemetry` and `gateway` (docs/PERF.md).
+/// Settles for the receiver the delivery with this id, stored where `kept` says if it is open, if it awaits
+/// that. Returns how it stood; if it did not await a settle, nothing has changed.
+// Inlined for `telemetry` and `gateway` (docs/PERF.md).
 #[inline(always)]
 fn settle_at<A: Allocator + Copy>(state: &mut State<A>, kept: Kept, id: u32) -> Standing
     requires apart { IsApart state.old }
@@ -43,9 +43,10 @@ fn settle_at<A: Allocator + Copy>(state: &mut State<A>, kept: Kept, id: u32) -> 
     }
 }
 
-/// The receiver settles the open delivery with this id, which is kept so, where it awaits that. What is open no longer is
-/// taken out of the index. Answers how it stood.
-// For `telemetry` and `gateway` (docs/PERF.md).
+/// Settles for the receiver the open delivery with this id, stored where `kept` says, if it awaits that. If it
+/// is then open no longer, it is taken out of the index. Returns how it stood; if it did not await a settle,
+/// the session has not changed.
+// Inlined for `telemetry` and `gateway` (docs/PERF.md).
 #[inline(always)]
 pub fn settle_one<A: Allocator + Copy>(
     state: &mut State<A>,
@@ -67,7 +68,8 @@ pub fn settle_one<A: Allocator + Copy>(
     standing
 }
 
-/// The receiver settles the open deliveries with the ids from `first` to `last` as plain numbers, one by one.
+/// Settles for the receiver, one by one, the open deliveries with the ids from `first` to `last` as plain
+/// numbers.
 fn settle_each<A: Allocator + Copy>(
     state: &mut State<A>,
     index: &mut Index<A>,
@@ -91,7 +93,8 @@ fn settle_each<A: Allocator + Copy>(
     }
 }
 
-/// The same of ids that go on behind the end of the ids.
+/// Settles for the receiver, one by one, the open deliveries with the ids from `first` to `last`. These may
+/// wrap round after the highest id.
 pub fn settle_ids<A: Allocator + Copy>(
     state: &mut State<A>,
     index: &mut Index<A>,
@@ -112,7 +115,7 @@ pub fn settle_ids<A: Allocator + Copy>(
     settle_each(state, index, 0, last);
 }
 
-/// How the open deliveries stand that have the ids from `first` to `last` as plain numbers.
+/// Counts how the open deliveries stand that have the ids from `first` to `last` as plain numbers.
 fn survey_each<A: Allocator + Copy>(
     index: &Index<A>,
     state: &State<A>,
@@ -137,7 +140,8 @@ fn survey_each<A: Allocator + Copy>(
     survey
 }
 
-/// The same of ids that go on behind the end of the ids.
+/// Counts how the open deliveries stand that have the ids from `first` to `last`, which may wrap round after
+/// the highest id.
 fn survey_ids<A: Allocator + Copy>(
     index: &Index<A>,
     state: &State<A>,
@@ -157,16 +161,16 @@ fn survey_ids<A: Allocator + Copy>(
     high.joined(low)
 }
 
-/// Whether an open delivery has this id.
+/// Returns whether an open delivery has this id.
 fn is_open<A: Allocator + Copy>(index: &Index<A>, state: &State<A>, id: u32) -> bool
     requires { IsKnown index.now state.now }
     ensures { result ≡ not (is_absent (standing_in id state.now.links)) }
 {
-    let _ = state; // the index speaks of it
+    let _ = state; // `IsKnown` relates it to the index
     index.get(id).is_some()
 }
 
-/// Whether both ids are those of open deliveries, and the last is not behind the first.
+/// Returns whether both ids belong to open deliveries, and `last` is not before `first`.
 fn has_ends<A: Allocator + Copy>(index: &Index<A>, state: &State<A>, first: u32, last: u32) -> bool
     requires { IsKnown index.now state.now }
     ensures { result ≡ not (is_absent (standing_in first state.now.links) || is_absent (standing_in last state.now.links) || is_behind first last) }
@@ -177,7 +181,7 @@ fn has_ends<A: Allocator + Copy>(index: &Index<A>, state: &State<A>, first: u32,
     Serial(first).distance(Serial(last)) < 1 << 31
 }
 
-/// What a settle of the ids from `first` to `last` names, or why it is refused.
+/// Returns which deliveries a settle of the ids from `first` to `last` names, or why it is refused.
 pub fn judge<A: Allocator + Copy>(
     index: &Index<A>,
     state: &State<A>,

@@ -1,4 +1,4 @@
-//! Why a link is refused that attaches without fault.
+//! Why a link whose attach has no fault is refused.
 ghost use Rattle.std.specs.Prelude.{◌≡◌, ◌≤◌, ◌<◌, ◌+◌, length, true, false, not, nat_lt, None, [], IsTrue, ◌↔◌};
 ghost use Rattle.amqp_perform.specs.Frames.{frame_of as written_frame, FitsFrame};
 ghost use Rattle.amqp_types.specs.Reading.{value_of};
@@ -14,14 +14,16 @@ use amqp_perform::{Attach, Condition, Performative, Role, write_frame};
 use amqp_types::laws::reading_is_exact;
 use amqp_types::{Kind, Peek, peek, skip};
 
-/// The longest source and target, together, that are kept.
+/// The longest source and target together, in bytes.
 const MAX_ENDS: usize = 1024;
 
-/// No answer to an attach is longer, with a name of 255 bytes, and source and target of 1024.
+/// No answer to an attach is longer if its name has at most 255 bytes, and source and target together at most
+/// 1024.
 const MAX_REPLY: usize = 1400;
 
-/// Why the link is refused: this side would be its sender, or the coordinator of transactions; source and target
-/// are too long; or the answer does not fit a frame of the peer [2.6.3, 2.7.1, 2.7.3].
+/// Returns the first reason to refuse a link; `None` if there is none [2.6.3, 2.7.1, 2.7.3]. `NotImplemented`:
+/// this side would be its sender, or the coordinator of transactions. `ResourceLimitExceeded`: source and
+/// target are too long. `FrameSizeTooSmall`: the answer does not fit a frame of the peer.
 pub fn refusal(terms: &SessionTerms, attach: &Attach<'_>, bounds: LinkBounds) -> Option<Condition>
     requires { length attach.now.name.now ≤ 255 }
     ensures { result ≡ refusal terms.now (attaching attach.now bounds) }
@@ -38,7 +40,7 @@ pub fn refusal(terms: &SessionTerms, attach: &Attach<'_>, bounds: LinkBounds) ->
     None
 }
 
-/// Whether the answer to an attach fits a frame of the peer.
+/// Returns whether the answer to an attach fits a frame of the peer.
 fn fits(terms: &SessionTerms, attach: &Attach<'_>, bounds: LinkBounds) -> bool
     requires name { length attach.now.name.now ≤ 255 }
     requires ends { length attach.now.source.now + length attach.now.target.now ≤ 1024 }
@@ -60,7 +62,7 @@ fn fits(terms: &SessionTerms, attach: &Attach<'_>, bounds: LinkBounds) -> bool
     is_written(&Performative::Attach(reply), room)
 }
 
-/// Whether a performative fits a frame of so many bytes.
+/// Returns whether a performative fits a frame of `room` bytes.
 fn is_written(performative: &Performative<'_>, room: usize) -> bool
     requires { room ≤ 1400 }
     ensures { IsTrue result ↔ FitsFrame (written_frame 0 performative.now []) room }
@@ -69,7 +71,7 @@ fn is_written(performative: &Performative<'_>, room: usize) -> bool
     write_frame(0, performative, &[], &mut out[..room]).is_some()
 }
 
-/// Whether a target describes a coordinator of transactions.
+/// Returns whether a target describes a coordinator of transactions.
 fn is_coordinator(target: &[u8]) -> bool
     ensures { result ≡ is_coordinator target.now }
 {
@@ -79,8 +81,8 @@ fn is_coordinator(target: &[u8]) -> bool
     }
 }
 
-/// Whether the bytes begin with the type of a coordinator: the ulong 0x30 or its symbol, in any spelling
-/// [part 4, 4.5.1].
+/// Returns whether the bytes begin with the type of a coordinator: the ulong 0x30 or its symbol, in any
+/// spelling [part 4, 4.5.1].
 fn names_coordinator(described: &[u8]) -> bool
     ensures { result ≡ is_coordinator_in (value_of 31 None described.now) }
 {
@@ -90,7 +92,7 @@ fn names_coordinator(described: &[u8]) -> bool
     }
 }
 
-/// The same of bytes that begin with a value.
+/// Returns whether bytes that begin with a value begin with the type of a coordinator.
 fn is_coordinator_type(described: &[u8]) -> bool
     requires { BeginsWithin 31 described.now }
     ensures { result ≡ is_coordinator_in (value_of 31 None described.now) }
@@ -99,7 +101,7 @@ fn is_coordinator_type(described: &[u8]) -> bool
     peeks_coordinator(peek(described))
 }
 
-/// The same of the outermost case of a value.
+/// Returns whether a value's outermost case is that of the type of a coordinator.
 fn peeks_coordinator(value: Peek<'_>) -> bool
     ensures { result ≡ peeks_coordinator value.entry }
 {

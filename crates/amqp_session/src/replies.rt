@@ -1,4 +1,4 @@
-//! What a session says in answer.
+//! What a session writes in answer.
 ghost use Rattle.std.specs.Prelude.{◌≡◌, ℕ, [], true, false};
 ghost use Rattle.amqp_perform.specs.Frames.{IsWritten};
 ghost use Rattle.amqp_link.specs.Bounds.{Bounds};
@@ -16,7 +16,7 @@ use amqp_perform::{
 };
 use amqp_types::{Kind, Peek, put};
 
-/// The flow of a session, which sends nothing [2.7.4].
+/// Makes the flow of a session, which sends nothing [2.7.4].
 pub fn session_flow(next_incoming_id: u32, window: u32) -> Flow<'static>
     ensures { said (performative.Flow result) ≡ flow_said next_incoming_id window }
 {
@@ -35,7 +35,7 @@ pub fn session_flow(next_incoming_id: u32, window: u32) -> Flow<'static>
     }
 }
 
-/// A detach without error [2.7.7].
+/// Makes a detach without error [2.7.7].
 pub fn detach(handle: u32, closed: bool) -> Detach<'static>
     ensures { said (performative.Detach result) ≡ detach_said handle closed [] }
 {
@@ -46,7 +46,7 @@ pub fn detach(handle: u32, closed: bool) -> Detach<'static>
     }
 }
 
-/// The detach with which this side ends a link with an error [2.6.5].
+/// Makes the detach with which this side ends a link with an error [2.6.5].
 pub fn failure(handle: u32, condition: Condition) -> Detach<'static>
     ensures { said (performative.Detach result) ≡ failure_said handle condition }
 {
@@ -57,7 +57,7 @@ pub fn failure(handle: u32, condition: Condition) -> Detach<'static>
     }
 }
 
-/// What became of the deliveries with the ids from `first` to `last` [2.7.6].
+/// Makes the disposition that says what became of the deliveries with the ids from `first` to `last` [2.7.6].
 pub fn disposition(first: u32, last: u32, settled: bool, outcome: Outcome) -> Disposition<'static>
     ensures { said (performative.Disposition result) ≡ disposition_said first last settled outcome }
 {
@@ -72,7 +72,7 @@ pub fn disposition(first: u32, last: u32, settled: bool, outcome: Outcome) -> Di
     }
 }
 
-/// The role of this side, where that is the peer's [2.8.1].
+/// Returns the role of this side, given the peer's [2.8.1].
 fn other_role(role: Role) -> Role
     ensures { result ≡ other_role role }
 {
@@ -82,8 +82,9 @@ fn other_role(role: Role) -> Role
     }
 }
 
-/// Writes the frame that answers an attach that was accepted at the front of `out`, with the longest message that its link
-/// accepts [2.6.3, 2.7.3]. Answers its length; `None`, with `out` unchanged, where it does not fit.
+/// Writes the frame that answers an accepted attach at the front of `out`, with the longest message that its
+/// link accepts [2.6.3, 2.7.3]. Returns the frame's length in bytes; `None`, with `out` unchanged, if it does
+/// not fit.
 pub fn write_attach_reply(
     channel: u16,
     attach: &Attach<'_>,
@@ -104,7 +105,7 @@ pub fn write_attach_reply(
     write_frame(channel, &Performative::Attach(reply), &[], out)
 }
 
-/// What an attach says beside its texts.
+/// What an attach states besides its texts.
 #[derive(Clone, Copy)]
 pub struct Modes {
     handle: u32,
@@ -114,7 +115,7 @@ pub struct Modes {
 }
 
 impl Modes {
-    /// Those of an attach.
+    /// Returns the modes of an attach.
     pub fn of(attach: &Attach<'_>) -> Modes
         ensures { result ≡ record { handle = attach.now.handle; role = attach.now.role; snd_settle_mode = attach.now.snd_settle_mode; rcv_settle_mode = attach.now.rcv_settle_mode } }
     {
@@ -127,7 +128,7 @@ impl Modes {
     }
 }
 
-/// The answer to an attach with these texts, and the longest message spelled so.
+/// Makes the answer to an attach with these texts, and with the longest message encoded in `spelled`.
 pub fn accepted<'a>(
     name: &'a str,
     source: &'a [u8],
@@ -155,7 +156,7 @@ pub fn accepted<'a>(
     }
 }
 
-/// The shortest spelling of a number as a ulong, put into `scratch` [1.6.6].
+/// Returns the shortest encoding of a number as a ulong, written into `scratch` [1.6.6].
 pub fn ulong(number: u32, scratch: &mut [u8; 9]) -> &[u8]
     ensures { result.now ≡ canonical (Number Kind.Ulong number) }
 {
@@ -165,8 +166,8 @@ pub fn ulong(number: u32, scratch: &mut [u8; 9]) -> &[u8]
     }
 }
 
-/// The attach of a link that is refused: it has neither source nor target, and a sender's states an
-/// initial-delivery-count [2.6.3, 2.7.3].
+/// Makes the answer to the attach of a link that is refused: it has neither source nor target. If this side
+/// would be the sender, it states an initial-delivery-count [2.6.3, 2.7.3].
 pub fn refusal_reply<'a>(attach: &Attach<'a>) -> Attach<'a>
     ensures { (b : Bounds) → said (performative.Attach result) ≡ refusal_said (attaching attach.now b) }
 {

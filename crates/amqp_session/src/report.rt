@@ -1,11 +1,11 @@
-//! What a session tells of a frame.
+//! What a session reports of a frame.
 
 use amqp_perform::Condition;
 
 /// What a frame that was accepted did.
 #[derive(Clone, Copy, Debug, PartialEq, Eq)]
 pub enum Report {
-    /// Nothing that has to be told.
+    /// Nothing that has to be reported.
     Nothing,
     /// A link attached [2.6.3].
     Attached {
@@ -27,16 +27,17 @@ pub enum Report {
     Drained {
         handle: u32,
     },
-    /// The sender settled so many deliveries, at least one [2.7.6].
+    /// The sender settled `count` deliveries, at least one [2.7.6].
     Settled {
         count: u32,
     },
-    /// The peer detached the link, and so many ready deliveries were dropped [2.6.4, 2.6.6].
+    /// The peer detached the link, and `dropped` ready deliveries were dropped [2.6.4, 2.6.6].
     Detached {
         handle: u32,
         dropped: u32,
     },
-    /// This side ended the link with an error, and so many ready deliveries were dropped [2.6.5].
+    /// This side ended the link with an error, and `dropped` ready deliveries were dropped
+    /// [2.6.5].
     Failed {
         handle: u32,
         condition: Condition,

@@ -36,15 +36,15 @@ use std::alloc::{Allocator, Global};
 use std::marker::Model;
 
 /// One live session that receives: its window, its links by handle, and the deliveries that are open on them
-/// [2.5, 2.6]. No two open deliveries have one delivery-id.
+/// [2.5, 2.6]. No two open deliveries have the same delivery-id.
 ///
-/// What a peer's frame asks for is done by the call for its performative, or by [`Session::frame`]. A refused
-/// frame changes nothing; but for want of memory it ends the session, which is the caller's to do. What is to be
-/// written in answer is told, and is the caller's to write.
+/// A peer's frame is taken by the call for its performative, or by [`Session::frame`]. A refused frame changes
+/// nothing. Unless it is refused with `NoMemory`, it ends the session, which the caller has to do. The calls
+/// return what is to be written in answer, and the caller has to write it.
 #[derive(Drop)]
 pub struct Session<A: Allocator + Copy = Global> {
     state: State<A>,
-    /// Where the open deliveries are kept, by their ids.
+    /// Where the open deliveries are stored, by their ids.
     index: Index<A>,
 }
 
@@ -61,7 +61,8 @@ impl<A: Allocator + Copy> Model for Session<A> {
 }
 
 impl<A: Allocator + Copy> Session<A> {
-    /// A session at its begin, with no link [2.5.1]. Takes no memory. Its links take theirs from `alloc`.
+    /// Makes a session as it is at its begin, with no link [2.5.1]. Takes no memory. Its links take theirs from
+    /// `alloc`.
     pub fn begin(alloc: A, terms: SessionTerms) -> Self
         ensures { result ≡ session_begins terms }
     {
@@ -71,36 +72,36 @@ impl<A: Allocator + Copy> Session<A> {
         }
     }
 
-    /// What the session began with.
+    /// Returns what the session began with.
     pub fn terms(&self) -> &SessionTerms
         ensures { result.now ≡ self.now.terms }
     {
         self.state.terms()
     }
 
-    /// A law: no two open deliveries have one id [2.6.12].
+    /// A law: no two open deliveries have the same id [2.6.12].
     pub fn ids_are_apart(&self)
         ensures { IsApart self.now }
     {
-        let _ = &self.index; // what is known of every session
+        let _ = &self.index; // the invariant says so
     }
 
-    /// The places of the incoming window that are left [2.5.6].
+    /// Returns how many places of the incoming window are left [2.5.6].
     pub fn window(&self) -> u32
         ensures { result ≡ self.now.window }
     {
         self.state.window()
     }
 
-    /// The next-incoming-id [2.5.6], for a caller that shows it, or writes flows itself.
+    /// Returns the next-incoming-id [2.5.6], for a caller that shows it or writes flows itself.
     pub fn next_incoming_id(&self) -> u32
         ensures { result ≡ self.now.next_incoming_id }
     {
         self.state.next_incoming_id()
     }
 
-    /// The bytes that count as kept: 64 for the session, 128 for each handle in use, and of each live link its
-    /// name, source, target, and what its open deliveries hold.
+    /// Returns the bytes held: 64 for the session, 128 for each handle in use, and for each live link its name,
+    /// source, target, and what its open deliveries hold.
     pub fn held(&self) -> u64
         ensures value { result ≡ session_bytes self.now }
         ensures most { result < 2 ^ 52 }
@@ -109,22 +110,22 @@ impl<A: Allocator + Copy> Session<A> {
         state.held()
     }
 
-    /// The live link at a handle; `None` where none is.
+    /// Returns a view of the live link at a handle; `None` if none is live.
     pub fn link(&self, handle: u32) -> Option<LinkView<'_>>
         ensures { IsViewAt (slot_at self.now handle) result }
     {
         self.state.link(handle)
     }
 
-    /// The first handle from one on whose link has less credit than that, and is allowed more beside its credit and its
-    /// open deliveries [2.6.7]; `None` where no link does.
+    /// Returns the first handle, from `from` on, whose link has less credit than `credit` and can be granted
+    /// more [2.6.7]; `None` if there is none.
     pub fn first_lacking(&self, from: u32, credit: u32) -> Option<u32>
         ensures { IsFirstLacking credit from (slot_at self.now) result }
     {
         self.state.first_lacking(from, credit)
     }
 
-    /// How many deliveries are ready to be handed up, on all links.
+    /// Returns how many deliveries are ready to be handed up, on all links: at most 2^18.
     pub fn ready(&self) -> u32
         ensures value { result ≡ session_ready self.now }
         ensures most { result ≤ 2 ^ 18 }
@@ -132,22 +133,23 @@ impl<A: Allocator + Copy> Session<A> {
         self.state.ready()
     }
 
-    /// Drops the session with its links, and answers how many deliveries were ready and not handed up. For a caller that tells it.
+    /// Drops the session with its links, and returns how many deliveries were ready and not handed up.
     pub fn drop_all(self) -> u32
         ensures { result ≡ session_ready self }
     {
         self.state.ready()
     }
 
-    /// Takes an attach of the peer [2.6.3], whose handle is at most handle-max. Refused, with nothing changed,
-    /// with the first of these: `ResourceLimit` where the name has more than 255 bytes, `HandleInUse`,
-    /// `InvalidField` where a sender states no initial-delivery-count, and `NoMemory`.
+    /// Takes an attach of the peer [2.6.3]. Its handle must be at most handle-max.
     ///
-    /// `Attached` tells of a link, which [`crate::write_attach_reply`] answers. `Failed` tells of one that is
-    /// refused: [`crate::refusal_reply`] answers it, and behind that a detach; its handle stays in use until the
-    /// peer detaches it. A link is refused where this side would be its sender, or the coordinator of
-    /// transactions; where source and target have together more than 1024 bytes; and where the answer would not
-    /// fit a frame of the peer.
+    /// `Attached` reports a link, which [`crate::write_attach_reply`] answers. `Failed` reports a link that is
+    /// refused: the answer is [`crate::refusal_reply`], and then a detach; the handle stays in use until the
+    /// peer detaches it. A link is refused if this side would be its sender, or the coordinator of
+    /// transactions. It is also refused if source and target together have more than 1024 bytes, or if the
+    /// answer would not fit a frame of the peer.
+    ///
+    /// The first fault is returned, and nothing has changed: `ResourceLimit` if the name has more than 255
+    /// bytes, `HandleInUse`, `InvalidField` if a sender states no initial-delivery-count, `NoMemory`.
     pub fn attach(&mut self, attach: &Attach<'_>, bounds: LinkBounds) -> Result<Done, SessionFault>
         requires { attach.now.handle ≤ self.old.terms.handle_max }
         ensures may { OnOk result (SessionMay self.old (event_of self.old (Attaches (attaching attach.now bounds)))) }
@@ -166,13 +168,15 @@ impl<A: Allocator + Copy> Session<A> {
         Ok(attach_done(report))
     }
 
-    /// Takes a flow of the peer [2.7.4]: its next-outgoing-id is the next-incoming-id from now on, and leaves the
-    /// window as it is; of a link, its delivery-count is followed. A flow for a link that waits for the peer's
-    /// detach is dropped. Refused, with nothing changed, with `UnattachedHandle` alone.
+    /// Takes a flow of the peer [2.7.4]. Its next-outgoing-id becomes the next-incoming-id; the window stays as
+    /// it is. If it has a handle, the link follows its delivery-count. A flow for a link that waits for the
+    /// peer's detach is dropped.
     ///
-    /// `Drained` tells that the sender used its credit up, as it was asked to. `Failed` tells that it stated more
-    /// than its credit, and the link is ended by the detach that answers. Else an echo is answered by a flow: of
-    /// the link, if the flow has a handle, else of the session.
+    /// `Drained` reports that the sender used its credit up, as it was asked to. `Failed` reports that it
+    /// stated more than its credit; the answer is the detach that ends the link. Else an echo is answered by a
+    /// flow: of the link if the flow has a handle, else of the session.
+    ///
+    /// The only error is `UnattachedHandle`. Then nothing has changed.
     pub fn flow(&mut self, flow: &Flow<'_>) -> Result<Done, SessionFault>
         ensures may { OnOk result (SessionMay self.old (event_of self.old (Flows (flowing flow.now)))) }
         ensures new { OnOk result (self.new ≡ session_after self.old (event_of self.old (Flows (flowing flow.now)))) }
@@ -192,14 +196,17 @@ impl<A: Allocator + Copy> Session<A> {
         Ok(Done { report, answer })
     }
 
-    /// Takes a transfer of the peer with its payload [2.6.14]. It uses a place of the window and a number,
-    /// whatever comes of it, unless it is refused: with `WindowViolation` where no place is left, else with
-    /// `UnattachedHandle`, else with `NoMemory`; nothing is changed then. `NoMemory` is never answered to an
-    /// aborted transfer, nor to a later one of a delivery without payload.
+    /// Takes a transfer of the peer with its payload [2.6.14]. Unless it is refused, it uses a place of the
+    /// window and a number, whatever it results in.
     ///
-    /// A transfer for a link that waits for the peer's detach is dropped. `Failed` tells that it ended its link,
-    /// with the first of these: it resumes a delivery; it begins one under the id of an open one of the session;
-    /// what [`amqp_link::Link::transfer`] says. Then [`crate::failure`] is to be written.
+    /// A transfer for a link that waits for the peer's detach is dropped. `Failed` reports that the transfer
+    /// ended its link, and the caller has to write [`crate::failure`]. The reason is the first of these: it
+    /// resumes a delivery; it begins one with the id of an open delivery of the session; another fault of
+    /// [`amqp_link::Link::transfer`].
+    ///
+    /// The first fault is returned, and nothing has changed: `WindowViolation` if no place is left,
+    /// `UnattachedHandle`, `NoMemory`. `NoMemory` comes neither for an aborted transfer nor for a later one of
+    /// a delivery without payload.
     pub fn transfer(
         &mut self,
         transfer: &Transfer<'_>,
@@ -239,8 +246,9 @@ impl<A: Allocator + Copy> Session<A> {
         }
     }
 
-    /// Takes a disposition of the peer [2.7.6]: a sender's that settles settles what it covers, on all links.
-    /// `Settled` tells how many open deliveries it settles, where those are some. Any other does nothing.
+    /// Takes a disposition of the peer [2.7.6]. If it is a sender's and has settled true, it settles the
+    /// deliveries that it covers, on all links. `Settled` reports how many open deliveries it settles, if there
+    /// are any. Any other disposition does nothing.
     pub fn disposition(&mut self, disposition: &Disposition<'_>) -> Report
         ensures may { SessionMay self.old (event_of self.old (Disposes (disposing disposition.now))) }
         ensures new { self.new ≡ session_after self.old (event_of self.old (Disposes (disposing disposition.now))) }
@@ -251,9 +259,9 @@ impl<A: Allocator + Copy> Session<A> {
         dispose(&mut self.state, &mut self.index, disposition)
     }
 
-    /// Takes a detach of the peer: the handle is free [2.6.4, 2.6.6]. `Detached` tells how many ready deliveries
-    /// were dropped. It is answered by a detach with the same closed, unless this side sent the first. Refused,
-    /// with nothing changed, with `UnattachedHandle` alone.
+    /// Takes a detach of the peer: the handle is then free [2.6.4, 2.6.6]. `Detached` reports how many ready
+    /// deliveries were dropped. The answer is a detach with the same closed, unless this side sent the first
+    /// one. The only error is `UnattachedHandle`. Then nothing has changed.
     pub fn detached(&mut self, detach: &Detach<'_>) -> Result<Done, SessionFault>
         ensures may { OnOk result (SessionMay self.old (event_of self.old (Detaches detach.now.handle detach.now.closed))) }
         ensures new { OnOk result (self.new ≡ session_after self.old (event_of self.old (Detaches detach.now.handle detach.now.closed))) }
@@ -284,9 +292,9 @@ impl<A: Allocator + Copy> Session<A> {
         })
     }
 
-    /// Takes any frame of the session with its payload, as the call for its performative does. An open, a begin,
-    /// an end and a close are not for the session: they do nothing. An attach's handle is at most handle-max.
-    /// Refused, with nothing changed, with what that call says.
+    /// Takes any frame of the session with its payload, by the call for its performative. An open, a begin, an
+    /// end and a close do nothing: they are not for the session. An attach's handle must be at most handle-max.
+    /// The errors are those of that call. Then nothing has changed.
     pub fn frame(
         &mut self,
         performative: &Performative<'_>,
@@ -308,21 +316,22 @@ impl<A: Allocator + Copy> Session<A> {
         }
     }
 
-    /// Why [`Session::widen`] would be refused now; `None` where it would be accepted.
+    /// Returns why [`Session::widen`] would be refused now; `None` if it would be accepted.
     pub fn widen_fault(&self, n: u32) -> Option<CallFault>
         ensures { result ≡ call_fault self.now (Widen n) }
     {
         self.state.widen_fault(n)
     }
 
-    /// Why [`Session::grant`] would be refused now; `None` where it would be accepted.
+    /// Returns why [`Session::grant`] would be refused now; `None` if it would be accepted.
     pub fn grant_fault(&self, handle: u32, n: u32) -> Option<CallFault>
         ensures { result ≡ call_fault self.now (Grant handle n) }
     {
         self.state.grant_fault(handle, n)
     }
 
-    /// Why [`Session::drain`] and [`Session::detach`] would be refused now; `None` where they would be accepted.
+    /// Returns why [`Session::drain`] and [`Session::detach`] would be refused now; `None` if they would be
+    /// accepted.
     pub fn link_fault(&self, handle: u32) -> Option<CallFault>
         ensures drain { result ≡ call_fault self.now (Drain handle) }
         ensures detach { result ≡ call_fault self.now (DetachCall handle) }
@@ -330,14 +339,15 @@ impl<A: Allocator + Copy> Session<A> {
         self.state.link_fault(handle)
     }
 
-    /// Why [`Session::settle`] would be refused now, with any outcome; `None` where it would be accepted.
+    /// Returns why [`Session::settle`] would be refused now, with any outcome; `None` if it would be accepted.
     pub fn settle_fault(&self, id: u32) -> Option<CallFault>
         ensures { (outcome : Outcome) → result ≡ call_fault self.now (Settle id outcome) }
     {
         self.settle_range_fault(id, id)
     }
 
-    /// Why [`Session::settle_range`] would be refused now, with any outcome; `None` where it would be accepted.
+    /// Returns why [`Session::settle_range`] would be refused now, with any outcome; `None` if it would be
+    /// accepted.
     pub fn settle_range_fault(&self, first: u32, last: u32) -> Option<CallFault>
         ensures { (outcome : Outcome) → result ≡ call_fault self.now (SettleRange first last outcome) }
     {
@@ -347,8 +357,8 @@ impl<A: Allocator + Copy> Session<A> {
         }
     }
 
-    /// Widens the incoming window by `n` places, and answers the flow that says so [2.5.6]. Refused, with
-    /// nothing changed, where it would pass 2147483647 places.
+    /// Widens the incoming window by `n` places, and returns the flow that says so [2.5.6]. It is an error,
+    /// `WindowTooWide`, if the window would pass 2147483647 places. Then nothing has changed.
     pub fn widen(&mut self, n: u32) -> Result<Flow<'static>, CallFault>
         ensures may { OnOk result (SessionMay self.old (call_event self.old (Widen n))) }
         ensures new { OnOk result (self.new ≡ session_after self.old (call_event self.old (Widen n))) }
@@ -363,9 +373,11 @@ impl<A: Allocator + Copy> Session<A> {
         Ok(self.state.session_flow())
     }
 
-    /// Grants the link at a handle `n` places of credit, and answers the flow that says so [2.6.7]. The sender is
-    /// then no longer asked to use its credit up, where `n` is 0 too. Refused, with nothing changed: with `NoLink`,
-    /// or with `TooMuchCredit` where credit and open deliveries would be more than the link allows.
+    /// Grants the link at a handle `n` places of credit, and returns the flow that says so [2.6.7]. Even if `n`
+    /// is 0, the sender is then no longer asked to use its credit up.
+    ///
+    /// The first fault is returned, and nothing has changed: `NoLink`; `TooMuchCredit` if credit and open
+    /// deliveries would be more than the link allows.
     pub fn grant(&mut self, handle: u32, n: u32) -> Result<Flow<'static>, CallFault>
         ensures may { OnOk result (SessionMay self.old (call_event self.old (Grant handle n))) }
         ensures new { OnOk result (self.new ≡ session_after self.old (call_event self.old (Grant handle n))) }
@@ -378,8 +390,9 @@ impl<A: Allocator + Copy> Session<A> {
         Ok(stated.flow())
     }
 
-    /// Grants the link at a handle `n` places of credit, as [`Session::grant`] does, and answers what the flow states, which the
-    /// caller writes [2.6.7]. Refused, with nothing changed, with `NoLink` or `TooMuchCredit`.
+    /// Grants the link at a handle `n` places of credit, and returns what the flow states [2.6.7]. The caller
+    /// has to write that flow. The errors are `NoLink` and `TooMuchCredit`. Then nothing has changed. See
+    /// [`Session::grant`].
     pub fn grant_stated(&mut self, handle: u32, n: u32) -> Result<LinkFlow, CallFault>
         ensures may { OnOk result (SessionMay self.old (call_event self.old (Grant handle n))) }
         ensures new { OnOk result (self.new ≡ session_after self.old (call_event self.old (Grant handle n))) }
@@ -400,8 +413,8 @@ impl<A: Allocator + Copy> Session<A> {
         Ok(self.state.flow_stating(handle, stated))
     }
 
-    /// Asks the sender on the link at a handle to use its credit up, and answers the flow that says so [2.6.7].
-    /// Refused, with nothing changed, with `NoLink`.
+    /// Asks the sender on the link at a handle to use its credit up, and returns the flow that says so [2.6.7].
+    /// The only error is `NoLink`. Then nothing has changed.
     pub fn drain(&mut self, handle: u32) -> Result<Flow<'static>, CallFault>
         ensures may { OnOk result (SessionMay self.old (call_event self.old (Drain handle))) }
         ensures new { OnOk result (self.new ≡ session_after self.old (call_event self.old (Drain handle))) }
@@ -420,9 +433,9 @@ impl<A: Allocator + Copy> Session<A> {
         Ok(self.state.flow_stating(handle, stated).flow())
     }
 
-    /// Hands up the first ready delivery of the link at a handle. Refused, with nothing changed: with `NoLink`,
-    /// or with `NothingReady`. Takes no memory.
-    // For `telemetry` and `gateway` (docs/PERF.md).
+    /// Hands up the first ready delivery of the link at a handle. The errors are `NoLink` and `NothingReady`.
+    /// Then nothing has changed. Takes no memory.
+    // Inlined for `telemetry` and `gateway` (docs/PERF.md).
     #[inline(always)]
     pub fn take(&mut self, handle: u32) -> Result<Taken<A>, CallFault>
         ensures may { OnOk result (SessionMay self.old (call_event self.old (Take handle))) }
@@ -444,9 +457,10 @@ impl<A: Allocator + Copy> Session<A> {
         Ok(taken)
     }
 
-    /// Settles the delivery with this id, which was handed up [2.6.12], and answers the disposition that says so.
-    /// In mode second it tells the sender what became of it, who settles it [2.8.3]. Refused, with nothing
-    /// changed: with `NoDelivery`, `NotTaken` or `AlreadyTold`. Takes no memory.
+    /// Settles the delivery with this id, which was handed up [2.6.12], and returns the disposition that says
+    /// so. In mode second (rcv-settle-mode) it tells the sender what became of the delivery, and the sender
+    /// settles it [2.8.3]. The errors are `NoDelivery`, `NotTaken` and `AlreadyTold`. Then nothing has changed.
+    /// Takes no memory.
     pub fn settle(&mut self, id: u32, outcome: Outcome) -> Result<Disposition<'static>, CallFault>
         ensures may { OnOk result (SessionMay self.old (call_event self.old (Settle id outcome))) }
         ensures new { OnOk result (self.new ≡ session_after self.old (call_event self.old (Settle id outcome))) }
@@ -459,12 +473,16 @@ impl<A: Allocator + Copy> Session<A> {
         Ok(replies::disposition(id, id, named.settled, outcome))
     }
 
-    /// Settles the open deliveries of all links whose ids stand in the range from `first` to `last`, as
-    /// [`Session::settle`] does each, and answers the disposition that says so, and how many it names [2.7.6].
-    /// Refused, with nothing changed, with the first of these: `NoDelivery` where `first` or `last` is not the id
-    /// of an open delivery, or `last` is behind `first`; `NotTaken` or `AlreadyTold` where that is so of one;
-    /// `MixedModes` where one is in mode first and another in mode second. Ids between that no open delivery has
-    /// are no fault. Takes no memory.
+    /// Settles the open deliveries of all links with ids from `first` to `last`, each as [`Session::settle`]
+    /// does. Returns the disposition that says so, and how many deliveries it names [2.7.6]. Takes no memory.
+    ///
+    /// Ids between `first` and `last` that no open delivery has are no fault. The first fault is returned, and
+    /// nothing has changed:
+    ///
+    /// - `NoDelivery`: `first` or `last` is not the id of an open delivery, or `last` is before `first`.
+    /// - `NotTaken`: one of the deliveries was not handed up.
+    /// - `AlreadyTold`: the sender was already told what became of one of them.
+    /// - `MixedModes`: one is in mode first, and another in mode second.
     pub fn settle_range(
         &mut self,
         first: u32,
@@ -486,10 +504,10 @@ impl<A: Allocator + Copy> Session<A> {
         ))
     }
 
-    /// Settles the open deliveries whose ids stand in the range from `first` to `last`, as [`Session::settle_range`] does, and
-    /// answers what the disposition has to say, which the caller writes [2.7.6]. Refused, with nothing changed, as that is; with
-    /// one id as [`Session::settle`]. Takes no memory.
-    // For `telemetry` and `gateway` (docs/PERF.md).
+    /// Settles the open deliveries with ids from `first` to `last`, and returns what the disposition has to say
+    /// [2.7.6]. The caller has to write it. The errors are those of [`Session::settle_range`]. Then nothing has
+    /// changed. Takes no memory.
+    // Inlined for `telemetry` and `gateway` (docs/PERF.md).
     #[inline(always)]
     pub fn settle_named(&mut self, first: u32, last: u32) -> Result<Named, CallFault>
         ensures may { OnOk result (SessionMay self.old (Settled first last)) }
@@ -519,9 +537,9 @@ impl<A: Allocator + Copy> Session<A> {
         })
     }
 
-    /// Ends the link at a handle [2.6.6]: answers the detach, with closed true, that says so, and how many ready
-    /// deliveries are dropped. The handle stays in use until the peer detaches it. Refused, with nothing changed,
-    /// with `NoLink`.
+    /// Ends the link at a handle [2.6.6]. Returns the detach, with closed true, that says so, and how many
+    /// ready deliveries were dropped. The handle stays in use until the peer detaches it. The only error is
+    /// `NoLink`. Then nothing has changed.
     pub fn detach(&mut self, handle: u32) -> Result<(Detach<'static>, u32), CallFault>
         ensures may { OnOk result (SessionMay self.old (call_event self.old (DetachCall handle))) }
         ensures new { OnOk result (self.new ≡ session_after self.old (call_event self.old (DetachCall handle))) }
@@ -540,8 +558,9 @@ impl<A: Allocator + Copy> Session<A> {
     }
 }
 
-/// A link takes a transfer, which comes to this. A delivery that begins is put into the index first, and taken out of it
-/// again where the link has no memory; one that is given up is taken out behind.
+/// Lets a link take a transfer on which it gave this verdict. A delivery that begins is put into the index
+/// first, and taken out again if the link gets no memory. One that is given up is taken out of the index
+/// afterwards.
 fn accept<A: Allocator + Copy>(
     link: &mut Link<A>,
     index: &mut Index<A>,
@@ -569,7 +588,8 @@ fn accept<A: Allocator + Copy>(
     }
 }
 
-/// A delivery begins, which the link keeps under this key.
+/// Begins a delivery, which the link stores under this key. If memory is refused, link and index find the same
+/// as before.
 fn begin_delivery<A: Allocator + Copy>(
     link: &mut Link<A>,
     index: &mut Index<A>,
@@ -598,7 +618,7 @@ fn begin_delivery<A: Allocator + Copy>(
     }
 }
 
-/// A link takes a transfer in which it finds no fault.
+/// Lets a link take a transfer in which it finds no fault. If memory is refused, the link has not changed.
 fn take_in<A: Allocator + Copy>(
     link: &mut Link<A>,
     transfer: &Transfer<'_>,
@@ -616,7 +636,8 @@ fn take_in<A: Allocator + Copy>(
     }
 }
 
-/// Ends the live link at a handle by the fault of a transfer [2.6.5]. Its deliveries are taken out of the index.
+/// Ends the live link at a handle because of a transfer's fault [2.6.5]. Its deliveries are taken out of the
+/// index.
 #[inline(never)]
 fn end_link<A: Allocator + Copy>(
     state: &mut State<A>,
@@ -642,15 +663,15 @@ fn end_link<A: Allocator + Copy>(
     }
 }
 
-/// Whether a delivery that stands so was not handed up.
+/// Returns whether a delivery with this standing was not handed up.
 fn is_untaken(standing: Standing) -> bool
     ensures { result ≡ is_untaken standing }
 {
     matches!(standing, Standing::Untaken)
 }
 
-/// Takes a disposition, for which the open deliveries that it names are looked for in the index. What is open no longer
-/// is taken out of it.
+/// Takes a disposition. The open deliveries that it names are found by the index, and taken out of it if they
+/// are open no longer.
 fn dispose<A: Allocator + Copy>(
     state: &mut State<A>,
     index: &mut Index<A>,
@@ -670,8 +691,8 @@ fn dispose<A: Allocator + Copy>(
     settled_report(settle_ids(state, index, first, last))
 }
 
-/// The sender settles the ids from `first` to `last`, which go on behind the end of the ids. Answers how many open
-/// deliveries it settles.
+/// Settles for the sender the ids from `first` to `last`, which may wrap round after the highest id. Returns
+/// how many open deliveries it settles that were not settled.
 fn settle_ids<A: Allocator + Copy>(
     state: &mut State<A>,
     index: &mut Index<A>,
@@ -694,8 +715,8 @@ fn settle_ids<A: Allocator + Copy>(
     high + low
 }
 
-/// The sender settles the open delivery with this id, which is kept so. Answers how many open deliveries it settles: one
-/// that is settled already counts for none.
+/// Settles for the sender the open delivery with this id, stored where `kept` says. Returns 1, or 0 if it was
+/// settled already.
 fn settle_one<A: Allocator + Copy>(
     state: &mut State<A>,
     index: &mut Index<A>,
@@ -716,7 +737,8 @@ fn settle_one<A: Allocator + Copy>(
     count
 }
 
-/// The same in the session alone.
+/// Settles for the sender the delivery with this id, stored where `kept` says, without the index. Returns 1, or
+/// 0 if it was settled already.
 fn peer_settled_at<A: Allocator + Copy>(state: &mut State<A>, kept: Kept, id: u32) -> u32
     requires apart { IsApart state.old }
     requires alone { IsAlone id kept.handle state.old.links }
@@ -732,8 +754,8 @@ fn peer_settled_at<A: Allocator + Copy>(state: &mut State<A>, kept: Kept, id: u3
     }
 }
 
-/// The sender settles the open deliveries with the ids from `first` to `last` as plain numbers, one by one. Answers how
-/// many open deliveries it settles.
+/// Settles for the sender, one by one, the open deliveries with the ids from `first` to `last` as plain
+/// numbers. Returns how many it settles that were not settled.
 fn settle_each<A: Allocator + Copy>(
     state: &mut State<A>,
     index: &mut Index<A>,
@@ -760,7 +782,7 @@ fn settle_each<A: Allocator + Copy>(
     count
 }
 
-/// What answers a flow that was taken.
+/// Returns the answer to a flow that was taken.
 fn flow_answer<A: Allocator + Copy>(after: &State<A>, flow: &Flow<'_>, report: Report) -> Answer
     ensures said { said_by result ≡ flow_answer after.now (flowing flow.now) report }
     ensures kind { IsPlain result }
@@ -775,7 +797,7 @@ fn flow_answer<A: Allocator + Copy>(after: &State<A>, flow: &Flow<'_>, report: R
     }
 }
 
-/// What answers the echo of a flow that was taken.
+/// Returns the answer to a flow that was taken and may request an echo.
 fn echo<A: Allocator + Copy>(after: &State<A>, flow: &Flow<'_>) -> Answer
     ensures said { said_by result ≡ (if flow.now.echo then echo_answer after.now flow.now.handle else []) }
     ensures kind { IsPlain result }
@@ -792,7 +814,7 @@ fn echo<A: Allocator + Copy>(after: &State<A>, flow: &Flow<'_>) -> Answer
     }
 }
 
-/// Whether an open delivery has the id that a transfer states, if it states one.
+/// Returns whether an open delivery has the id that a transfer states, if it states one.
 fn is_known<A: Allocator + Copy>(index: &Index<A>, transfer: &Transfer<'_>) -> bool
     ensures { result ≡ option_map_or (λ id. is_some (found index.now id)) transfer.now.delivery_id false }
 {
@@ -816,7 +838,7 @@ fn is_counted(attach: &Attach<'_>)
     let _ = attach.initial_delivery_count.unwrap_or(0);
 }
 
-/// A frame that is answered by the detach of a link that failed, or by nothing.
+/// Makes the result for a frame that is answered by the detach of a failed link, or not at all.
 fn told(report: Report) -> Done
     ensures report { result.report ≡ report }
     ensures answer { said_by result.answer ≡ failure_answer report }
@@ -834,7 +856,7 @@ fn told(report: Report) -> Done
     Done { report, answer }
 }
 
-/// An attach that is answered, by a refusal where its link failed.
+/// Makes the result for an attach: its answer is a refusal if the link failed.
 fn attach_done(report: Report) -> Done
     ensures report { result.report ≡ report }
     ensures answer { IsAttachAnswer report result.answer }

@@ -1,6 +1,6 @@
-//! A place of a table, at which lives follow one another.
+//! A place of a table, at which one life follows another.
 
-/// What stands at a place: of a session a link by its handle, of a connection a session by its channel.
+/// What is at a place: in a session a link by its handle, in a connection a session by its channel.
 ///
 /// ```text
 ///            a begin, or an attach that this side accepts
@@ -16,7 +16,8 @@
 ///         the peer's end or detach
 /// ```
 ///
-/// Where the connection is over, or closed by this side, all channels are `Free`. A session takes its links with it.
+/// If the connection is over, or closed by this side, all channels are `Free`. A session that ends takes its links
+/// along.
 #[derive(Drop)]
 pub enum Slot<T> {
     /// Nothing; a life may begin here.

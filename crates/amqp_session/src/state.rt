@@ -1,4 +1,4 @@
-//! What a session keeps: its terms, its window, its numbers, and what stands at its handles.
+//! What a session holds: its terms, its window, its numbers, and what is at its handles.
 
 ghost use Rattle.amqp_perform.specs.declared.performative.Performative.TheVariants as performative;
 ghost use Rattle.std.specs.Prelude.{◌≡◌, ℕ, ◌<◌, ◌≤◌, ◌+◌, ◌^◌, Bool, length, option_to_list, map, Option, Some, None, OnOk, OnErr, IfOk, IfErr, IfSome, true, false, not, ◌&&◌, is_none, ◌*◌, sum_by, IfNone, nat_lt};
@@ -33,7 +33,7 @@ use std::alloc::{AllocError, Allocator, Global};
 use std::marker::Model;
 use std::mem;
 
-/// The longest name that is kept.
+/// The longest name of a link, in bytes.
 const MAX_NAME: usize = 255;
 
 /// The parts of a session.
@@ -59,7 +59,7 @@ impl<A: Allocator + Copy> Model for State<A> {
 }
 
 impl<A: Allocator + Copy> State<A> {
-    /// A session at its begin.
+    /// Makes a session as it is at its begin.
     pub fn begin(alloc: A, terms: SessionTerms) -> Self
         ensures { result ≡ session_begins terms }
     {
@@ -74,7 +74,7 @@ impl<A: Allocator + Copy> State<A> {
         }
     }
 
-    /// A law: a place for each handle stands in the view.
+    /// A law: the view has a place for each handle.
     pub fn is_long(&self)
         ensures { length self.now.links ≡ handles self.now.terms }
     {
@@ -88,28 +88,28 @@ impl<A: Allocator + Copy> State<A> {
         let _ = self.next_incoming_id();
     }
 
-    /// What the session began with.
+    /// Returns what the session began with.
     pub fn terms(&self) -> &SessionTerms
         ensures { result.now ≡ self.now.terms }
     {
         &self.terms
     }
 
-    /// The places of the window that are left.
+    /// Returns how many places of the window are left.
     pub fn window(&self) -> u32
         ensures { result ≡ self.now.window }
     {
         self.window
     }
 
-    /// The next-incoming-id.
+    /// Returns the next-incoming-id.
     pub fn next_incoming_id(&self) -> u32
         ensures { result ≡ self.now.next_incoming_id }
     {
         self.next_incoming_id
     }
 
-    /// The bytes that count as kept. All fields are named, so that a new one is listed here.
+    /// Returns the bytes held. The pattern names all fields, so that a new one must be listed here.
     pub fn held(&self) -> u64
         ensures value { result ≡ session_bytes self.now }
         ensures most { result < 2 ^ 52 }
@@ -124,7 +124,7 @@ impl<A: Allocator + Copy> State<A> {
         64 + held(table)
     }
 
-    /// How many deliveries are ready.
+    /// Returns how many deliveries are ready.
     pub fn ready(&self) -> u32
         ensures value { result ≡ session_ready self.now }
         ensures most { result ≤ 2 ^ 18 }
@@ -132,7 +132,7 @@ impl<A: Allocator + Copy> State<A> {
         ready(&self.table)
     }
 
-    /// What is shown of the live link at a handle.
+    /// Returns a view of the live link at a handle; `None` if none is live.
     pub fn link(&self, handle: u32) -> Option<LinkView<'_>>
         ensures { IsViewAt (slot_at self.now handle) result }
     {
@@ -143,7 +143,8 @@ impl<A: Allocator + Copy> State<A> {
         view(&self.table[place])
     }
 
-    /// The first handle from one on whose link has less credit than that, and is allowed more.
+    /// Returns the first handle, from `from` on, whose link has less credit than `credit` and can be granted
+    /// more; `None` if there is none.
     pub fn first_lacking(&self, from: u32, credit: u32) -> Option<u32>
         ensures { IsFirstLacking credit from (slot_at self.now) result }
     {
@@ -153,7 +154,7 @@ impl<A: Allocator + Copy> State<A> {
         }
     }
 
-    /// Lends the live link at a handle.
+    /// Lends the live link at a handle; `None` if none is live.
     pub fn link_mut(&mut self, handle: u32) -> Option<&mut Link<A>>
         ensures* writes_back { sem 𝓛 (LendsHandle A.row A.Allocator self.entry handle result) }
         ensures value { option_copied_mut result ≡ link_at self.old handle }
@@ -169,8 +170,8 @@ impl<A: Allocator + Copy> State<A> {
         }
     }
 
-    /// What the open delivery with this id is to its receiver, of the link at a handle, where it may be kept under this
-    /// key.
+    /// Returns how the delivery with this id stands on the link at a handle, looking under this key first. At
+    /// most one open delivery of that link may have the id.
     pub fn standing(&self, handle: u32, key: usize, id: u32) -> Standing
         requires { IsOnceAt id (slot_at self.now handle) }
         ensures { result ≡ slot_standing id (slot_at self.now handle) }
@@ -182,7 +183,7 @@ impl<A: Allocator + Copy> State<A> {
         standing(&self.table[place], key, id)
     }
 
-    /// A transfer came: it takes a place of the window, and a number [2.5.6].
+    /// Counts a transfer: it takes a place of the window, and a number [2.5.6].
     pub fn transfer_came(&mut self)
         requires { 1 ≤ self.old.window }
         ensures { self.new ≡ counted self.old }
@@ -191,7 +192,8 @@ impl<A: Allocator + Copy> State<A> {
         self.next_incoming_id = self.next_incoming_id.wrapping_add(1);
     }
 
-    /// A transfer came for a handle at which no link is live: it is dropped where one waits for the peer's detach.
+    /// Drops and counts a transfer for a handle at which no link is live, if one waits there for the peer's
+    /// detach. It is `UnattachedHandle` if the handle is free. Then nothing has changed.
     #[inline(never)]
     pub fn drop_transfer(&mut self, handle: u32) -> Result<(), SessionFault>
         requires room { 1 ≤ self.old.window }
@@ -208,14 +210,14 @@ impl<A: Allocator + Copy> State<A> {
         Ok(())
     }
 
-    /// The flow of the session.
+    /// Returns the flow of the session.
     pub fn session_flow(&self) -> Flow<'static>
         ensures { said (performative.Flow result) ≡ session_flow self.now }
     {
         replies::session_flow(self.next_incoming_id, self.window)
     }
 
-    /// The flow of the link at a handle, if one is live.
+    /// Returns the flow of the link at a handle; `None` if none is live.
     pub fn link_flow(&self, handle: u32) -> Option<Flow<'static>>
         ensures { map (λ p. said (performative.Flow p)) (option_to_list result) ≡ link_flow self.now handle }
     {
@@ -229,7 +231,7 @@ impl<A: Allocator + Copy> State<A> {
         }
     }
 
-    /// What a flow says that states this of the link at a handle.
+    /// Returns what a flow says that states this of the link at a handle.
     pub fn flow_stating(&self, handle: u32, stated: LinkStated) -> LinkFlow
         ensures { stated_said result ≡ link_flow_said self.now.next_incoming_id self.now.window handle stated.delivery_count stated.link_credit stated.drain }
     {
@@ -243,7 +245,7 @@ impl<A: Allocator + Copy> State<A> {
         }
     }
 
-    /// The fault of an attach that ends the session.
+    /// Returns the first fault of an attach that ends the session; `None` if it has none.
     fn attach_fault(&self, attach: &Attach<'_>, bounds: LinkBounds) -> Option<SessionFault>
         ensures { result ≡ attach_fault self.now (attaching attach.now bounds) }
     {
@@ -258,7 +260,8 @@ impl<A: Allocator + Copy> State<A> {
         }
     }
 
-    /// Takes an attach.
+    /// Takes an attach, and reports whether its link attached or was refused. If it is an error, nothing has
+    /// changed.
     pub fn attach(
         &mut self,
         attach: &Attach<'_>,
@@ -293,7 +296,7 @@ impl<A: Allocator + Copy> State<A> {
         }
     }
 
-    /// Takes a flow. A link that fails is put to `ended`.
+    /// Takes a flow. A link that fails is moved to `ended`. If it is an error, the session has not changed.
     pub fn flow(
         &mut self,
         ended: &mut Option<KeptLink<A>>,
@@ -315,7 +318,8 @@ impl<A: Allocator + Copy> State<A> {
         }
     }
 
-    /// Takes a flow of the link at a handle, which is put to `ended` if it fails.
+    /// Takes a flow of the link at a handle, which is moved to `ended` if it fails. If it is an error, the
+    /// session has not changed.
     fn link_flowed(
         &mut self,
         ended: &mut Option<KeptLink<A>>,
@@ -343,7 +347,8 @@ impl<A: Allocator + Copy> State<A> {
         }
     }
 
-    /// Takes a detach of the link at a handle, which is put to `ended` if it was live.
+    /// Takes a detach of the link at a handle, which is moved to `ended` if it was live. It is
+    /// `UnattachedHandle` if the handle is free. Then the session has not changed.
     pub fn detached(
         &mut self,
         ended: &mut Option<KeptLink<A>>,
@@ -365,7 +370,7 @@ impl<A: Allocator + Copy> State<A> {
         Ok(detached)
     }
 
-    /// Why a widening by `n` places would be refused.
+    /// Returns why a widening by `n` places would be refused; `None` if it would be accepted.
     pub fn widen_fault(&self, n: u32) -> Option<CallFault>
         ensures { result ≡ call_fault self.now (Widen n) }
     {
@@ -376,7 +381,8 @@ impl<A: Allocator + Copy> State<A> {
         }
     }
 
-    /// Why a grant of `n` places of credit to the link at a handle would be refused.
+    /// Returns why a grant of `n` places of credit to the link at a handle would be refused; `None` if it would
+    /// be accepted.
     pub fn grant_fault(&self, handle: u32, n: u32) -> Option<CallFault>
         ensures { result ≡ call_fault self.now (Grant handle n) }
     {
@@ -387,7 +393,8 @@ impl<A: Allocator + Copy> State<A> {
         grant_fault(&self.table[place], n)
     }
 
-    /// Why a drain or a detach of the link at a handle would be refused.
+    /// Returns why a drain or a detach of the link at a handle would be refused; `None` if it would be
+    /// accepted.
     pub fn link_fault(&self, handle: u32) -> Option<CallFault>
         ensures drain { result ≡ call_fault self.now (Drain handle) }
         ensures detach { result ≡ call_fault self.now (DetachCall handle) }
@@ -399,7 +406,7 @@ impl<A: Allocator + Copy> State<A> {
         link_fault(&self.table[place])
     }
 
-    /// Widens the window by `n` places.
+    /// Widens the window by `n` places. If it is an error, nothing has changed.
     pub fn widen(&mut self, n: u32) -> Result<(), CallFault>
         ensures new { OnOk result (self.new ≡ session_after self.old (call_event self.old (Widen n))) }
         ensures accepted { OnOk result (call_fault self.old (Widen n) ≡ None) }
@@ -413,7 +420,8 @@ impl<A: Allocator + Copy> State<A> {
         Ok(())
     }
 
-    /// Ends the link at a handle, puts it to `ended`, and answers how many ready deliveries are dropped.
+    /// Ends the link at a handle, moves it to `ended`, and returns how many ready deliveries it had. If it is
+    /// an error, the session has not changed.
     pub fn detach(&mut self, ended: &mut Option<KeptLink<A>>, handle: u32) -> Result<u32, CallFault>
         ensures new { OnOk result (self.new ≡ session_after self.old (call_event self.old (DetachCall handle))) }
         ensures accepted { OnOk result (call_fault self.old (DetachCall handle) ≡ None) }
@@ -431,21 +439,21 @@ impl<A: Allocator + Copy> State<A> {
     }
 }
 
-/// Whether a sender attaches without initial-delivery-count.
+/// Returns whether a sender attaches without initial-delivery-count.
 fn lacks_count(attach: &Attach<'_>) -> bool
     ensures { result ≡ not (is_receiver attach.now.role) && is_none attach.now.initial_delivery_count }
 {
     matches!(attach.role, Role::Sender) && attach.initial_delivery_count.is_none()
 }
 
-/// Whether a disposition is the sender's, and settles.
+/// Returns whether a disposition is the sender's and has settled true.
 pub fn is_settling(disposition: &Disposition<'_>) -> bool
     ensures { result ≡ is_settling (disposing disposition.now) }
 {
     matches!(disposition.role, Role::Sender) && disposition.settled
 }
 
-/// What is told where so many deliveries are settled.
+/// Returns what is reported if a disposition settles `count` deliveries.
 pub fn settled_report(count: u32) -> Report
     ensures { result ≡ settled_report count }
 {
@@ -455,7 +463,7 @@ pub fn settled_report(count: u32) -> Report
     }
 }
 
-/// Why a delivery that stands so can't be settled.
+/// Returns why a delivery with this standing can't be settled; `None` if it can.
 pub fn standing_fault(standing: Standing) -> Option<CallFault>
     ensures { result ≡ standing_fault standing }
 {
@@ -467,14 +475,14 @@ pub fn standing_fault(standing: Standing) -> Option<CallFault>
     }
 }
 
-/// Whether a delivery that stands so is settled by its receiver alone.
+/// Returns whether a delivery with this standing is settled by its receiver at once, which is so in mode first.
 pub fn settles_at_once(standing: Standing) -> bool
     ensures { result ≡ settles_at_once standing }
 {
     matches!(standing, Standing::Awaiting(ReceiverSettleMode::First))
 }
 
-/// The link that an attach begins.
+/// Makes the link that an attach begins.
 fn begun<A: Allocator + Copy>(
     alloc: A,
     terms: &SessionTerms,
@@ -499,7 +507,7 @@ fn begun<A: Allocator + Copy>(
     )
 }
 
-/// Whether nothing stands at a place.
+/// Returns whether nothing is at a place.
 fn is_free<A: Allocator + Copy>(table: &[Slot<KeptLink<A>>], place: usize) -> bool
     ensures { result ≡ is_free (at_place table.now place) }
 {
@@ -509,7 +517,7 @@ fn is_free<A: Allocator + Copy>(table: &[Slot<KeptLink<A>>], place: usize) -> bo
     }
 }
 
-/// The bytes that count as kept.
+/// Returns the bytes held for a table.
 fn held<A: Allocator + Copy>(table: &[Slot<KeptLink<A>>]) -> u64
     requires { length table.now ≤ 256 }
     ensures value { result ≡ sum_by slot_bytes table.now }
@@ -522,7 +530,7 @@ fn held<A: Allocator + Copy>(table: &[Slot<KeptLink<A>>]) -> u64
     held
 }
 
-/// How many deliveries are ready.
+/// Returns how many deliveries of a table are ready.
 fn ready<A: Allocator + Copy>(table: &[Slot<KeptLink<A>>]) -> u32
     requires { length table.now ≤ 256 }
     ensures value { result ≡ sum_by slot_ready table.now }
@@ -535,7 +543,8 @@ fn ready<A: Allocator + Copy>(table: &[Slot<KeptLink<A>>]) -> u32
     ready
 }
 
-/// The first place from one on whose link has less credit than that, and is allowed more.
+/// Returns the first place, from `from` on, whose link has less credit than `credit` and can be granted more;
+/// `None` if there is none.
 fn first_lacking<A: Allocator + Copy>(
     table: &[Slot<KeptLink<A>>],
     from: usize,
@@ -552,7 +561,8 @@ fn first_lacking<A: Allocator + Copy>(
     None
 }
 
-/// Makes room up to a place, which is then reached.
+/// Extends the table by free places, so that it has this place. If memory is refused, the table has the same
+/// places as before.
 fn reach<A: Allocator + Copy>(
     table: &mut Vec<Slot<KeptLink<A>>, A>,
     place: usize,
@@ -574,7 +584,7 @@ fn reach<A: Allocator + Copy>(
     Ok(())
 }
 
-/// A live link, with what its attach gave.
+/// A live link, with what its attach stated.
 #[derive(Drop)]
 struct Record<A: Allocator + Copy = Global> {
     name: Vec<u8, A>,
@@ -583,7 +593,7 @@ struct Record<A: Allocator + Copy = Global> {
     link: Link<A>,
 }
 
-/// A live link, which takes the room of one reference where it stands.
+/// A live link in a box, so that a place takes the room of one reference.
 #[derive(Drop)]
 pub struct KeptLink<A: Allocator + Copy = Global> {
     record: Box<Record<A>, A>,
@@ -603,7 +613,7 @@ impl<A: Allocator + Copy> Model for KeptLink<A> {
 }
 
 impl<A: Allocator + Copy> KeptLink<A> {
-    /// A link at its attach.
+    /// Makes a link as it is at its attach. It is an error if memory is refused.
     pub fn attach(
         alloc: A,
         name: &[u8],
@@ -626,7 +636,7 @@ impl<A: Allocator + Copy> KeptLink<A> {
         })
     }
 
-    /// The link.
+    /// Returns the link.
     pub fn link(&self) -> &Link<A>
         ensures { result.now ≡ self.now.link }
     {
@@ -641,8 +651,8 @@ impl<A: Allocator + Copy> KeptLink<A> {
         &mut self.record.link
     }
 
-    /// Follows the delivery-count that a flow states, or none, and answers whether the sender has used its credit
-    /// up as it was asked to.
+    /// Follows the delivery-count that a flow states, if it states one. Returns whether the sender has used its
+    /// credit up as it was asked to. If it is an error, nothing has changed.
     fn sender_count(&mut self, stated: Option<u32>) -> Result<bool, LinkFault>
         ensures new { OnOk result (self.new ≡ live_after self.old (FlowStated stated)) }
         ensures within { OnOk result (is_beyond_credit self.old.link.delivery_count self.old.link.credit stated ≡ false) }
@@ -655,14 +665,15 @@ impl<A: Allocator + Copy> KeptLink<A> {
         self.record.link.sender_count(stated.unwrap_or(known))
     }
 
-    /// Whether credit and open deliveries would be more than the link allows with `n` places of credit more.
+    /// Returns whether credit and open deliveries would be more than the link allows with `n` more places of
+    /// credit.
     fn exceeds_allowed(&self, n: u32) -> bool
         ensures { result ≡ nat_lt self.now.link.terms.bounds.allowed (self.now.link.credit + open_count self.now.link + n) }
     {
         n > self.record.link.room()
     }
 
-    /// Whether it has less credit than that, and more is allowed.
+    /// Returns whether the link has less credit than `credit` and can be granted more.
     fn wants_credit(&self, credit: u32) -> bool
         ensures { result ≡ wants_credit credit (Slot.Live self.now) }
     {
@@ -670,7 +681,7 @@ impl<A: Allocator + Copy> KeptLink<A> {
         link.credit() < credit && link.room() > 0
     }
 
-    /// The bytes that count as kept. All fields are named, so that a new one is listed here.
+    /// Returns the bytes held. The pattern names all fields, so that a new one must be listed here.
     fn held(&self) -> u64
         ensures value { result ≡ slot_bytes (Slot.Live self.now) }
         ensures most { result < 2 ^ 42 }
@@ -688,7 +699,7 @@ impl<A: Allocator + Copy> KeptLink<A> {
         128 + ends as u64 + link.held()
     }
 
-    /// What is shown of it.
+    /// Returns a view of the link.
     fn view(&self) -> LinkView<'_>
         ensures { IsView self.now result }
     {
@@ -704,7 +715,7 @@ impl<A: Allocator + Copy> KeptLink<A> {
         }
     }
 
-    /// How many deliveries are ready.
+    /// Returns how many deliveries are ready.
     fn ready(&self) -> u32
         ensures value { result ≡ length self.now.link.ready }
         ensures most { result ≤ 1024 }
@@ -722,16 +733,16 @@ pub struct LinkStated {
     pub drain: bool,
 }
 
-/// The peer detached a link.
+/// What a detach of the peer did.
 #[derive(Clone, Copy)]
 pub struct PeerDetached {
     /// How many ready deliveries were dropped.
     pub dropped: u32,
-    /// It was live, so that this side has to answer.
+    /// The link was live, so that this side has to answer.
     pub live: bool,
 }
 
-/// What an accepted transfer tells.
+/// Returns what is reported of an accepted transfer.
 pub fn step_report(handle: u32, step: Step) -> Report
     ensures { result ≡ step_report handle step }
 {
@@ -742,7 +753,7 @@ pub fn step_report(handle: u32, step: Step) -> Report
     }
 }
 
-/// The condition with which a link ends.
+/// Returns the condition with which a fault ends its link.
 pub fn link_condition(fault: LinkFault) -> Condition
     ensures { result ≡ link_condition fault }
 {
@@ -755,7 +766,7 @@ pub fn link_condition(fault: LinkFault) -> Condition
     }
 }
 
-/// How many deliveries are ready there.
+/// Returns how many deliveries are ready at a place.
 fn ready_at<A: Allocator + Copy>(slot: &Slot<KeptLink<A>>) -> u32
     ensures value { result ≡ slot_ready slot.now }
     ensures most { result ≤ 1024 }
@@ -766,7 +777,7 @@ fn ready_at<A: Allocator + Copy>(slot: &Slot<KeptLink<A>>) -> u32
     }
 }
 
-/// Whether a live link there has less credit than that, and more is allowed.
+/// Returns whether the place has a live link with less credit than `credit` that can be granted more.
 fn wants_credit<A: Allocator + Copy>(slot: &Slot<KeptLink<A>>, credit: u32) -> bool
     ensures { result ≡ wants_credit credit slot.now }
 {
@@ -776,7 +787,7 @@ fn wants_credit<A: Allocator + Copy>(slot: &Slot<KeptLink<A>>, credit: u32) -> b
     }
 }
 
-/// This side ends the link with an error, and puts it to `ended`.
+/// Ends the link at a place with an error of this side, and moves it to `ended`.
 fn fail<A: Allocator + Copy>(
     slot: &mut Slot<KeptLink<A>>,
     ended: &mut Option<KeptLink<A>>,
@@ -796,7 +807,7 @@ fn fail<A: Allocator + Copy>(
     }
 }
 
-/// Leaves this there, and answers the link that was live.
+/// Puts `left` at a place, and returns the link that was live there; `None` if none was.
 fn end<A: Allocator + Copy>(
     slot: &mut Slot<KeptLink<A>>,
     left: Slot<KeptLink<A>>,
@@ -810,8 +821,8 @@ fn end<A: Allocator + Copy>(
     }
 }
 
-/// Follows a flow of the link. `None` where it waits for the peer's detach: the flow is dropped. A link that fails is put
-/// to `ended`.
+/// Follows a flow of the link at a place. A link that fails is moved to `ended`. Returns what is reported;
+/// `None` if the link waits for the peer's detach, so that the flow is dropped.
 fn flow_at<A: Allocator + Copy>(
     slot: &mut Slot<KeptLink<A>>,
     ended: &mut Option<KeptLink<A>>,
@@ -835,7 +846,7 @@ fn flow_at<A: Allocator + Copy>(
     Ok(Some(fail(slot, ended, handle, Condition::TransferLimitExceeded)))
 }
 
-/// Why a grant of `n` places of credit would be refused.
+/// Returns why a grant of `n` places of credit at a place would be refused; `None` if it would be accepted.
 fn grant_fault<A: Allocator + Copy>(slot: &Slot<KeptLink<A>>, n: u32) -> Option<CallFault>
     ensures { result ≡ at_link slot.now (λ l. where_so (nat_lt l.terms.bounds.allowed (l.credit + open_count l + n)) CallFault.TooMuchCredit) }
 {
@@ -845,7 +856,7 @@ fn grant_fault<A: Allocator + Copy>(slot: &Slot<KeptLink<A>>, n: u32) -> Option<
     }
 }
 
-/// Why a call that the link there always accepts would be refused.
+/// Returns why a call that every live link accepts would be refused at a place; `None` if it would be accepted.
 fn link_fault<A: Allocator + Copy>(slot: &Slot<KeptLink<A>>) -> Option<CallFault>
     ensures { result ≡ at_link slot.now (λ l. None) }
 {
@@ -855,7 +866,7 @@ fn link_fault<A: Allocator + Copy>(slot: &Slot<KeptLink<A>>) -> Option<CallFault
     }
 }
 
-/// Lends the live link there.
+/// Lends the live link at a place; `None` if none is live.
 fn link_mut<A: Allocator + Copy>(slot: &mut Slot<KeptLink<A>>) -> Option<&mut Link<A>>
     ensures* writes_back { sem 𝓛 (LendsPlace A.row A.Allocator slot.entry result) }
     ensures value { option_copied_mut result ≡ link_in slot.old }
@@ -866,7 +877,7 @@ fn link_mut<A: Allocator + Copy>(slot: &mut Slot<KeptLink<A>>) -> Option<&mut Li
     }
 }
 
-/// What a flow states of a link.
+/// Returns what a flow states of a link.
 pub fn stated<A: Allocator + Copy>(link: &Link<A>) -> LinkStated
     ensures { result ≡ stated_of link.now }
 {
@@ -877,7 +888,7 @@ pub fn stated<A: Allocator + Copy>(link: &Link<A>) -> LinkStated
     }
 }
 
-/// What a flow states of the link there, if one is live.
+/// Returns what a flow states of the link at a place; `None` if none is live.
 fn stated_at<A: Allocator + Copy>(slot: &Slot<KeptLink<A>>) -> Option<LinkStated>
     ensures some { IfSome result (λ stated. IsStated slot.now stated) }
     ensures none { IfNone result ((stated : LinkStated) → IsStated slot.now stated → ⊥) }
@@ -888,7 +899,8 @@ fn stated_at<A: Allocator + Copy>(slot: &Slot<KeptLink<A>>) -> Option<LinkStated
     }
 }
 
-/// Ends the link, puts it to `ended`, and answers how many ready deliveries are dropped.
+/// Ends the link at a place, moves it to `ended`, and returns how many ready deliveries it had. It is `NoLink`
+/// if none is live. Then the place has not changed.
 fn detach<A: Allocator + Copy>(
     slot: &mut Slot<KeptLink<A>>,
     ended: &mut Option<KeptLink<A>>,
@@ -909,7 +921,8 @@ fn detach<A: Allocator + Copy>(
     Ok(dropped)
 }
 
-/// The peer detaches the link, which is put to `ended` if it was live.
+/// Frees a place by a detach of the peer. The link is moved to `ended` if it was live. It is `UnattachedHandle`
+/// if the place was free. Then the place has not changed.
 fn detached<A: Allocator + Copy>(
     slot: &mut Slot<KeptLink<A>>,
     ended: &mut Option<KeptLink<A>>,
@@ -932,7 +945,8 @@ fn detached<A: Allocator + Copy>(
     Ok(PeerDetached { dropped, live })
 }
 
-/// What the open delivery there with the id is to its receiver, which may be kept under this key.
+/// Returns how the delivery with this id stands at a place, looking under this key first. At most one open
+/// delivery there may have the id.
 fn standing<A: Allocator + Copy>(slot: &Slot<KeptLink<A>>, key: usize, id: u32) -> Standing
     requires { IsOnceAt id slot.now }
     ensures { result ≡ slot_standing id slot.now }
@@ -943,7 +957,7 @@ fn standing<A: Allocator + Copy>(slot: &Slot<KeptLink<A>>, key: usize, id: u32) 
     }
 }
 
-/// What is shown of the link there, if one is live.
+/// Returns a view of the link at a place; `None` if none is live.
 fn view<A: Allocator + Copy>(slot: &Slot<KeptLink<A>>) -> Option<LinkView<'_>>
     ensures { IsViewAt slot.now result }
 {
@@ -953,7 +967,7 @@ fn view<A: Allocator + Copy>(slot: &Slot<KeptLink<A>>) -> Option<LinkView<'_>>
     }
 }
 
-/// The bytes that count as kept.
+/// Returns the bytes held for a place.
 fn held_at<A: Allocator + Copy>(slot: &Slot<KeptLink<A>>) -> u64
     ensures value { result ≡ slot_bytes slot.now }
     ensures most { result < 2 ^ 42 }

@@ -1,4 +1,5 @@
-//! How many of the deliveries that a range of ids names stand so or so.
+//! Counts of the deliveries that a range of ids names, by how they
+//! stand.
 ghost use Rattle.std.specs.Prelude.{◌≡◌, ◌+◌, ◌<◌, ◌^◌};
 ghost use Rattle.amqp_session.specs.Surveys.{IsNoted, in_all, survey_fault};
 
@@ -6,21 +7,21 @@ use crate::fault::CallFault;
 use amqp_link::Standing;
 use amqp_perform::ReceiverSettleMode;
 
-/// How many of some open deliveries stand so.
+/// How many of some open deliveries stand in each way.
 #[derive(Clone, Copy)]
 pub struct Survey {
-    /// They were not handed up.
+    /// Those that were not handed up.
     pub untaken: u32,
-    /// The sender was told of them.
+    /// Those whose outcome the sender was told.
     pub told: u32,
-    /// Their receiver can settle them, which are in mode first.
+    /// Those in mode first that the receiver can settle.
     pub to_settle: u32,
-    /// It can tell of them, which are in mode second.
+    /// Those in mode second whose outcome the receiver can tell.
     pub to_tell: u32,
 }
 
 impl Survey {
-    /// Of none.
+    /// Returns the counts of no deliveries.
     pub fn new() -> Survey
         ensures untaken { result.untaken ≡ 0 }
         ensures told { result.told ≡ 0 }
@@ -35,7 +36,8 @@ impl Survey {
         }
     }
 
-    /// With one more, which stands so.
+    /// Returns the counts with one more delivery, which stands as
+    /// given. An absent one is not counted.
     pub fn noted(self, standing: Standing) -> Survey
         requires { in_all self < 2 ^ 31 }
         ensures { IsNoted self standing result }
@@ -51,7 +53,7 @@ impl Survey {
         survey
     }
 
-    /// With those of another.
+    /// Returns the sum of both counts.
     pub fn joined(self, other: Survey) -> Survey
         requires { in_all self + in_all other < 2 ^ 32 }
         ensures untaken { result.untaken ≡ self.untaken + other.untaken }
@@ -67,7 +69,8 @@ impl Survey {
         }
     }
 
-    /// Why a settle can't name them all.
+    /// Returns why a settle can't name all of the deliveries; `None` if
+    /// it can.
     pub fn fault(self) -> Option<CallFault>
         ensures { result ≡ survey_fault self }
     {

@@ -1,14 +1,14 @@
-//! What is shown of a link.
+//! A view of a link.
 use amqp_link::LinkBounds;
 
-/// A live link.
+/// A live link, as the application may see it.
 #[derive(Clone, Copy, Debug)]
 pub struct LinkView<'a> {
     /// Its name, in UTF-8.
     pub name: &'a [u8],
-    /// The source of its attach, as it is spelled.
+    /// The source of its attach, as encoded there.
     pub source: &'a [u8],
-    /// The target of its attach, as it is spelled.
+    /// The target of its attach, as encoded there.
     pub target: &'a [u8],
     /// The credit that is left [2.6.7].
     pub credit: u32,
@@ -16,6 +16,7 @@ pub struct LinkView<'a> {
     pub opened: u32,
     /// How many of them are ready to be handed up.
     pub ready: u32,
-    /// How many deliveries and how long messages it allows.
+    /// How many deliveries the link allows, and how long a message may
+    /// be.
     pub bounds: LinkBounds,
 }

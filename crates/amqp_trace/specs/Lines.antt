@@ -11,7 +11,7 @@ pub record Line : Type 0 where
   pub text : List ℕ
   pub is_cut : Bool
 
--- what stands behind the text: a newline, and two dots in front of it where the line was cut
+-- what follows the text: a newline, after two dots if the line was cut
 abbrev pub end_of : Bool → List ℕ
 end_of true = 46 ∷ 46 ∷ 10 ∷ []
 end_of false = 10 ∷ []

@@ -1,4 +1,4 @@
--- What a traced reader and a traced writer stand for, and what an outlet writes to.
+-- What a traced reader and a traced writer pass on to, and what an outlet writes to.
 use Rattle.std.specs.Prelude.{}
 use Rattle.amqp_frame.specs.declared.device.Device.{Device}
 use Rattle.amqp_trace.specs.declared.outlet.Outlet.{Outlet}

@@ -8,7 +8,7 @@ use std::marker::Model;
 /// How many bytes of a step's answers are kept.
 pub const MOST: usize = 16_384;
 
-/// Bytes that were written, and are not yet told.
+/// Bytes that were written and not yet shown.
 #[derive(Drop)]
 pub struct Answers {
     bytes: Vec<u8>,
@@ -25,7 +25,7 @@ impl Model for Answers {
 }
 
 impl Answers {
-    /// None. It takes memory for all that are kept, and none after that.
+    /// Makes an empty buffer. It takes memory for all bytes that may be kept, and none after that.
     pub fn new(alloc: Global) -> Result<Answers, AllocError>
         ensures { IfOk result (λ answers. answers ≡ []) }
     {
@@ -34,12 +34,12 @@ impl Answers {
         })
     }
 
-    /// Whether there is room for so many more.
+    /// Returns whether there is room for `count` more.
     pub fn has_room(&self, count: usize) -> bool {
         count <= MOST.saturating_sub(self.bytes.len())
     }
 
-    /// Keeps bytes, as far as there is room.
+    /// Keeps bytes, as far as there is room for them.
     pub fn put(&mut self, bytes: &[u8]) -> Result<(), AllocError> {
         let count = bytes.len().min(MOST.saturating_sub(self.bytes.len()));
         self.bytes.extend_from_slice(&bytes[..count])
@@ -52,7 +52,7 @@ impl Answers {
         self.bytes.clear();
     }
 
-    /// How many are kept.
+    /// Returns how many bytes are kept.
     pub fn len(&self) -> usize
         ensures { result ≤ 16384 }
     {

@@ -1,4 +1,4 @@
-//! Units as `dump` prints them, of which only the front may be kept.
+//! Units as `dump` prints them. Of a unit only the front may be kept.
 
 ghost use Rattle.std.specs.Prelude.{◌≡◌};
 
@@ -12,14 +12,14 @@ use amqp_perform::read_body;
 use amqp_types::{Limits, ReadFault, check};
 use std::alloc::{AllocError, Global};
 
-/// How much of the value at the front of a body is printed: no more nodes than bytes are kept.
+/// How much of the value at the front of a body is shown: no more nodes than bytes that are kept.
 const SHOWN: Limits = Limits {
     depth: LIMITS.depth,
     nodes: 4096,
 };
 
-/// Puts a whole unit, or the fault that it is. A performative that goes on behind what is kept, or has too many parts, is told by
-/// its name and `..` alone.
+/// Puts a whole unit, or the fault that it is. A performative that is longer than what is kept, or has too many
+/// parts, is shown by its name and `..` alone.
 pub fn put_unit(alloc: Global, page: &mut Page, unit: &Unit) -> Result<(), AllocError> {
     if unit.is_header() {
         put_header(page, unit.kept());
@@ -39,12 +39,13 @@ pub fn put_fault(page: &mut Page, unit: &Unit, fault: FrameFault) {
     );
 }
 
-/// Puts that the stream ended within a unit.
+/// Puts that the stream ended inside a unit.
 pub fn put_cut(page: &mut Page, unit: &Unit) {
     put_item(page, &Scanned::Fault(unit.place(), StreamFault::Cut));
 }
 
-/// Puts the header of a connection, any protocol's; other bytes in its place as bytes. [2.2, 5.2.1, 5.3.1]
+/// Puts the header of a connection, of any protocol. Other bytes in its place are put as bytes. [2.2, 5.2.1,
+/// 5.3.1]
 fn put_header(page: &mut Page, header: &[u8]) {
     if header == HEADER.as_slice() {
         put_item(page, &Scanned::Header);
@@ -95,7 +96,7 @@ fn put_frame(alloc: Global, page: &mut Page, unit: &Unit) -> Result<(), AllocErr
     Ok(())
 }
 
-/// Puts the fault in the value of a body, at its byte of the stream.
+/// Puts the fault in the value of a body, with its place in the stream.
 fn put_value_fault(page: &mut Page, unit: &Unit, fault: ReadFault) {
     let body = unit.kept().len() - unit.body().len();
     let inside = fault.place().unwrap_or(0);

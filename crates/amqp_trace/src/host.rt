@@ -1,9 +1,9 @@
-//! Who runs a trace.
+//! What runs a trace.
 
 use std::fmt::{self, Display, Formatter};
 use thiserror::Error;
 
-/// What is told: frames with what happened, or only what happened.
+/// What is shown: frames with what happened, or only what happened.
 #[derive(Clone, Copy, Debug, PartialEq, Eq, Drop)]
 pub enum View {
     Frames,
@@ -19,7 +19,7 @@ impl Display for View {
     }
 }
 
-/// Why nothing more is told.
+/// Why nothing more is shown.
 #[derive(Clone, Copy, Debug, PartialEq, Eq, Drop, Error)]
 pub enum TraceFault {
     /// A line could not be written.
@@ -30,11 +30,11 @@ pub enum TraceFault {
     NoMemory,
 }
 
-/// Who runs a trace.
+/// What runs a trace: it has the clock, and hears of failures.
 pub trait Host {
-    /// The milliseconds since some moment.
+    /// Returns the milliseconds since some fixed moment.
     fn millis(&self) -> u64;
 
-    /// Is told that nothing more is told there.
+    /// Takes the news that nothing more is shown in this view, and why.
     fn lost(&self, view: View, fault: TraceFault);
 }

@@ -8,13 +8,14 @@ use std::alloc::{AllocError, Global};
 use std::fmt::{self, Write};
 use std::marker::Model;
 
-/// How many bytes a line has at most. Behind one that had more stands `..`.
+/// How many bytes a line has at most. A line that had more ends with `..`.
 pub const MOST: usize = 4096;
 
-/// What stands in a line for a byte that may not.
+/// What replaces a byte that is not printable ASCII.
 const REPLACEMENT: u8 = b'?';
 
-/// A line of printable ASCII that has no end yet. It takes its memory at once, and nothing that is put into it is refused.
+/// A line of printable ASCII that has no end yet. It takes all its memory at once, and puts into it are never
+/// refused.
 #[derive(Drop)]
 pub struct Line {
     text: Vec<u8>,
@@ -33,7 +34,7 @@ impl Model for Line {
 }
 
 impl Line {
-    /// An empty line.
+    /// Makes an empty line.
     pub fn new(alloc: Global) -> Result<Line, AllocError>
         ensures { IfOk result (λ line. line.text ≡ []) }
     {
@@ -51,13 +52,13 @@ impl Line {
         self.is_cut = false;
     }
 
-    /// Whether nothing was put.
+    /// Returns whether nothing was put.
     pub fn is_empty(&self) -> bool {
         self.text.is_empty()
     }
 
-    /// Puts a text. A byte of it that is no printable ASCII is replaced, though none that is put here has one: whatever a peer
-    /// sent, no control reaches a terminal and no line is broken. What finds no room is left out.
+    /// Puts a text, with `?` for each byte that is not printable ASCII. So no control character of a peer reaches
+    /// a terminal, and none breaks a line. What finds no room is left out.
     pub fn put(&mut self, text: &[u8]) {
         for byte in text {
             if self.is_cut {
@@ -89,14 +90,14 @@ impl Line {
         }
     }
 
-    /// What was put.
+    /// Returns what was put.
     pub fn text(&self) -> &[u8]
         ensures { result.now ≡ self.now.text }
     {
         &self.text
     }
 
-    /// What stands behind it: a newline, and `..` in front of that where the line was cut.
+    /// Returns what follows the text: a newline, after `..` if the line was cut.
     pub fn end(&self) -> &'static [u8]
         ensures end { result.now ≡ end_of self.now.is_cut }
         ensures line { IsLine (self.now.text ++ result.now) }
@@ -112,7 +113,7 @@ impl Write for Line {
     }
 }
 
-/// The byte, or what stands for it.
+/// Returns the byte, or `?` if it is not printable ASCII.
 fn printable(byte: u8) -> u8
     ensures { IsPrintable result }
 {

@@ -8,7 +8,7 @@ use std::marker::Model;
 /// How many links and sessions are known at most.
 const PLACES: usize = 72;
 
-/// The longest name that is kept.
+/// The longest name that is kept, in bytes.
 const NAME: usize = 255;
 
 /// A session by its channel, or one of its links by its handle.
@@ -22,14 +22,15 @@ pub struct Place {
 #[derive(Drop)]
 struct Known {
     place: Place,
-    /// Whether this side ended what was there, and its peer has not answered.
+    /// Whether this side ended what was there and its peer has not answered.
     is_ended: bool,
-    /// The name of the link, with zeros behind it.
+    /// The name of the link, filled up with zeros.
     name: [u8; NAME],
     len: usize,
 }
 
-/// The names of the links that are attached, and the places whose ends the peer has to answer: of no more than [`PLACES`].
+/// The names of the links that are attached, and the places whose ends the peer has to answer: at most [`PLACES`]
+/// together.
 #[derive(Drop)]
 pub struct Links {
     known: Vec<Known>,
@@ -46,7 +47,7 @@ impl Model for Links {
 }
 
 impl Links {
-    /// None. It takes memory for all places, and none after that.
+    /// Makes an empty list. It takes memory for all places, and none after that.
     pub fn new(alloc: Global) -> Result<Links, AllocError> {
         Ok(Links {
             known: Vec::with_capacity(alloc, PLACES)?,
@@ -58,14 +59,14 @@ impl Links {
         self.known.clear();
     }
 
-    /// How many bytes are held of peers.
+    /// Returns how many bytes of peers are held.
     pub fn held(&self) -> usize
         ensures { result ≤ 18432 }
     {
         self.known.len() * (NAME + 1)
     }
 
-    /// Takes note of a link that attached. A longer name is cut.
+    /// Keeps the name of a link that attached. A longer name is cut.
     pub fn attach(&mut self, place: Place, name: &[u8]) -> Result<(), AllocError> {
         let len = name.len().min(NAME);
         let mut kept = [0; NAME];
@@ -78,7 +79,7 @@ impl Links {
         })
     }
 
-    /// Takes note that this side ended what is at a place, so that its peer has to answer.
+    /// Keeps that this side ended what is at a place, so that its peer has to answer.
     pub fn end(&mut self, place: Place) -> Result<(), AllocError> {
         self.know(Known {
             place,
@@ -101,7 +102,7 @@ impl Links {
         self.known.retain(|known| !is_within(known.place, place));
     }
 
-    /// The name of the link at a place, where it is known.
+    /// Returns the name of the link at a place, if it is known.
     pub fn name(&self, place: Place) -> Option<&[u8]> {
         let known = self.find(place)?;
         if known.is_ended {
@@ -110,7 +111,7 @@ impl Links {
         known.name.get(..known.len)
     }
 
-    /// Whether this side ended what is at a place, and its peer has not answered.
+    /// Returns whether this side ended what is at a place and its peer has not answered.
     pub fn is_ended(&self, place: Place) -> bool {
         match self.find(place) {
             Some(known) => known.is_ended,
@@ -123,7 +124,7 @@ impl Links {
     }
 }
 
-/// Whether it is that place, or a link of that session.
+/// Returns whether `place` is `other`, or a link of the session `other`.
 fn is_within(place: Place, other: Place) -> bool {
     place == other || other.handle.is_none() && place.channel == other.channel
 }

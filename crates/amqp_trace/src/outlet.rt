@@ -52,7 +52,7 @@ impl<B: Write + Drop> Outlet<B> {
         }
     }
 
-    /// The writer itself.
+    /// Returns the writer itself.
     pub fn into_inner(self) -> B
         ensures { result ≡ device_inner (outlet_device self) }
     {

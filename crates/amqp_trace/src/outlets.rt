@@ -28,7 +28,7 @@ impl Way {
     }
 }
 
-/// Where frames and events are told, as long as there is something that takes them.
+/// Where frames and events are shown, as long as something takes them.
 #[derive(Drop)]
 pub struct Outlets<W: Write + Drop, H: Host + Drop> {
     host: H,
@@ -37,7 +37,7 @@ pub struct Outlets<W: Write + Drop, H: Host + Drop> {
     line: Line,
     /// The number of the connection.
     number: u64,
-    /// When it began.
+    /// When it began, in the host's milliseconds.
     began: u64,
 }
 
@@ -58,28 +58,28 @@ impl<W: Write + Drop, H: Host + Drop> Outlets<W, H> {
         })
     }
 
-    /// The lines from here on are of the connection with this number, which begins now.
+    /// Begins the connection with this number, now. The lines from here on are about it.
     pub fn begin(&mut self, number: u64) {
         self.number = number;
         self.begin_now();
     }
 
-    /// The connection begins now.
+    /// Counts the connection's age from now.
     pub fn begin_now(&mut self) {
         self.began = self.host.millis();
     }
 
-    /// Whether nothing takes lines any more.
+    /// Returns whether nothing takes lines any more.
     pub fn are_shut(&self) -> bool {
         self.frames.is_none() && self.events.is_none()
     }
 
-    /// Whether something takes frames.
+    /// Returns whether something takes frames.
     pub fn show_frames(&self) -> bool {
         self.frames.is_some()
     }
 
-    /// Tells a frame, or a header.
+    /// Shows a frame, or a header.
     pub fn put_frame(&mut self, way: Way, text: &[u8]) {
         self.begin_line();
         let mark = way.mark();
@@ -88,7 +88,8 @@ impl<W: Write + Drop, H: Host + Drop> Outlets<W, H> {
         self.write(View::Frames);
     }
 
-    /// Tells what happened: its word and its sentence among the frames, and its sentence, if it has one, among the events.
+    /// Shows what happened: its word and its sentence among the frames, and its sentence, if it has one, among the
+    /// events.
     pub fn put_event<D: Display + Drop>(&mut self, word: D, sentence: &Line) {
         self.put_word(word, sentence);
         if !sentence.is_empty() {
@@ -98,7 +99,7 @@ impl<W: Write + Drop, H: Host + Drop> Outlets<W, H> {
         }
     }
 
-    /// Tells a word and its sentence among the frames alone.
+    /// Shows a word and its sentence among the frames alone.
     pub fn put_word<D: Display + Drop>(&mut self, word: D, sentence: &Line) {
         self.begin_line();
         let _ = write!(self.line, "-- {word}");
@@ -124,13 +125,13 @@ impl<W: Write + Drop, H: Host + Drop> Outlets<W, H> {
         }
     }
 
-    /// Tells nothing any more.
+    /// Shows nothing any more, for this reason.
     pub fn shut_all(&mut self, fault: TraceFault) {
         self.shut(View::Frames, fault);
         self.shut(View::Events, fault);
     }
 
-    /// Begins a line, by the connection's number and how long ago it began.
+    /// Begins a line with the connection's number and how long ago it began.
     fn begin_line(&mut self) {
         let number = self.number;
         let age = self.host.millis().saturating_sub(self.began);
@@ -172,7 +173,7 @@ fn put_to<B: Write + Drop>(outlet: &mut Option<Outlet<B>>, line: &Line) -> Resul
     }
 }
 
-/// The outlet of a writer, if there is one.
+/// Returns the outlet of a writer, if there is one.
 fn opened<W: Write + Drop>(
     alloc: Global,
     writer: Option<W>,

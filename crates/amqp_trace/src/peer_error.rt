@@ -1,19 +1,19 @@
-//! Texts in what a peer sent: of its own errors, and of its open.
+//! Texts in what a peer sent: its own errors, and its open.
 
 use amqp_types::skip;
 
 /// How deep a descriptor may be.
 const DEPTH: usize = 32;
 
-/// An error of the peer's. [2.8.14]
+/// An error that the peer gave. [2.8.14]
 #[derive(Clone, Copy, Debug, PartialEq, Eq)]
 pub struct PeerError<'a> {
     pub condition: &'a [u8],
     pub description: Option<&'a [u8]>,
 }
 
-/// The error that the bytes spell: a described list that begins with a symbol, and may go on with a string. None where they spell
-/// nothing of the kind. [2.8.14]
+/// Returns the error that the bytes spell, or `None` if they spell none. It is a described list that begins with a
+/// symbol, and may go on with a string. [2.8.14]
 pub fn error_in(bytes: &[u8]) -> Option<PeerError<'_>> {
     let (0, descriptor) = bytes.split_first()? else {
         return None;
@@ -27,7 +27,7 @@ pub fn error_in(bytes: &[u8]) -> Option<PeerError<'_>> {
     })
 }
 
-/// The items of the list at the front. [1.6.22]
+/// Returns the items of the list at the front. [1.6.22]
 fn items_in(list: &[u8]) -> Option<&[u8]> {
     match list.first()? {
         0xc0 => list.get(3..),
@@ -36,12 +36,13 @@ fn items_in(list: &[u8]) -> Option<&[u8]> {
     }
 }
 
-/// The bytes of the string or the symbol at the front, if one is. [1.6.20, 1.6.21]
+/// Returns the bytes of the string or the symbol at the front, if there is one. [1.6.20, 1.6.21]
 pub fn text_in(bytes: &[u8]) -> Option<&[u8]> {
     Some(text_at(bytes)?.0)
 }
 
-/// The same, and the bytes behind it.
+/// Returns the bytes of the string or the symbol at the front, if there is one, and the bytes after it. [1.6.20,
+/// 1.6.21]
 fn text_at(bytes: &[u8]) -> Option<(&[u8], &[u8])> {
     let (code, rest) = bytes.split_first()?;
     let (len, rest) = match *code {

@@ -18,11 +18,12 @@ pub struct Sentence {
     pub text: Line,
     pub page: Page,
     pub links: Links,
-    /// What becomes of messages.
+    /// The outcome of messages.
     pub outcome: Outcome,
 }
 
-/// Puts the sentence of an event to which a unit came, with what became of its message. An event that has none puts nothing.
+/// Puts the sentence of an event that a unit resulted in, with what became of its message. An event without a
+/// sentence puts nothing.
 pub fn put_event(
     out: &mut Sentence,
     unit: &Unit,
@@ -69,7 +70,7 @@ pub fn put_event(
     Ok(())
 }
 
-/// The place of a link.
+/// Returns the place of a link.
 fn link_at(channel: u16, handle: u32) -> Place {
     Place {
         channel,
@@ -77,7 +78,7 @@ fn link_at(channel: u16, handle: u32) -> Place {
     }
 }
 
-/// The place of a session.
+/// Returns the place of a session.
 fn session_at(channel: u16) -> Place {
     Place {
         channel,
@@ -100,7 +101,7 @@ impl Sentence {
         self.text.put_quoted(&mut self.page, bytes);
     }
 
-    /// Takes note of a link, and puts that it began. [2.7.3]
+    /// Keeps the name of a link, and puts that it began. [2.7.3]
     fn put_attached(
         &mut self,
         place: Place,
@@ -152,7 +153,7 @@ impl Sentence {
         }
     }
 
-    /// Puts which message it is.
+    /// Puts the message's id, length and link.
     fn put_received(&mut self, place: Place, message: Received) {
         let Received {
             delivery_id,
@@ -164,7 +165,7 @@ impl Sentence {
         self.text.put(b": ");
     }
 
-    /// Puts that the peer ended a link, unless it answers an end. [2.7.7]
+    /// Puts that the peer ended a link, unless it answers an end of this side. [2.7.7]
     fn put_detached(&mut self, place: Place, said: Option<Performative<'_>>) {
         if !self.links.is_ended(place) {
             self.put_link(place);
@@ -174,7 +175,7 @@ impl Sentence {
         self.links.forget(place);
     }
 
-    /// The same of a session. [2.7.8]
+    /// Puts that the peer ended a session, unless it answers an end of this side. [2.7.8]
     fn put_ended(&mut self, channel: u16, said: Option<Performative<'_>>) {
         let place = session_at(channel);
         if !self.links.is_ended(place) {
@@ -203,7 +204,7 @@ impl Sentence {
         }
     }
 
-    /// Takes note of what this side ended, and puts why. [2.8.14]
+    /// Keeps what this side ended, and puts why. [2.8.14]
     fn put_failed(
         &mut self,
         scope: Scope,

@@ -1,4 +1,4 @@
-//! What is told of a connection.
+//! What is shown of a connection.
 
 ghost use Rattle.std.specs.Prelude.{◌≤◌};
 
@@ -20,21 +20,21 @@ use std::alloc::{AllocError, Global};
 use std::fmt::{Display, Write as _};
 use std::io::Write;
 
-/// How many bytes of text are made of a unit. What is left out is behind the longest line.
+/// How many bytes of text are made of a unit. What is left out lies beyond the longest line.
 const TEXT: usize = 8192;
 
-/// Tells of one connection after another.
+/// Shows one connection after another.
 #[derive(Drop)]
 pub struct Teller<W: Write + Drop, H: Host + Drop> {
     alloc: Global,
     outlets: Outlets<W, H>,
-    /// What came, as far as no step has told of it.
+    /// What came and was shown with no step yet.
     came: Unit,
     went: Unit,
     /// What was written in this step.
     answers: Answers,
     sentence: Sentence,
-    /// Whether it was told how the connection ended.
+    /// Whether it was shown how the connection ended.
     is_ended: bool,
 }
 
@@ -60,7 +60,7 @@ impl<W: Write + Drop, H: Host + Drop> Teller<W, H> {
         })
     }
 
-    /// The next connection has this number, and begins.
+    /// Begins the next connection, which has this number.
     pub fn begin(&mut self, number: u64) {
         self.came.restart();
         self.went.restart();
@@ -70,7 +70,7 @@ impl<W: Write + Drop, H: Host + Drop> Teller<W, H> {
         self.outlets.begin(number);
     }
 
-    /// It was accepted, and begins now.
+    /// Shows that the connection was accepted. Its age counts from now.
     pub fn met<P: Display + Drop>(&mut self, peer: P) {
         self.outlets.begin_now();
         self.sentence.text.clear();
@@ -78,7 +78,7 @@ impl<W: Write + Drop, H: Host + Drop> Teller<W, H> {
         self.outlets.put_event("begin", &self.sentence.text);
     }
 
-    /// Bytes came, of one unit.
+    /// Takes bytes that came, of one unit.
     pub fn came(&mut self, bytes: &[u8]) {
         if self.outlets.are_shut() {
             return;
@@ -88,14 +88,14 @@ impl<W: Write + Drop, H: Host + Drop> Teller<W, H> {
         }
     }
 
-    /// Bytes were written.
+    /// Takes bytes that were written.
     pub fn went(&mut self, bytes: &[u8]) {
         if !self.outlets.are_shut() && self.keep_answers(bytes).is_err() {
             self.outlets.shut_all(TraceFault::NoMemory);
         }
     }
 
-    /// Bytes were written, of no step.
+    /// Shows bytes that were written in no step, and flushes.
     pub fn said(&mut self, bytes: &[u8]) {
         if !self.outlets.are_shut() && self.tell_said(bytes).is_err() {
             self.outlets.shut_all(TraceFault::NoMemory);
@@ -103,29 +103,30 @@ impl<W: Write + Drop, H: Host + Drop> Teller<W, H> {
         self.outlets.flush();
     }
 
-    /// A step was made.
+    /// Shows a step that was made.
     pub fn did(&mut self, stepped: &Stepped) {
         if !self.outlets.are_shut() && self.tell(stepped).is_err() {
             self.outlets.shut_all(TraceFault::NoMemory);
         }
     }
 
-    /// The peer is waited for.
+    /// Flushes, since the peer is waited for.
     pub fn waits(&mut self) {
         self.outlets.flush();
     }
 
-    /// The connection was served so.
+    /// Shows how the connection was served, and flushes.
     pub fn end(&mut self, served: Result<End, ServeFault>) {
         self.end_as(Ending(served), HowItEnded(served), served.is_err());
     }
 
-    /// Its host gave it up.
+    /// Shows that the host gave the connection up, and flushes.
     pub fn give_up(&mut self, cause: Cause) {
         self.end_as(cause, cause.sentence(), true);
     }
 
-    /// It ended so: by its word, and in a sentence, which is told also behind one of how it ended where that is asked.
+    /// Shows how the connection ended: its word, and its sentence. If the end was shown before, the sentence is
+    /// shown again only if it is `asked` for.
     fn end_as<E: Display + Drop, S: Display + Drop>(&mut self, ending: E, how: S, asked: bool) {
         if !self.outlets.are_shut() && self.tell_end(ending, how, asked).is_err() {
             self.outlets.shut_all(TraceFault::NoMemory);
@@ -133,7 +134,7 @@ impl<W: Write + Drop, H: Host + Drop> Teller<W, H> {
         self.outlets.flush();
     }
 
-    /// How many bytes of peers it holds.
+    /// Returns how many bytes of peers it holds.
     pub fn held(&self) -> usize
         ensures { result ≤ 43008 }
     {
@@ -143,7 +144,7 @@ impl<W: Write + Drop, H: Host + Drop> Teller<W, H> {
             + self.sentence.links.held()
     }
 
-    /// Keeps answers until their step is told. Where there is no room for all, those before are told first.
+    /// Keeps answers until their step is shown. If there is no room for all, those before are shown first.
     fn keep_answers(&mut self, bytes: &[u8]) -> Result<(), AllocError> {
         if !self.outlets.show_frames() {
             return Ok(());
@@ -157,13 +158,13 @@ impl<W: Write + Drop, H: Host + Drop> Teller<W, H> {
         Ok(())
     }
 
-    /// Tells the frames of these bytes.
+    /// Shows the frames of these bytes.
     fn tell_said(&mut self, bytes: &[u8]) -> Result<(), AllocError> {
         self.keep_answers(bytes)?;
         self.tell_answers()
     }
 
-    /// Tells what came, what it came to, and what answered it.
+    /// Shows what came, what it resulted in, and what answered it.
     fn tell(&mut self, stepped: &Stepped) -> Result<(), AllocError> {
         if stepped.told == Outcome::NoMemory {
             return Ok(());
@@ -182,7 +183,7 @@ impl<W: Write + Drop, H: Host + Drop> Teller<W, H> {
         Ok(())
     }
 
-    /// Tells the unit that came.
+    /// Shows the unit that came.
     fn tell_unit(&mut self) -> Result<(), AllocError> {
         if !self.outlets.show_frames() {
             return Ok(());
@@ -195,7 +196,7 @@ impl<W: Write + Drop, H: Host + Drop> Teller<W, H> {
         Ok(())
     }
 
-    /// Tells that what came is no frame.
+    /// Shows that what came is no frame.
     fn tell_fault(&mut self) {
         let page = &mut self.sentence.page;
         page.clear();
@@ -204,7 +205,7 @@ impl<W: Write + Drop, H: Host + Drop> Teller<W, H> {
         self.outlets.put_frame(Way::In, page.begun());
     }
 
-    /// Tells what the bytes came to, and what was refused.
+    /// Shows what the bytes resulted in, and what was refused.
     fn tell_told(&mut self, told: Outcome, done: Done) -> Result<(), AllocError> {
         self.sentence.text.clear();
         match told {
@@ -230,7 +231,7 @@ impl<W: Write + Drop, H: Host + Drop> Teller<W, H> {
         Ok(())
     }
 
-    /// Tells that the peer's header was refused.
+    /// Shows that the peer's header was refused.
     fn tell_refusal(&mut self) {
         let why = refusal(self.came.kept());
         let _ = write!(self.sentence.text, "the connection was refused: {why}");
@@ -238,7 +239,7 @@ impl<W: Write + Drop, H: Host + Drop> Teller<W, H> {
         self.outlets.put_event("refused", &self.sentence.text);
     }
 
-    /// Tells the frames that were written.
+    /// Shows the frames that were written.
     fn tell_answers(&mut self) -> Result<(), AllocError> {
         let alloc = self.alloc;
         put_frames(
@@ -252,7 +253,7 @@ impl<W: Write + Drop, H: Host + Drop> Teller<W, H> {
         Ok(())
     }
 
-    /// Tells what no step told, and how the connection ended.
+    /// Shows what no step showed, and how the connection ended.
     fn tell_end<E: Display + Drop, S: Display + Drop>(
         &mut self,
         ending: E,
@@ -273,7 +274,7 @@ impl<W: Write + Drop, H: Host + Drop> Teller<W, H> {
         Ok(())
     }
 
-    /// Tells that the stream ended within a unit.
+    /// Shows that the stream ended inside a unit.
     fn tell_cut(&mut self) {
         let page = &mut self.sentence.page;
         page.clear();
@@ -282,7 +283,7 @@ impl<W: Write + Drop, H: Host + Drop> Teller<W, H> {
     }
 }
 
-/// Tells the frames that end in these bytes, which were written.
+/// Shows the frames that end in these bytes, which were written.
 fn put_frames<W: Write + Drop, H: Host + Drop>(
     alloc: Global,
     bytes: &[u8],
@@ -307,7 +308,7 @@ fn put_frames<W: Write + Drop, H: Host + Drop>(
     Ok(())
 }
 
-/// Whether the connection was ended by this side.
+/// Returns whether this side ended the connection.
 fn is_broken(told: Outcome) -> bool {
     matches!(
         told,
@@ -318,7 +319,7 @@ fn is_broken(told: Outcome) -> bool {
     )
 }
 
-/// Whether it tells how the connection ended.
+/// Returns whether the event says how the connection ended.
 fn is_last(event: Event) -> bool {
     matches!(event, Event::Closed { .. }) || is_broken(Outcome::Event(event))
 }

@@ -1,4 +1,4 @@
-//! A trace, and the reader and the writer that tell it what passes.
+//! A trace, and the reader and the writer that report to it what passes.
 
 ghost use Rattle.std.specs.Prelude.{◌≡◌, ◌≤◌};
 ghost use Rattle.amqp_trace.specs.Wires.{traced_reader, traced_writer};
@@ -16,22 +16,24 @@ use std::cell::RefCell;
 use std::fmt::Display;
 use std::io::{self, Read, Write};
 
-/// Tells of connections that are served one after the other, in lines.
+/// Shows connections that are served one after the other, in lines.
 ///
-/// A [`TracedReader`], a [`TracedWriter`] and `serve_watched` tell it what passes. A host with a loop of its own calls
-/// [`Trace::came`], [`Trace::went`] and [`Trace::did`] for each step, in this order, and [`Trace::waits`] before it waits.
+/// A [`TracedReader`], a [`TracedWriter`] and `serve_watched` report to it what passes. A host with a loop of its
+/// own calls [`Trace::came`], [`Trace::went`] and [`Trace::did`] for each step, in this order, and
+/// [`Trace::waits`] before it waits.
 ///
-/// It holds at most 43,008 bytes of what peers sent and were sent, and 32,768 of lines: the first 4,096 bytes of the frame that is
-/// due in each direction, 16,384 of answers, and the names of 72 links. A step whose answers are longer is told behind some of them.
-/// Where a writer fails, or memory is refused, its host is told so, and nothing more goes there. What is served does not change for it.
+/// It holds at most 43,008 bytes of what peers sent and were sent, and 32,768 of lines. The former are the first
+/// 4,096 bytes of the frame that is due in each direction, 16,384 of answers, and the names of 72 links. If the
+/// answers of a step are longer, some of them are shown before the step. If a writer fails, or memory is refused,
+/// the host is told so, and nothing more goes there. What is served does not change then.
 #[derive(Drop)]
 pub struct Trace<W: Write + Drop, H: Host + Drop> {
     teller: RefCell<Teller<W, H>>,
 }
 
 impl<W: Write + Drop, H: Host + Drop> Trace<W, H> {
-    /// A trace that has told nothing. Frames and events go to these writers, if there are any. `outcome` is what becomes of
-    /// messages.
+    /// Makes a trace. Frames and events go to these writers, if there are any. `outcome` is the outcome of
+    /// messages. Returns `AllocError` if memory is refused.
     pub fn new(
         alloc: Global,
         host: H,
@@ -45,7 +47,7 @@ impl<W: Write + Drop, H: Host + Drop> Trace<W, H> {
         })
     }
 
-    /// How many bytes of peers it holds.
+    /// Returns how many bytes of peers it holds.
     pub fn held(&self) -> usize
         ensures { result ≤ 43008 }
     {
@@ -55,63 +57,63 @@ impl<W: Write + Drop, H: Host + Drop> Trace<W, H> {
         }
     }
 
-    /// Tells of the connection with this number from here on.
+    /// Shows the connection with this number from here on.
     pub fn begin(&self, number: u64) {
         if let Ok(mut teller) = self.teller.try_borrow_mut() {
             teller.begin(number);
         }
     }
 
-    /// Tells that it was accepted, and who its peer is. Its age is counted from here.
+    /// Shows that the connection was accepted, and who its peer is. Its age counts from here.
     pub fn met<P: Display + Drop>(&self, peer: P) {
         if let Ok(mut teller) = self.teller.try_borrow_mut() {
             teller.met(peer);
         }
     }
 
-    /// Tells how it was served.
+    /// Shows how the connection was served.
     pub fn end(&self, served: Result<End, ServeFault>) {
         if let Ok(mut teller) = self.teller.try_borrow_mut() {
             teller.end(served);
         }
     }
 
-    /// Tells that its host gave it up.
+    /// Shows that the host gave the connection up, and why.
     pub fn give_up(&self, cause: Cause) {
         if let Ok(mut teller) = self.teller.try_borrow_mut() {
             teller.give_up(cause);
         }
     }
 
-    /// Tells of a step: what came before it, what it came to, and what was sent.
+    /// Shows a step: what came before it, what it resulted in, and what was sent.
     pub fn did(&self, stepped: &Stepped) {
         if let Ok(mut teller) = self.teller.try_borrow_mut() {
             teller.did(stepped);
         }
     }
 
-    /// Is told what came, as far as the next step takes it.
+    /// Takes the bytes that came, as far as the next step uses them.
     pub fn came(&self, bytes: &[u8]) {
         if let Ok(mut teller) = self.teller.try_borrow_mut() {
             teller.came(bytes);
         }
     }
 
-    /// Tells what is sent in no step.
+    /// Shows bytes that are sent in no step.
     pub fn said(&self, bytes: &[u8]) {
         if let Ok(mut teller) = self.teller.try_borrow_mut() {
             teller.said(bytes);
         }
     }
 
-    /// Is told what is sent in the next step.
+    /// Takes the bytes that are sent in the next step.
     pub fn went(&self, bytes: &[u8]) {
         if let Ok(mut teller) = self.teller.try_borrow_mut() {
             teller.went(bytes);
         }
     }
 
-    /// Writes out what was told.
+    /// Flushes the lines that were written.
     pub fn waits(&self) {
         if let Ok(mut teller) = self.teller.try_borrow_mut() {
             teller.waits();
@@ -125,9 +127,9 @@ impl<W: Write + Drop, H: Host + Drop> Watch for &Trace<W, H> {
     }
 }
 
-/// A reader that tells what it gave, and before that that it waits for its peer.
-// There may be no trace, so that a program which traces or not serves by one body: of two the compiler would inline less, which
-// is some 200 instructions of a message.
+/// A reader that reports what it gave to a trace, and that it waits for its peer before that.
+// There may be no trace, so that a program which traces or not serves by one body: of two the compiler would
+// inline less, which costs some 200 instructions for each message.
 #[derive(Drop)]
 pub struct TracedReader<'a, R, W: Write + Drop, H: Host + Drop> {
     reader: R,
@@ -135,7 +137,7 @@ pub struct TracedReader<'a, R, W: Write + Drop, H: Host + Drop> {
 }
 
 impl<'a, R, W: Write + Drop, H: Host + Drop> TracedReader<'a, R, W, H> {
-    /// This reader, told to a trace, if there is one.
+    /// Makes a reader of this one that reports to a trace, if there is one.
     pub fn new(reader: R, trace: Option<&'a Trace<W, H>>) -> Self
         ensures { traced_reader result ≡ reader }
     {
@@ -184,7 +186,7 @@ impl<R: AtHand, W: Write + Drop, H: Host + Drop> AtHand for TracedReader<'_, R, 
     }
 }
 
-/// A writer that tells what it took.
+/// A writer that reports what it took to a trace.
 #[derive(Drop)]
 pub struct TracedWriter<'a, S, W: Write + Drop, H: Host + Drop> {
     writer: S,
@@ -192,14 +194,14 @@ pub struct TracedWriter<'a, S, W: Write + Drop, H: Host + Drop> {
 }
 
 impl<'a, S, W: Write + Drop, H: Host + Drop> TracedWriter<'a, S, W, H> {
-    /// This writer, told to a trace, if there is one.
+    /// Makes a writer of this one that reports to a trace, if there is one.
     pub fn new(writer: S, trace: Option<&'a Trace<W, H>>) -> Self
         ensures { traced_writer result ≡ writer }
     {
         TracedWriter { writer, trace }
     }
 
-    /// The writer itself.
+    /// Returns the writer itself.
     pub fn into_inner(self) -> S
         ensures { result ≡ traced_writer self.entry }
     {

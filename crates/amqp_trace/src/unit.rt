@@ -1,4 +1,4 @@
-//! The unit that is due in one direction of a connection, of which the front is kept.
+//! The unit that is due in one direction of a connection. Its front is kept.
 
 ghost use Rattle.std.specs.Prelude.{◌≡◌, ◌≤◌, length, IfOk};
 
@@ -9,10 +9,10 @@ use std::marker::Model;
 /// How many bytes of a unit are kept.
 pub const KEPT: usize = 4096;
 
-/// The length of the header of a connection, and of that of a frame. [2.2, 2.3.1]
+/// The length of the header of a connection, and of the header of a frame. [2.2, 2.3.1]
 pub const HEAD: usize = 8;
 
-/// How many bytes of a frame say its size. [2.3.1]
+/// How many bytes of a frame give its size. [2.3.1]
 const SIZE: usize = 4;
 
 /// The unit that is due: the header of a connection, or a frame. Its first [`KEPT`] bytes are kept, the others are counted.
@@ -21,7 +21,7 @@ pub struct Unit {
     kept: Vec<u8>,
     /// How many bytes of it came.
     count: usize,
-    /// Where it begins: bytes from the first one of the stream.
+    /// Where it begins, in bytes from the start of the stream.
     place: usize,
 }
 
@@ -36,7 +36,8 @@ impl Model for Unit {
 }
 
 impl Unit {
-    /// The header, of which nothing came. It takes memory for what is kept, and none after that.
+    /// Makes a unit that is the header, of which nothing came. It takes memory for what is kept, and none after
+    /// that.
     pub fn new(alloc: Global) -> Result<Unit, AllocError> {
         Ok(Unit {
             kept: Vec::with_capacity(alloc, KEPT)?,
@@ -45,21 +46,21 @@ impl Unit {
         })
     }
 
-    /// Begins with the header of another connection.
+    /// Begins anew, with the header of another connection.
     pub fn restart(&mut self) {
         self.kept.clear();
         self.count = 0;
         self.place = 0;
     }
 
-    /// Goes on to the unit behind this one.
+    /// Goes on to the unit after this one.
     pub fn go_on(&mut self) {
         self.kept.clear();
         self.place = self.place.saturating_add(self.count);
         self.count = 0;
     }
 
-    /// Takes bytes to the end of the unit, or all where they are fewer, and answers how many.
+    /// Takes bytes up to the end of the unit, or all if they are fewer, and returns how many it took.
     pub fn take(&mut self, bytes: &[u8]) -> Result<usize, AllocError>
         ensures { IfOk result (λ n. n ≤ length bytes.now) }
     {
@@ -68,7 +69,7 @@ impl Unit {
         Ok(first + rest)
     }
 
-    /// Takes bytes until so many of the unit came.
+    /// Takes bytes until `end` bytes of the unit came, and returns how many it took.
     fn take_to(&mut self, bytes: &[u8], end: usize) -> Result<usize, AllocError>
         ensures { IfOk result (λ n. n ≤ length bytes.now) }
     {
@@ -79,22 +80,23 @@ impl Unit {
         Ok(count)
     }
 
-    /// Whether it is the header of the connection. [2.2]
+    /// Returns whether it is the header of the connection. [2.2]
     pub fn is_header(&self) -> bool {
         self.place == 0
     }
 
-    /// Whether no byte of it came.
+    /// Returns whether no byte of it came.
     pub fn is_empty(&self) -> bool {
         self.count == 0
     }
 
-    /// Whether all of it came.
+    /// Returns whether all of it came.
     pub fn is_whole(&self) -> bool {
         self.count >= HEAD && self.count == self.size()
     }
 
-    /// How long it is, as it says itself; what came of it where it doesn't say it yet. [2.3.1]
+    /// Returns how long it is in bytes, as it says itself, or how much of it came if it doesn't say it yet.
+    /// [2.3.1]
     pub fn size(&self) -> usize {
         match self.kept.first_chunk::<SIZE>() {
             _ if self.is_header() => HEAD,
@@ -107,26 +109,26 @@ impl Unit {
         self.place
     }
 
-    /// Its first bytes, as many as are kept.
+    /// Returns its first bytes, as many as are kept.
     pub fn kept(&self) -> &[u8]
         ensures { result.now ≡ self.now }
     {
         &self.kept
     }
 
-    /// How many these are.
+    /// Returns how many bytes are kept.
     pub fn kept_len(&self) -> usize
         ensures { result ≤ 4096 }
     {
         self.kept.len()
     }
 
-    /// How many bytes of the whole unit are not kept.
+    /// Returns how many bytes of the whole unit are not kept.
     pub fn left_out(&self) -> usize {
         self.size().saturating_sub(self.kept.len())
     }
 
-    /// The channel of a frame. [2.3.1]
+    /// Returns the channel of a frame. [2.3.1]
     pub fn channel(&self) -> u16 {
         match self.kept.get(6..HEAD) {
             Some([high, low]) => u16::from_be_bytes([*high, *low]),
@@ -134,7 +136,7 @@ impl Unit {
         }
     }
 
-    /// Where the body of a frame begins. [2.3.1]
+    /// Returns where the body of a frame begins. [2.3.1]
     fn body_place(&self) -> usize {
         match self.kept.get(4) {
             Some(offset) => 4 * usize::from(*offset),
@@ -142,19 +144,19 @@ impl Unit {
         }
     }
 
-    /// The body of a frame, as far as it is kept. [2.3.1]
+    /// Returns the body of a frame, as far as it is kept. [2.3.1]
     pub fn body(&self) -> &[u8]
         ensures { length result.now ≤ length self.now }
     {
         self.kept.get(self.body_place()..).unwrap_or(&[])
     }
 
-    /// Whether a frame has a body. [2.3.1]
+    /// Returns whether a frame has a body. [2.3.1]
     pub fn has_body(&self) -> bool {
         self.body_place() < self.size()
     }
 
-    /// Why this is no frame, where its first bytes say so. [2.3.1]
+    /// Returns why this is no frame, if its first bytes say so. [2.3.1]
     pub fn fault(&self) -> Option<FrameFault> {
         let size = self.size();
         if self.is_header() || self.kept.len() < SIZE {

@@ -5,7 +5,7 @@ use amqp_perform::{Condition, Outcome};
 use amqp_serve::ServeFault;
 use std::fmt::{self, Display, Formatter};
 
-/// What a condition says, by the words of the standard. [2.8.15 to 2.8.18]
+/// Returns what a condition says, in the words of the standard. [2.8.15 to 2.8.18]
 pub fn meaning(condition: Condition) -> &'static str {
     match condition {
         Condition::FramingError => {
@@ -39,7 +39,7 @@ pub fn meaning(condition: Condition) -> &'static str {
     }
 }
 
-/// Why the first eight bytes of a peer are refused. [2.2, 5.2.1, 5.3.1]
+/// Returns why the first eight bytes of a peer are refused. [2.2, 5.2.1, 5.3.1]
 pub fn refusal(header: &[u8]) -> &'static str {
     match *header {
         [b'A', b'M', b'Q', b'P', 3, ..] => "the peer begins with SASL, which is not spoken here",
@@ -51,7 +51,7 @@ pub fn refusal(header: &[u8]) -> &'static str {
     }
 }
 
-/// What became of a message. [3.4.2 to 3.4.5]
+/// Returns the name of an outcome. [3.4.2 to 3.4.5]
 pub fn fate(outcome: Outcome) -> &'static str {
     match outcome {
         Outcome::Accepted => "accepted",
@@ -61,7 +61,7 @@ pub fn fate(outcome: Outcome) -> &'static str {
     }
 }
 
-/// How a connection was served, as `recv` says it.
+/// How a connection was served, in the words of `recv`.
 #[derive(Clone, Copy, Drop)]
 pub struct Ending(pub Result<End, ServeFault>);
 
@@ -77,7 +77,7 @@ impl Display for Ending {
     }
 }
 
-/// The same in a sentence.
+/// How a connection was served, as a sentence.
 #[derive(Clone, Copy, Drop)]
 pub struct HowItEnded(pub Result<End, ServeFault>);
 
@@ -106,16 +106,16 @@ impl Display for HowItEnded {
 pub enum Cause {
     /// The peer said nothing for too long.
     Idle,
-    /// Its socket took nothing for too long.
+    /// The peer's socket took nothing for too long.
     Deaf,
     /// The peer took none of its answers for too long.
     Slow,
-    /// The host ended itself.
+    /// The host stopped.
     Stopped,
 }
 
 impl Cause {
-    /// The same in a sentence.
+    /// Returns the cause as a sentence.
     pub fn sentence(self) -> &'static str {
         match self {
             Cause::Idle => "the peer said nothing for too long",

@@ -17,7 +17,7 @@ abbrev pub by_size : SizeWidth → ℕ → ℕ → ℕ
 by_size size.One one four = one
 by_size size.Four one four = four
 
--- the code of a kind's full form, or of the kind with a size of that width
+-- the code of a kind's full form, or of a variable-width kind with a size of that width
 abbrev pub full_code : SizeWidth → Kind → ℕ
 full_code s kind.Null = 0x40
 full_code s kind.Boolean = 0x56
@@ -44,7 +44,7 @@ full_code s kind.List = by_size s 0xc0 0xd0
 full_code s kind.Map = by_size s 0xc1 0xd1
 full_code s kind.Array = by_size s 0xe0 0xf0
 
--- The short forms of numbers: some values stand behind no data, or behind one byte. [1.6.2 to 1.6.10]
+-- The short forms of numbers: some values have no data, or one byte of data. [1.6.2 to 1.6.10]
 abbrev pub boolean_form : ℕ → Option Short
 boolean_form n = if n == 0 then Some (short.Code 0x42) else (if n == 1 then Some (short.Code 0x41) else None)
 
@@ -56,7 +56,7 @@ unsigned_form zero_code code n = if n == 0 then Some (short.Code zero_code) else
 abbrev pub signed_form : ℕ → ℕ → ℕ → Option Short
 signed_form code least n = if nat_lt n 128 || nat_le least n then Some (short.Byte code (n % 256)) else None
 
--- the spelling of a number that is shorter than the full form, where there is one
+-- the spelling of a number that is shorter than the full form, if there is one
 abbrev pub short_form : Kind → ℕ → Option Short
 short_form kind.Boolean n = boolean_form n
 short_form kind.Uint n = unsigned_form 0x43 0x52 n
@@ -87,7 +87,7 @@ shell_of (Described d t) = shell.Described
 abbrev pub block : SizeWidth → ℕ → List ℕ → List ℕ
 block s count content = big_bytes (size_len s) (size_len s + length content) ++ (big_bytes (size_len s) count ++ content)
 
--- the data behind the code of the full form
+-- the data after the code of the full form
 abbrev pub full_data : SizeWidth → Shell → List ℕ → List ℕ
 full_data s (shell.Number k n) content = big_bytes (width k) n
 full_data s (shell.Octets k) content = big_bytes (size_len s) (length content) ++ content
@@ -105,7 +105,7 @@ is_small (shell.Map n) content = nat_lt n 256 && nat_lt (length content) 255
 is_small (shell.Array n) content = nat_lt n 256 && nat_lt (length content) 255
 is_small shell.Described content = true
 
--- the width of sizes that is enough
+-- the width of size fields that is enough
 abbrev pub narrowest : Bool → SizeWidth
 narrowest small = if small then size.One else size.Four
 
@@ -113,7 +113,7 @@ abbrev pub sized : Kind → Shell → List ℕ → List ℕ
 sized k around content =
     let s = narrowest (is_small around content) in full_code s k ∷ full_data s around content
 
--- the shortest spelling, of what stands around the content and the content
+-- the shortest spelling of a shell and a content
 abbrev pub shortest : Shell → List ℕ → List ℕ
 shortest (shell.Number k n) content = number_text k n (short_form k n)
 shortest (shell.Octets k) content = sized k (shell.Octets k) content
@@ -122,7 +122,7 @@ shortest (shell.Map n) content = sized kind.Map (shell.Map n) content
 shortest (shell.Array n) content = sized kind.Array (shell.Array n) content
 shortest shell.Described content = 0 ∷ content
 
--- the items of an array: all of them fit the width of sizes that their one constructor has [1.6.24]
+-- whether all items of an array fit size fields of one byte, for they share one constructor [1.6.24]
 abbrev pub all_small : List (Shell × List ℕ) → Bool
 all_small [] = true
 all_small (p ∷ ps) = is_small p.0 p.1 && all_small ps
@@ -169,7 +169,7 @@ abbrev mutual
 abbrev pub canonical : Tree → List ℕ
 canonical t = shortest (shell_of t) (content_of t)
 
--- a size and a count of four bytes hold those of the value itself [1.2.2 to 1.2.4]
+-- the size and the count of the value itself fit four bytes [1.2.2 to 1.2.4]
 abbrev pub has_room : Shell → List ℕ → Bool
 has_room (shell.Number k n) content = true
 has_room (shell.Octets k) content = nat_lt (length content) (2 ^ 32)
@@ -203,7 +203,7 @@ IsOfOctets kind.String = Unit {0}
 IsOfOctets kind.Symbol = Unit {0}
 IsOfOctets _ = ⊥
 
--- Ranged values: each number is one of its kind, and so are the bytes of each text. [1.6]
+-- Ranged values: each number is valid for its kind, and so are the bytes of each text. [1.6]
 abbrev mutual
   pub IsRanged : Tree → Type 0
   IsRanged (Number k n) = (fixed_width k ≢ None) × (n < 256 ^ width k) × IsNumberOf k n

@@ -10,7 +10,7 @@ use Rattle.amqp_types.specs.declared.code.Form.TheVariants as form
 use Rattle.amqp_types.specs.declared.code.SizeWidth.TheVariants as size
 use Rattle.amqp_types.specs.Kinds.{fixed_width, width, is_container}
 
--- each code with the kind that it makes, and the form of the data behind it
+-- each code with the kind that it makes, and the form of the data after it
 abbrev pub constructors : List (ℕ × Constructor)
 constructors =
     (0x40, Fixed kind.Null form.Full) ∷
@@ -58,7 +58,7 @@ constructors =
 abbrev pub find_code : ℕ → Option Constructor
 find_code code = lookup (λ c. code == c) constructors
 
--- a form of n bytes or fewer that has room for its number
+-- a number of n bytes has room for the form
 abbrev pub HasRoom : Form → ℕ → Type 0
 HasRoom form.Zero n = Unit {0}
 HasRoom form.Full n = Unit {0}

@@ -4,7 +4,7 @@ use Rattle.std.specs.Str.{bytes_eq}
 use Rattle.amqp_types.specs.Reading.{Read, ◌>>=◌, value_of}
 use Rattle.amqp_types.specs.Trees.{Tree}
 
--- the value that the bytes begin with, within a depth and so many nodes, and the bytes behind it
+-- the value that the bytes begin with, within limits of depth and nodes, and the bytes after it
 abbrev pub decoded : ℕ → ℕ → List ℕ → Read Tree
 decoded depth nodes bytes = value_of depth (Some nodes) bytes >>= λ x. Ok (x.0, x.2)
 

@@ -1,9 +1,9 @@
--- What a reading has in hand: the bytes around a value, and the nodes that may still be charged. The places of faults come from them.
+-- The state of a reading: the window of the bytes, and the nodes that may still be charged. The places of faults come from them.
 use Rattle.std.specs.Prelude.{ℕ, ◌-◌, List, length, Option}
 use Rattle.amqp_types.specs.declared.fault.ReadFault.TheVariants.{Truncated}
 use Rattle.amqp_types.specs.declared.window.Window.{Window}
 
--- the outermost bytes: what ends too soon is truncated at their end
+-- the window of the outermost bytes: what ends too soon is truncated at their end
 abbrev pub outermost : List ℕ → Window
 outermost bytes = record { short = Truncated (length bytes); end = length bytes }
 
@@ -11,6 +11,6 @@ outermost bytes = record { short = Truncated (length bytes); end = length bytes 
 abbrev pub place : Window → List ℕ → ℕ
 place w bytes = w.end - length bytes
 
--- the nodes that may still be charged; None where they are not counted, and keys not compared
+-- the nodes that may still be charged; None if nodes are not counted and keys are not compared
 abbrev pub Budget : Type 0
 Budget = Option ℕ

@@ -1,10 +1,10 @@
--- The kinds of values, and the widths of those that always take as many bytes. [1.6]
+-- The kinds of values, and the widths of those of fixed width. [1.6]
 use Rattle.std.specs.Prelude.{ℕ, Bool, true, false, Option, Some, None}
 use Rattle.std.specs.Option.{unwrap_or}
 use Rattle.amqp_types.specs.declared.kind.Kind.{Kind}
 use Rattle.amqp_types.specs.declared.kind.Kind.TheVariants as kind
 
--- the bytes of a fixed-width kind's full form; none for a kind of variable width
+-- how many bytes a fixed-width kind's full form has; None for a kind of variable width
 abbrev pub fixed_width : Kind → Option ℕ
 fixed_width kind.Null = Some 0
 fixed_width kind.Boolean = Some 1
@@ -34,13 +34,13 @@ fixed_width kind.Array = None
 abbrev pub width : Kind → ℕ
 width kind = unwrap_or (fixed_width kind) 0
 
--- whether some full form of the kind stands for no number of it [1.6.2, 1.6.16]
+-- whether some data of the kind's full form are not valid [1.6.2, 1.6.16]
 abbrev pub is_partial : Kind → Bool
 is_partial kind.Boolean = true
 is_partial kind.Char = true
 is_partial _ = false
 
--- whether values of the kind hold others
+-- whether values of the kind may hold others
 abbrev pub is_container : Kind → Bool
 is_container kind.List = true
 is_container kind.Map = true

@@ -21,12 +21,12 @@ use Rattle.amqp_types.specs.InHand.{Budget, place}
 
 -- ---- what is left of depth and nodes
 
--- nodes are counted, and keys compared
+-- nodes are counted, and keys are compared
 abbrev pub IsCounted : Budget → Type 0
 IsCounted None = ⊥
 IsCounted (Some left) = Unit {0}
 
--- so many nodes are left, and fewer
+-- at least n nodes are left; fewer than n are left
 abbrev pub Enough : Budget → ℕ → Type 0
 Enough None n = Unit {0}
 Enough (Some left) n = n ≤ left
@@ -35,7 +35,7 @@ abbrev pub IsShort : Budget → ℕ → Type 0
 IsShort None n = ⊥
 IsShort (Some left) n = left < n
 
--- what is left where so many are charged
+-- what is left after n nodes are charged
 abbrev pub spend : Budget → ℕ → Budget
 spend None n = None
 spend (Some left) n = Some (left - n)
@@ -44,7 +44,7 @@ spend (Some left) n = Some (left - n)
 abbrev pub MayStand : Constructor → ℕ → Type 0
 MayStand c depth = is_container (kind_of c) ≡ true → 1 ≤ depth
 
--- The value is within the depth and the nodes that are left, and lawful where keys are compared.
+-- The value is within the depth and the nodes that are left, and it is lawful if keys are compared.
 pub record IsWithin (depth : ℕ) (budget : Budget) (t : Tree) : Type 0 where
   pub deep : depth_of t ≤ depth
   pub few : Enough budget (nodes_in t)
@@ -52,7 +52,7 @@ pub record IsWithin (depth : ℕ) (budget : Budget) (t : Tree) : Type 0 where
 
 -- ---- data
 
--- the bytes end before a size of at least so many does, or before what it states
+-- the bytes end before the size field does; or the size is at least `least`, and they end before what it counts
 abbrev pub EndsInSized : SizeWidth → ℕ → List ℕ → Type 0
 EndsInSized s least bytes =
     (length bytes < size_len s) ⊎ ((least ≤ big_number (size_len s) bytes) × (length bytes < size_len s + big_number (size_len s) bytes))
@@ -66,7 +66,7 @@ EndsInside (ListIn s) bytes = EndsInSized s (size_len s) bytes
 EndsInside (MapIn s) bytes = EndsInSized s (size_len s) bytes
 EndsInside (ArrayIn s) bytes = EndsInSized s (size_len s + 1) bytes
 
--- the size in front is not even that of a count, or of an array's count and element constructor
+-- the size at the front is too small for a count, or for an array's count and element constructor
 abbrev pub IsBelow : SizeWidth → ℕ → List ℕ → Type 0
 IsBelow s least bytes = (size_len s ≤ length bytes) × (big_number (size_len s) bytes < least)
 
@@ -76,20 +76,20 @@ IsTooSmall (MapIn s) bytes = IsBelow s (size_len s) bytes
 IsTooSmall (ArrayIn s) bytes = IsBelow s (size_len s + 1) bytes
 IsTooSmall _ bytes = ⊥
 
--- what a kind's number is not of, and which fault that is
+-- the number is not valid for the kind, and which fault that is
 abbrev pub NumberFault : Kind → ℕ → ℕ → ReadFault → Type 0
 NumberFault kind.Boolean at n fault = (2 ≤ n) × (fault ≡ BadBoolean at)
 NumberFault kind.Char at n fault = (IsNumberOf kind.Char n → ⊥) × (fault ≡ BadChar at)
 NumberFault _ at n fault = ⊥
 
--- the same of a kind's bytes: at the first byte after the longest valid text, or that is beyond ASCII
+-- the bytes are not valid for the kind: the fault is after the longest valid text, or at the first byte from 0x80
 abbrev pub OctetsFault : Kind → ℕ → List ℕ → ReadFault → Type 0
 OctetsFault kind.String at octets fault = (n : ℕ) × IsValidUpTo octets n × (fault ≡ BadText (at + n))
 OctetsFault kind.Symbol at octets fault = (n : ℕ) × (n < length octets) × IsAscii (take n octets) × (128 ≤ slice_index octets n) × (fault ≡ BadSymbol (at + n))
 OctetsFault _ at octets fault = ⊥
 
--- The bytes begin with a block of so many parts, whose count stands at the place; the parts end where the block
--- does, and what reaches past it is a bad size. Behind it are more bytes.
+-- The bytes begin with a block of `count` parts, whose count field is at the place; the parts end where the block
+-- does, and what reaches past it is a bad size. More bytes may follow it.
 pub record IsBlockOf (w : Window) (s : SizeWidth) (count : ℕ) (parts bytes : List ℕ) (within : Window) (at : ℕ) : Type 0 where
   pub text : List ℕ
   pub others : List ℕ
@@ -98,7 +98,7 @@ pub record IsBlockOf (w : Window) (s : SizeWidth) (count : ℕ) (parts bytes : L
   pub inner : within ≡ record { short = BadSize (place w bytes); end = place w others }
   pub count_place : at ≡ within.end - (size_len s + length parts)
 
--- a block of the constructor's, whose parts are at least so many bytes; a map's count is even
+-- the constructor may have such a block: an array's parts have at least one byte, and a map's count is even
 abbrev pub IsHolder : Constructor → SizeWidth → ℕ → List ℕ → Type 0
 IsHolder (ListIn s) size count parts = size ≡ s
 IsHolder (MapIn s) size count parts = (size ≡ s) × (count % 2 ≡ 0)
@@ -112,25 +112,25 @@ abbrev pub IsAmong : Tree → Trees → Type 0
 IsAmong key none = ⊥
 IsAmong key (more t ts) = (t ≡ key) ⊎ IsAmong key ts
 
--- it is none of these, where keys are compared
+-- the key is none of these, if keys are compared
 abbrev pub IsNewKey : Budget → Tree → Trees → Type 0
 IsNewKey budget key seen = IsCounted budget → IsAmong key seen → ⊥
 
 -- ---- values
 
--- what should stand at the front
+-- what should be at the front
 pub data Sought : Type 0 where
-  -- a value, which is charged so many nodes
+  -- a value that is charged this many nodes
   AValue : ℕ → Sought
-  -- the data behind a constructor
+  -- the data after a constructor
   DataOf : Constructor → Sought
-  -- so many values, and then the end
+  -- this many values, and then the end
   Values : ℕ → Sought
-  -- so many keys, none of them among these, each with its value, and then the end
+  -- this many keys, none of them among these, each with its value, and then the end
   Entries : Trees → ℕ → Sought
-  -- an array's element constructor, so many items, and then the end
+  -- an array's element constructor, this many items, and then the end
   Elements : ℕ → Sought
-  -- the data of so many items behind an element constructor, and then the end
+  -- the data of this many items after an element constructor, and then the end
   Items : ℕ → ℕ → Sought
 
 -- a constructor's code comes first
@@ -139,7 +139,7 @@ OpensWithCode (AValue due) = Unit {0}
 OpensWithCode (Elements n) = Unit {0}
 OpensWithCode _ = ⊥
 
--- nothing more is to stand there
+-- nothing more should be there
 abbrev pub IsDone : Sought → Type 0
 IsDone (Values n) = n ≡ 0
 IsDone (Entries seen n) = n ≡ 0
@@ -152,7 +152,7 @@ parts_of (MapIn s) count = Entries none (count / 2)
 parts_of (ArrayIn s) count = Elements count
 parts_of _ count = Values count
 
--- What is sought is not there: up to a place the bytes are spelled so, and what stands there has the fault.
+-- What is sought is not there: up to a place the bytes spell it, and what is at that place has the fault.
 pub data Misread : Sought → ℕ → Window → Budget → List ℕ → ReadFault → Type 0 where
   -- nothing is there
   nothing : {sought : Sought} {depth : ℕ} {w : Window} {budget : Budget} → OpensWithCode sought → Misread sought depth w budget [] w.short
@@ -162,18 +162,18 @@ pub data Misread : Sought → ℕ → Window → Budget → List ℕ → ReadFau
   -- no constructor has the code
   unknown_code : {sought : Sought} {depth : ℕ} {w : Window} {budget : Budget} {code : ℕ} {rest : List ℕ} → OpensWithCode sought → code ≢ 0 → find_code code ≡ None
       → Misread sought depth w budget (code ∷ rest) (UnknownCode (place w (code ∷ rest)))
-  -- a container, and no depth is left
+  -- a container begins, and no depth is left
   too_deep : {sought : Sought} {w : Window} {budget : Budget} {code : ℕ} {rest : List ℕ} (c : Constructor) → OpensWithCode sought → find_code code ≡ Some c → is_container (kind_of c) ≡ true
       → Misread sought 0 w budget (code ∷ rest) (TooDeep (place w (code ∷ rest)))
   too_deep_described : {due : ℕ} {w : Window} {budget : Budget} {rest : List ℕ} → Misread (AValue due) 0 w budget (0 ∷ rest) (TooDeep (place w (0 ∷ rest)))
-  -- fewer nodes are left than are charged at a constructor, at the 00 of a described value or of a descriptor
+  -- fewer nodes are left than are charged: at a constructor, or at the 00 of a described value or of a descriptor
   too_many : {due depth : ℕ} {w : Window} {budget : Budget} {code : ℕ} {rest : List ℕ} (c : Constructor) → find_code code ≡ Some c → MayStand c depth → IsShort budget due
       → Misread (AValue due) depth w budget (code ∷ rest) (TooManyNodes (place w (code ∷ rest)))
   too_many_described : {due depth : ℕ} {w : Window} {budget : Budget} {rest : List ℕ} → IsShort budget (due + 2)
       → Misread (AValue due) (suc depth) w budget (0 ∷ rest) (TooManyNodes (place w (0 ∷ rest)))
   too_many_descriptors : {n depth : ℕ} {w : Window} {budget : Budget} {rest : List ℕ} → IsShort budget 1
       → Misread (Elements n) depth w budget (0 ∷ rest) (TooManyNodes (place w (0 ∷ rest)))
-  -- the data behind the constructor are bad
+  -- the data after the constructor are bad
   bad_data : {due depth : ℕ} {w : Window} {budget : Budget} {code : ℕ} {rest : List ℕ} {fault : ReadFault} (c : Constructor) → find_code code ≡ Some c → MayStand c depth → Enough budget due
       → Misread (DataOf c) depth w (spend budget due) rest fault
       → Misread (AValue due) depth w budget (code ∷ rest) fault
@@ -188,11 +188,11 @@ pub data Misread : Sought → ℕ → Window → Budget → List ℕ → ReadFau
   -- the bytes end inside the data
   ends_inside : {c : Constructor} {depth : ℕ} {w : Window} {budget : Budget} {bytes : List ℕ} → EndsInside c bytes
       → Misread (DataOf c) depth w budget bytes w.short
-  -- the data stand for a number that is none of the kind
+  -- the data give a number that is not valid for the kind
   no_number : {k : Kind} {f : Form} {depth : ℕ} {w : Window} {budget : Budget} {bytes : List ℕ} {fault : ReadFault} (n : ℕ) (text rest : List ℕ)
       → bytes ≡ text ++ rest → SpellsNumber f (width k) n text → NumberFault k (place w bytes) n fault
       → Misread (DataOf (Fixed k f)) depth w budget bytes fault
-  -- the data are bytes that are none of the kind
+  -- the data are bytes that are not valid for the kind
   no_octets : {k : Kind} {s : SizeWidth} {depth : ℕ} {w : Window} {budget : Budget} {bytes : List ℕ} {fault : ReadFault} (octets text rest : List ℕ)
       → bytes ≡ text ++ rest → SpellsOctets s octets text → OctetsFault k (place w (octets ++ rest)) octets fault
       → Misread (DataOf (Variable k s)) depth w budget bytes fault
@@ -236,7 +236,7 @@ pub data Misread : Sought → ℕ → Window → Budget → List ℕ → ReadFau
       → Spells value second → IsWithin depth (spend budget (nodes_in key)) value
       → Misread (Entries (more key seen) n) depth w (spend (spend budget (nodes_in key)) (nodes_in value)) rest fault
       → Misread (Entries seen (suc n)) depth w budget bytes fault
-  -- a descriptor is bad, or it is spelled and what comes behind it is bad
+  -- a descriptor is bad, or it is spelled and what comes after it is bad
   bad_array_descriptor : {n depth : ℕ} {w : Window} {budget : Budget} {rest : List ℕ} {fault : ReadFault} → Enough budget 1
       → Misread (AValue 0) depth w (spend budget 1) rest fault
       → Misread (Elements n) depth w budget (0 ∷ rest) fault
@@ -244,7 +244,7 @@ pub data Misread : Sought → ℕ → Window → Budget → List ℕ → ReadFau
       → bytes ≡ text ++ rest → Spells t text → IsWithin depth (spend budget 1) t
       → Misread (Elements n) depth w (spend (spend budget 1) (nodes_in t)) rest fault
       → Misread (Elements n) depth w budget (0 ∷ bytes) fault
-  -- the items behind the element constructor are bad: the first, or a later one
+  -- the items after the element constructor are bad: the first, or a later one
   bad_items : {n depth : ℕ} {w : Window} {budget : Budget} {code : ℕ} {rest : List ℕ} {fault : ReadFault} (c : Constructor) → find_code code ≡ Some c → MayStand c depth
       → Misread (Items code n) depth w budget rest fault
       → Misread (Elements n) depth w budget (code ∷ rest) fault

@@ -1,4 +1,4 @@
--- Parts of a spelling in hand, and why a value is not written.
+-- Parts of a spelling in memory, and why a value is not written.
 use Rattle.std.specs.Prelude.{◌≡◌, ◌⊎◌, ℕ, List}
 use Rattle.amqp_types.specs.declared.shell.Shell.{Shell}
 use Rattle.amqp_types.specs.declared.part.Part.{Part}
@@ -11,10 +11,10 @@ use Rattle.amqp_types.specs.declared.write_fault.WriteFault.TheVariants.{TooLong
 abbrev pub seen : Part → Shell × List ℕ
 seen p = (p.shell, p.content.items)
 
--- what has to fit does not, or memory was refused
+-- what has to fit does not fit, or memory was refused
 abbrev pub IsUnfit : WriteFault → Type 0 → Type 0
 IsUnfit fault fits = (fault ≡ NoMemory) ⊎ ((fault ≡ TooLong) × (fits → ⊥))
 
--- why a value is not written: memory was refused, or what the value has
+-- why a value is not written: memory was refused, or the value breaks the law that the fault names
 abbrev pub IsRefusedFor : WriteFault → Tree → Type 0
 IsRefusedFor fault t = (fault ≡ NoMemory) ⊎ (((fault ≡ TooLong) × (Fits t → ⊥)) ⊎ (((fault ≡ WrongElement) × (ItemsAgree t → ⊥)) ⊎ ((fault ≡ DuplicateKey) × (KeysDiffer t → ⊥))))

@@ -24,7 +24,7 @@ IsUnsigned kind.Uint = Unit {0}
 IsUnsigned kind.Ulong = Unit {0}
 IsUnsigned _ = ⊥
 
--- the value is this scalar case; a number is one of its kind, and a size of four bytes counts the bytes
+-- the value is this scalar case; its number is valid for its kind, or it has less than 2^32 bytes
 abbrev pub IsScalarOf : Tree → Peek → Type 0
 IsScalarOf t peek.Null = t ≡ Number kind.Null 0
 IsScalarOf t (peek.Boolean b) = t ≡ Number kind.Boolean (if b then 1 else 0)
@@ -55,9 +55,9 @@ IsOther (MapOf ps) = Unit {0}
 IsOther (ArrayOf ds k ts) = Unit {0}
 IsOther (Described d t) = ⊥
 
--- the outermost case of a value that is spelled so
+-- the case is the outermost one of a value that has this spelling
 abbrev pub IsOutermost : Tree → List ℕ → Peek → Type 0
--- the spellings of a list's items stand at the end of its own
+-- the spellings of a list's items are at the end of the list's own
 IsOutermost t text (peek.List count items) =
     (ts : Trees) × (head : List ℕ) × (t ≡ ListOf ts) × (count ≡ count_of ts) × (text ≡ head ++ items.now) × SpellAll ts items.now
 IsOutermost t text (peek.Described first second) =
@@ -65,17 +65,17 @@ IsOutermost t text (peek.Described first second) =
 IsOutermost t text peek.Other = IsOther t
 IsOutermost t text scalar = IsScalarOf t scalar
 
--- the case was found
+-- the outermost case was found
 abbrev pub IsCaseFound : Tree → List ℕ → Result Peek ReadFault → Type 0
 IsCaseFound t text (Ok found) = IsOutermost t text found
 IsCaseFound t text (Err fault) = ⊥
 
--- the case was found of each value whose constructor stands in front of these bytes
+-- the outermost case was found of each value whose constructor is just before these bytes
 abbrev pub IsFoundBehind : Constructor → List ℕ → Result Peek ReadFault → Type 0
 IsFoundBehind c bytes result =
     (t : Tree) (code : ℕ) (data_ rest : List ℕ) → find_code code ≡ Some c → Spells t (code ∷ data_) → bytes ≡ data_ ++ rest
     → IsCaseFound t (code ∷ data_) result
 
--- so many bytes at the front of a buffer are now the text, and the others are as they were
+-- the first n bytes of a buffer are now the text, and the others are as they were
 abbrev pub IsPut : List ℕ → List ℕ → List ℕ → ℕ → Type 0
 IsPut text old new n = (n ≤ length old) × (take n new ≡ text) × (drop n new ≡ drop n old)

@@ -1,4 +1,4 @@
--- Where faults stand, and which of them reading without memory meets.
+-- The places of faults, and which faults reading without memory may have.
 use Rattle.std.specs.Prelude.{ℕ}
 use Rattle.amqp_types.specs.declared.fault.ReadFault.{ReadFault}
 use Rattle.amqp_types.specs.declared.fault.ReadFault.TheVariants.{Truncated, UnknownCode, BadSize, BadCount, BadText, BadSymbol, BadChar, BadBoolean, DuplicateKey, TooDeep, TooManyNodes, NoMemory}
@@ -18,7 +18,7 @@ place_of (TooDeep place) = place
 place_of (TooManyNodes place) = place
 place_of NoMemory = 0
 
--- a fault of the bytes alone: none of equal keys, of too many nodes, or of memory
+-- a fault that is not of equal keys, of too many nodes, or of memory
 abbrev pub IsPlain : ReadFault → Type 0
 IsPlain (DuplicateKey place) = ⊥
 IsPlain (TooManyNodes place) = ⊥

@@ -24,7 +24,7 @@ use Rattle.amqp_types.specs.Spelling.{sign_extended, size_len}
 use Rattle.amqp_types.specs.Trees.{Tree, Number, Octets, ListOf, MapOf, ArrayOf, Described, Trees, none, more, Pairs, no_pair, pair}
 use Rattle.amqp_types.specs.Images.{has_key}
 
--- what is read, and the bytes behind it
+-- what is read, and the bytes after it
 abbrev pub Read : Type 0 → Type 0
 Read A = Result (A × List ℕ) ReadFault
 
@@ -33,12 +33,12 @@ abbrev pub ◌>>=◌ : {A B : Type 0} → Result A ReadFault → (A → Result B
 (Ok x) >>= f = f x
 (Err e) >>= f = Err e
 
--- what a call returned, seen by view, is what reading gives
+-- what a call returned, seen through `view`, is what reading gives
 abbrev pub Is : {X Y : Type 0} → (X → Y) → Result X ReadFault → Result Y ReadFault → Type 0
 Is view (Ok x) read = read ≡ Ok (view x)
 Is view (Err e) read = read ≡ Err e
 
--- the same of a call that may be refused memory
+-- what a call that may be refused memory returned, seen through `view`, is what reading gives
 abbrev pub Gives : {X Y : Type 0} → (X → Y) → Result X ReadFault → Result Y ReadFault → Type 0
 Gives view (Ok x) read = read ≡ Ok (view x)
 Gives view (Err e) read = (e ≡ NoMemory) ⊎ (read ≡ Err e)
@@ -55,7 +55,7 @@ abbrev pub unless : {A : Type 0} → Option ReadFault → A → Result A ReadFau
 unless None x = Ok x
 unless (Some fault) x = Err fault
 
--- what is wrong with a number of the kind whose data begins at the place
+-- what is wrong with a number of the kind whose data begin at the place
 abbrev pub number_fault : Kind → ℕ → ℕ → Option ReadFault
 number_fault kind.Boolean at n = if nat_lt n 2 then None else Some (BadBoolean at)
 number_fault kind.Char at n = if scalar n then None else Some (BadChar at)
@@ -87,14 +87,14 @@ octets_fault kind.String at octets = if is_utf8 octets then None else Some (BadT
 octets_fault kind.Symbol at octets = option_map (λ n. BadSymbol (at + n)) (position is_beyond_ascii octets)
 octets_fault _ at octets = None
 
--- the bytes of a value of variable width, behind their size
+-- a size, and the bytes of a value of variable width after it
 unfoldable pub sized_at : Window → Kind → SizeWidth → List ℕ → Read (List ℕ)
 sized_at w k s bytes = do
   n ← big_at w (size_len s) bytes
   octets ← octets_at w n.0 n.1
   unless (octets_fault k (place w n.1) octets.0) octets
 
--- what is read, the nodes left, and the bytes behind
+-- what is read, the nodes left, and the bytes after it
 abbrev pub Part : Type 0 → Type 0
 Part A = Result (A × Budget × List ℕ) ReadFault
 
@@ -102,13 +102,13 @@ abbrev pub charge : Budget → ℕ → ℕ → Result Budget ReadFault
 charge None n at = Ok None
 charge (Some left) n at = if nat_lt left n then Err (TooManyNodes at) else Ok (Some (left - n))
 
--- a size, and as many bytes; they hold at least the count field
+-- the bytes that a size counts, with their window, and the bytes after them
 pub record Block : Type 0 where
   pub within : Window
   pub body : List ℕ
   pub behind : List ℕ
 
--- what stands in the block: it ends where the block does, and what reaches past it is a bad size
+-- the block of a size: its parts end where it does, and what reaches past it is a bad size
 abbrev pub block_of : Window → List ℕ → List ℕ × List ℕ → Block
 block_of w bytes parts =
     record { within = record { short = BadSize (place w bytes); end = place w parts.1 }; body = parts.0; behind = parts.1 }
@@ -124,18 +124,18 @@ count_at w s paired bytes = do
   count ← big_at w (size_len s) bytes
   if paired && (count.0 % 2 == 1) then Err (BadCount (place w bytes)) else Ok count
 
--- what is left of the nodes behind a part
+-- what is left of the nodes after a part
 abbrev pub behind : Budget → Budget → Budget
 behind None left = None
 behind (Some n) left = left
 
--- how values are read where so many levels of depth are left
+-- how values are read with a number of levels of depth left
 pub record Level : Type 0 where
-  -- the value at the front, which is charged so many nodes at its constructor
+  -- the value at the front, which is charged this many nodes at its constructor
   pub value : Window → ℕ → Budget → List ℕ → Part Tree
-  -- the data behind a constructor
+  -- the data after a constructor
   pub item : Constructor → Window → Budget → List ℕ → Part Tree
-  -- whether a container may stand there
+  -- whether a container may begin there
   pub holds : Bool
 
 -- as many values as the count says, one after the other
@@ -146,12 +146,12 @@ trees_at one (suc n) w budget bytes = do
   others ← trees_at one n w (behind budget first.1) first.2
   Ok (more first.0 others.0, others.1, others.2)
 
--- the key at the place is none of those before it
+-- the key at the place is not equal to one before it
 abbrev pub distinct : {A : Type 0} → Budget → Trees → Tree → ℕ → A → Result A ReadFault
 distinct None seen key at x = Ok x
 distinct (Some left) seen key at x = if has_key key seen then Err (DuplicateKey at) else Ok x
 
--- keys and values in turn, behind these keys
+-- keys and values in turn, after these keys
 unfoldable pub pairs_at : Level → Trees → ℕ → Window → Budget → List ℕ → Part Pairs
 pairs_at level seen zero w budget bytes = Ok (no_pair, budget, bytes)
 pairs_at level seen (suc n) w budget bytes = do
@@ -174,7 +174,7 @@ pub record Head : Type 0 where
 abbrev pub with_descriptor : Tree → Head → Head
 with_descriptor d head = record { descriptors = more d head.descriptors; constructor = head.constructor }
 
--- the constructor at the place, where its depth is left
+-- the constructor of a code at the place, if the depth left allows it
 abbrev pub allowed : ℕ → Bool → Option Constructor → Result Constructor ReadFault
 allowed at holds None = Err (UnknownCode at)
 allowed at holds (Some c) = if is_container (kind_of c) && not holds then Err (TooDeep at) else Ok c
@@ -222,7 +222,7 @@ array_at level w s budget bytes = do
 abbrev pub uncharged : {A : Type 0} → Budget → Read A → (A → Tree) → Part Tree
 uncharged budget read tree = read >>= λ x. Ok (tree x.0, budget, x.1)
 
--- the data behind a constructor, with what is inside read so; None where no depth is left
+-- the data after a constructor, with what is inside read as `inner` says; None if no depth is left
 unfoldable pub item_by : Option Level → Constructor → Window → Budget → List ℕ → Part Tree
 item_by inner (Fixed k f) w budget bytes = uncharged budget (number_at w k f bytes) (Number k)
 item_by inner (Variable k s) w budget bytes = uncharged budget (sized_at w k s bytes) (Octets k)
@@ -234,7 +234,7 @@ item_by (Some level) (ListIn s) w budget bytes = list_at level w s budget bytes
 item_by (Some level) (MapIn s) w budget bytes = map_at level w s budget bytes
 item_by (Some level) (ArrayIn s) w budget bytes = array_at level w s budget bytes
 
--- a descriptor and the value that it describes, behind 00 at the place
+-- a descriptor and the value that it describes, after the 00 at the place
 unfoldable pub described_at : Option Level → ℕ → Window → ℕ → Budget → List ℕ → Part Tree
 described_at None at w due budget bytes = Err (TooDeep at)
 described_at (Some level) at w due budget bytes = do
@@ -243,7 +243,7 @@ described_at (Some level) at w due budget bytes = do
   value ← level.value w 0 (behind budget descriptor.1) descriptor.2
   Ok (Described descriptor.0 value.0, value.1, value.2)
 
--- the value at the front, which is charged so many nodes at its constructor
+-- the value at the front, which is charged this many nodes at its constructor
 unfoldable pub value_by : Option Level → Window → ℕ → Budget → List ℕ → Part Tree
 value_by inner w due budget [] = Err w.short
 value_by inner w due budget (code ∷ rest) =
@@ -256,12 +256,12 @@ value_by inner w due budget (code ∷ rest) =
 abbrev pub level_by : Option Level → Level
 level_by inner = record { value = value_by inner; item = item_by inner; holds = is_some inner }
 
--- how what is inside a container is read, where so many levels of depth are left with it
+-- how values inside a container are read, if this many levels of depth are left with it
 unfoldable pub inside : ℕ → Option Level
 inside zero = None
 inside (suc depth) = Some (level_by (inside depth))
 
--- what is left of the bytes, where the value itself is of no interest
+-- what is left of the bytes, if the value itself is of no interest
 abbrev pub after : {A : Type 0} → Part A → Result (List ℕ) ReadFault
 after read = read >>= λ x. Ok x.2
 

@@ -1,4 +1,4 @@
--- What a value in hand is made of.
+-- What a value in memory is made of.
 use Rattle.std.specs.Prelude.{◌≡◌}
 use Rattle.amqp_types.specs.declared.shape.Shape.{Shape}
 use Rattle.amqp_types.specs.declared.shape.Shape.TheVariants as shape
@@ -17,7 +17,7 @@ tree_of (shape.Map entries) = MapOf (pair_views entries.now.items)
 tree_of (shape.Array descriptors k items) = ArrayOf (views descriptors.now.items) k (views items.now.items)
 tree_of (shape.Described d t) = Described (view d.now.value) (view t.now.value)
 
--- values that hold others hold these
+-- if the value holds others, it holds these
 abbrev pub IsMadeOf : Shape → Value → Type 0
 IsMadeOf (shape.Number k n) v = Unit {0}
 IsMadeOf (shape.Octets k octets) v = Unit {0}
@@ -26,7 +26,7 @@ IsMadeOf (shape.Map entries) v = v ≡ value.Map entries.now
 IsMadeOf (shape.Array descriptors k items) v = v ≡ value.Array descriptors.now k items.now
 IsMadeOf (shape.Described d t) v = v ≡ value.Described d.now t.now
 
--- the values that hold no others are ranged
+-- if the value holds no others, it is ranged
 abbrev pub IsRangedShape : Shape → Type 0
 IsRangedShape (shape.Number k n) = IsRanged (Number k n)
 IsRangedShape (shape.Octets k octets) = IsRanged (Octets k octets.now)

@@ -15,11 +15,11 @@ use Rattle.amqp_types.specs.Kinds.{width}
 use Rattle.amqp_types.specs.Codes.{find_code, kind_of}
 use Rattle.amqp_types.specs.Trees.{Tree, Number, Octets, ListOf, MapOf, ArrayOf, Described, Trees, none, more, Pairs, no_pair, pair, count_of, pair_count}
 
--- one signed byte, in two's complement of n bytes
+-- a signed byte, extended to n bytes in two's complement
 abbrev pub sign_extended : ℕ → ℕ → ℕ
 sign_extended n byte = if nat_lt byte 128 then byte else 256 ^ n - 256 + byte
 
--- the data that stands for a number of n bytes in a form [1.6]
+-- the data that give a number of n bytes in a form [1.6]
 abbrev pub SpellsNumber : Form → ℕ → ℕ → List ℕ → Type 0
 SpellsNumber form.Zero n number text = (number ≡ 0) × (text ≡ [])
 SpellsNumber form.One n number text = (number ≡ 1) × (text ≡ [])
@@ -35,12 +35,12 @@ form_len form.OneByte n = 1
 form_len form.OneSigned n = 1
 form_len form.Full n = n
 
--- the size in front of variable-width data [1.2.2]
+-- how many bytes the size field before variable-width data has [1.2.2]
 abbrev pub size_len : SizeWidth → ℕ
 size_len size.One = 1
 size_len size.Four = 4
 
--- the data of variable width: its size, then as many bytes [1.2.2]
+-- the data of variable width: their size, then as many bytes [1.2.2]
 abbrev pub SpellsOctets : SizeWidth → List ℕ → List ℕ → Type 0
 SpellsOctets s octets text = (length octets < 256 ^ size_len s) × (text ≡ big_bytes (size_len s) (length octets) ++ octets)
 
@@ -62,7 +62,7 @@ SpellsBlock s count parts text =
     (count < 256 ^ size_len s) × (size_len s + length parts < 256 ^ size_len s)
     × (text ≡ big_bytes (size_len s) (size_len s + length parts) ++ (big_bytes (size_len s) count ++ parts))
 
--- The bytes spell the value: a code of its kind, then data that stands for it.
+-- The bytes spell the value: a code of its kind, then data that give it.
 unfoldable mutual
   pub Spells : Tree → List ℕ → Type 0
   Spells (Number k n) bytes =
@@ -71,7 +71,7 @@ unfoldable mutual
   Spells (Octets k octets) bytes =
       (code : ℕ) × (s : SizeWidth) × (text : List ℕ) × (find_code code ≡ Some (Variable k s)) × (bytes ≡ code ∷ text)
       × SpellsOctets s octets text × AreOctetsOf k octets
-  -- a list: nothing behind the code of the empty one, or a block of its items [1.6.22]
+  -- a list: nothing after the code of the empty one, or a block of its items [1.6.22]
   Spells (ListOf ts) bytes =
       ((code : ℕ) × (find_code code ≡ Some EmptyList) × (bytes ≡ code ∷ []) × (ts ≡ none))
       ⊎ ((code : ℕ) × (s : SizeWidth) × (parts text : List ℕ) × (find_code code ≡ Some (ListIn s)) × (bytes ≡ code ∷ text)
@@ -98,7 +98,7 @@ unfoldable mutual
   SpellDescriptors none bytes = bytes ≡ []
   SpellDescriptors (more d ds) bytes = (first others : List ℕ) × (bytes ≡ 0 ∷ (first ++ others)) × Spells d first × SpellDescriptors ds others
 
-  -- data that spell the items, each behind the element constructor
+  -- data that spell the items: each item is spelled by the element constructor and its data
   pub SpellItems : ℕ → Trees → List ℕ → Type 0
   SpellItems element none bytes = bytes ≡ []
   SpellItems element (more t ts) bytes = (first others : List ℕ) × (bytes ≡ first ++ others) × Spells t (element ∷ first) × SpellItems element ts others

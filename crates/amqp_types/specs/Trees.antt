@@ -6,7 +6,7 @@ use Rattle.amqp_types.specs.Kinds.{is_container}
 
 mutual
   pub data Tree : Type 0 where
-    -- a fixed-width value, as the number in its full form; signed ones in two's complement
+    -- a fixed-width value, as the number of its full form; signed ones in two's complement
     Number : Kind → ℕ → Tree
     -- a variable-width value, as its bytes
     Octets : Kind → List ℕ → Tree
@@ -69,8 +69,8 @@ abbrev mutual
   ArePairsLawful no_pair = Unit {0}
   ArePairsLawful (pair k v ps) = IsLawful k × IsLawful v × HasNoKey k ps × ArePairsLawful ps
 
--- How many lists, maps, arrays and described values stand around one another. An array of containers is
--- one level more than they are said to be even where it has no item.
+-- How many lists, maps, arrays and described values are nested in one another. The items of an array of
+-- containers count as at least one level, even if the array has no item.
 abbrev mutual
   pub depth_of : Tree → ℕ
   depth_of (Number k n) = 0
@@ -106,6 +106,6 @@ abbrev mutual
   nodes_in_pairs no_pair = 0
   nodes_in_pairs (pair k v ps) = nodes_in k + nodes_in v + nodes_in_pairs ps
 
--- the nodes of a value, itself too
+-- the nodes of a value, itself included
 abbrev pub nodes_of : Tree → ℕ
 nodes_of t = 1 + nodes_in t

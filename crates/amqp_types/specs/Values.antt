@@ -1,4 +1,4 @@
--- The tree of a value in hand.
+-- The tree of a value in memory.
 use Rattle.std.specs.Prelude.{if◌then◌else◌, List, [], ◌∷◌, map}
 use Rattle.std.specs.Int.{w8, w16, w32, w64, cast_unsigned}
 use Rattle.std.specs.String.{string_bytes}
@@ -18,7 +18,7 @@ abbrev pub pairs : List (Tree × Tree) → Pairs
 pairs [] = no_pair
 pairs (p ∷ ps) = pair p.0 p.1 (pairs ps)
 
--- one value, with the trees of those that it holds in their places
+-- one value, with the trees of the values that it holds in their places
 abbrev pub layer : Value-F Tree → Tree
 layer shape.Null = Number kind.Null 0
 layer (shape.Boolean b) = Number kind.Boolean (if b then 1 else 0)

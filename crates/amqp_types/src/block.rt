@@ -9,7 +9,7 @@ use crate::fault::ReadFault;
 use crate::scalar::size_len;
 use crate::window::Window;
 
-/// What a size holds: the bytes in it, which end where their window does, and those behind it.
+/// The bytes that a size counts, with their window, and the bytes after them.
 #[derive(Clone, Copy)]
 pub struct Block<'a> {
     pub within: Window,
@@ -17,7 +17,7 @@ pub struct Block<'a> {
     pub behind: &'a [u8],
 }
 
-/// The block that a size at the front holds, which has at least `least` bytes.
+/// Reads a size at the front and returns its block; a size below `least` is `BadSize`.
 #[tactic(auto, unfolding(crate::specs::Reading::block_at))]
 pub fn block_at(
     w: Window,
@@ -47,7 +47,7 @@ pub fn block_at(
     })
 }
 
-/// The count of a block's parts, and the bytes behind it; a map's is even.
+/// Reads the count of a block's parts, which is even for a map; returns it and the bytes after it.
 #[tactic(auto, unfolding(crate::specs::Reading::count_at))]
 pub fn count_at(
     w: Window,
@@ -67,7 +67,7 @@ pub fn count_at(
     Ok((count, rest))
 }
 
-/// That nothing is left in the block.
+/// Checks that nothing is left in the block.
 pub fn ended(w: Window, rest: &[u8]) -> Result<(), ReadFault>
     ensures { Is (λ x. x) result (ended w rest.now tt) }
 {

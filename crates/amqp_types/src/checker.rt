@@ -1,4 +1,4 @@
-//! Whether a value stands at the front, and how long it is: one pass that keeps nothing of it but, for a while, the keys of maps.
+//! Checks and measures the value at the front, in one pass that keeps nothing of it but, for a while, the keys of maps.
 
 ghost use Rattle.std.specs.Prelude.{◌≡◌, ◌+◌, ◌≤◌, length, drop, IfOk, IfErr, Some};
 ghost use Rattle.amqp_types.specs.Codes.{FitsItsKind};
@@ -24,9 +24,9 @@ use crate::skipper::{is_still, may_hold, one_less, skip_number};
 use crate::window::Window;
 use std::alloc::Global;
 
-/// The nodes left and the bytes behind the value in front, whose node is charged already.
+/// Checks the value at the front, whose node is already charged; returns the nodes left and the bytes after it.
 #[cycle(checked)]
-// Without the mark `dump` takes 7.5 in 100 more instructions.
+// Without `inline`, `dump` takes 7.5 in 100 more instructions.
 #[inline(always)]
 fn check_value(
     alloc: Global,
@@ -48,7 +48,7 @@ fn check_value(
     check_coded(alloc, depth, w, 0, nodes, bytes)
 }
 
-/// The same by its code. It is charged `due` nodes.
+/// Checks the value at the front by its code, and charges `due` nodes for it.
 #[tactic(auto, unfolding(crate::specs::Reading::value_by))]
 #[cycle(checked)]
 fn check_coded(
@@ -75,7 +75,7 @@ fn check_coded(
     check_item(alloc, depth, constructor, w, left, rest)
 }
 
-/// A descriptor and what it describes; the `00` in front of them stands at `at`.
+/// Checks a descriptor and what it describes; the `00` before them is at place `at`.
 #[tactic(auto, unfolding(crate::specs::Reading::described_at))]
 #[cycle(checked)]
 fn check_described(
@@ -100,7 +100,7 @@ fn check_described(
     check_coded(alloc, less, w, 0, left, rest)
 }
 
-/// The data of a constructor.
+/// Checks the data of a constructor.
 #[tactic(auto, unfolding(crate::specs::Reading::item_by))]
 #[cycle(checked)]
 fn check_item(
@@ -202,9 +202,9 @@ fn check_array(
     Ok((left, block.behind))
 }
 
-/// So many values, one after the other.
+/// Checks `count` values, one after the other.
 #[cycle(checked)]
-// Without the mark `dump` takes 1.7 in 100 more instructions.
+// Without `inline`, `dump` takes 1.7 in 100 more instructions.
 #[inline(always)]
 fn check_values(
     alloc: Global,
@@ -228,7 +228,7 @@ fn check_values(
     Ok((left, rest))
 }
 
-/// The data of so many items, one after the other. Those of width zero are not walked.
+/// Checks the data of `count` items, one after the other. Items of width zero are not walked.
 #[cycle(checked)]
 fn check_items(
     alloc: Global,
@@ -257,7 +257,7 @@ fn check_items(
     Ok((left, rest))
 }
 
-/// So many keys and values in turn. Equal keys are a fault at the later one.
+/// Checks `count` keys and values in turn. Equal keys are a fault at the later one.
 #[cycle(checked)]
 fn check_pairs(
     alloc: Global,
@@ -288,7 +288,7 @@ fn check_pairs(
     Ok((left, rest))
 }
 
-/// The same behind these keys.
+/// Checks `count` more keys and values in turn, after the keys `before`.
 #[cycle(checked)]
 #[inline(never)]
 fn check_more_pairs<'a>(
@@ -317,7 +317,7 @@ fn check_more_pairs<'a>(
     Ok((left, rest))
 }
 
-/// An array's element constructor, behind its descriptors.
+/// Checks an array's descriptors and returns its element constructor.
 #[cycle(checked)]
 fn check_head(
     alloc: Global,
@@ -349,7 +349,7 @@ fn check_head(
     Err(w.short)
 }
 
-/// What is left behind a size and the bytes that it counts.
+/// Returns the bytes after a size and the bytes that it counts.
 fn skip_octets(w: Window, kind: Kind, size: SizeWidth, bytes: &[u8]) -> Result<&[u8], ReadFault>
     requires { length bytes.now ≤ w.end }
     ensures read { Is (λ r. r.now) result (rest_of (sized_at w kind size bytes.now)) }
@@ -361,7 +361,7 @@ fn skip_octets(w: Window, kind: Kind, size: SizeWidth, bytes: &[u8]) -> Result<&
     }
 }
 
-/// The same where something is wrong with them.
+/// Reads a size and its bytes if the quick pass found a fault in them.
 #[cold]
 #[inline(never)]
 fn skip_bad_octets(w: Window, kind: Kind, size: SizeWidth, bytes: &[u8]) -> Result<&[u8], ReadFault>
@@ -373,7 +373,7 @@ fn skip_bad_octets(w: Window, kind: Kind, size: SizeWidth, bytes: &[u8]) -> Resu
     Ok(rest)
 }
 
-/// The length of the value in front, by the reading function.
+/// Returns the length of the value at the front, as the reading function defines it.
 fn check_front(alloc: Global, bytes: &[u8], limits: Limits) -> Result<usize, ReadFault>
     ensures within { IfOk result (λ n. n ≤ length bytes.now) }
     ensures exact { Gives (λ n. drop n bytes.now) result (rest_of (decoded limits.depth limits.nodes bytes.now)) }
@@ -389,12 +389,12 @@ fn check_front(alloc: Global, bytes: &[u8], limits: Limits) -> Result<usize, Rea
     Ok(bytes.len() - rest.len())
 }
 
-/// The length of the value that the bytes begin with, in bytes, where it is lawful and within the limits. [1.2]
+/// Returns the length in bytes of the value that the bytes begin with, if it is lawful and within the limits. [1.2]
 ///
-/// Bytes may follow it. It is what [`decode`] answers without the value: a fault is the first from the left, equal
-/// keys and too many nodes among them, and `NoMemory` is answered only where memory was refused. Memory is taken to find
-/// equal keys alone: for those of a map of more than 32 keys, and of one with a key that is a list, a map, an array or
-/// described, which is read as `decode` reads it and dropped.
+/// Bytes may follow it. The result is that of [`decode`] without the value. A fault is the first from the left; equal
+/// keys and too many nodes are faults too. `NoMemory` is returned only if memory was refused. Memory is taken only to
+/// find equal keys: those of a map of more than 32 keys, and of one with a key that is a list, a map, an array or
+/// described. Such a key is read as `decode` reads it, and dropped.
 pub fn check(alloc: Global, bytes: &[u8], limits: Limits) -> Result<usize, ReadFault>
     ensures within { IfOk result (λ n. n ≤ length bytes.now) }
     ensures exact { Gives (λ n. drop n bytes.now) result (rest_of (decoded limits.depth limits.nodes bytes.now)) }

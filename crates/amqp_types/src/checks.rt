@@ -1,4 +1,4 @@
-//! Whether a value is lawful.
+//! Checks whether a value is lawful.
 
 ghost use Rattle.std.specs.Prelude.{◌↔◌, IsTrue, IfOk};
 ghost use Rattle.amqp_types.specs.Lawful.{ItemsAgree, AllAgree, PairsAgree, KeysApart, KeysDiffer, AllDiffer, PairsDiffer};
@@ -35,7 +35,7 @@ fn are_of_kind(items: &Vec<Value>, kind: Kind) -> bool
     true
 }
 
-/// Whether the items of each array in the value are of its kind. [1.6.24]
+/// Returns whether each array in the value holds only items of its kind. [1.6.24]
 #[cycle(agree)]
 pub fn items_agree(value: &Value) -> bool
     ensures { IsTrue result ↔ ItemsAgree (view value.now) }
@@ -78,7 +78,7 @@ fn pairs_agree(entries: &Vec<(Value, Value)>) -> bool
     true
 }
 
-/// Whether no two keys are equal. Each is looked for among those behind it.
+/// Whether no two keys are equal. Each key is looked for among the keys after it.
 fn keys_apart(alloc: Global, entries: &Vec<(Value, Value)>) -> Result<bool, AllocError>
     ensures { IfOk result (λ apart. IsTrue apart ↔ KeysApart (pair_views entries.now.items)) }
 {
@@ -92,7 +92,7 @@ fn keys_apart(alloc: Global, entries: &Vec<(Value, Value)>) -> Result<bool, Allo
     Ok(true)
 }
 
-/// Whether no map in the value has two equal keys. [1.6.23]
+/// Returns whether no map in the value has two equal keys. [1.6.23]
 #[cycle(differ)]
 pub fn keys_differ(alloc: Global, value: &Value) -> Result<bool, AllocError>
     ensures { IfOk result (λ differ. IsTrue differ ↔ KeysDiffer (view value.now)) }

@@ -5,7 +5,7 @@ ghost use Rattle.amqp_types.specs.Codes.{find_code, kind_of};
 
 use crate::kind::Kind;
 
-/// How a fixed-width value stands behind its code. [1.2.1; 1.6]
+/// How the data after a code give a fixed-width value. [1.2.1; 1.6]
 #[derive(Clone, Copy, Debug, PartialEq, Eq)]
 pub enum Form {
     /// The number 0, and no data.
@@ -20,7 +20,7 @@ pub enum Form {
     Full,
 }
 
-/// How many bytes the size in front of the data takes. [1.2.2]
+/// How many bytes the size field before the data takes. [1.2.2]
 #[derive(Clone, Copy, Debug, PartialEq, Eq)]
 pub enum SizeWidth {
     One,
@@ -38,8 +38,8 @@ pub enum Constructor {
     ArrayIn(SizeWidth),
 }
 
-/// The constructor of a code, where it has one. All walks read this table.
-// For `dump` and `texts`: each walk then goes by the code to what it asks (docs/PERF.md).
+/// Returns the constructor of a code; `None` if none has it. Every reader uses this table.
+// For `dump` and `texts`: each reader then branches on the code itself (docs/PERF.md).
 #[inline(always)]
 pub fn find_code(code: u8) -> Option<Constructor>
     ensures { result ≡ find_code code }
@@ -89,7 +89,7 @@ pub fn find_code(code: u8) -> Option<Constructor>
     Some(constructor)
 }
 
-/// The kind that a constructor makes.
+/// Returns the kind of the values that a constructor makes.
 pub(crate) fn kind_of(constructor: Constructor) -> Kind
     ensures { result ≡ kind_of constructor }
 {

@@ -41,7 +41,7 @@ fn array_value(head: ArrayHead, items: Vec<Value>) -> Value
     }
 }
 
-/// The nodes that are left where so many are charged at the place.
+/// Charges `count` nodes and returns how many are left; `TooManyNodes(at)` if there are fewer.
 pub fn charge(nodes: usize, count: usize, at: usize) -> Result<usize, ReadFault>
     ensures { Is (λ left. Some left) result (charge (Some nodes) count at) }
 {
@@ -51,7 +51,7 @@ pub fn charge(nodes: usize, count: usize, at: usize) -> Result<usize, ReadFault>
     Ok(nodes - count)
 }
 
-/// The value at the front, whose node is charged already, the nodes left and the bytes behind it.
+/// Reads the value at the front, whose node is already charged. Returns the nodes and the bytes left too.
 #[cycle(read)]
 #[inline(always)]
 pub fn read_value(
@@ -71,7 +71,7 @@ pub fn read_value(
     }
 }
 
-/// The value at the front by its code, the nodes left and the bytes behind it. It is charged `due` nodes.
+/// Reads the value at the front by its code, and charges `due` nodes for it.
 #[tactic(auto, unfolding(crate::specs::Reading::value_by))]
 #[cycle(read)]
 fn read_coded(
@@ -98,7 +98,7 @@ fn read_coded(
     read_item(alloc, depth, constructor, w, left, rest)
 }
 
-/// A descriptor and what it describes; the `00` in front of them stands at `at`.
+/// Reads a descriptor and what it describes; the `00` before them is at place `at`.
 #[tactic(auto, unfolding(crate::specs::Reading::described_at))]
 #[cycle(read)]
 fn read_described(
@@ -125,7 +125,7 @@ fn read_described(
     Ok((value, left, rest))
 }
 
-/// The data of a constructor.
+/// Reads the data of a constructor.
 #[tactic(auto, unfolding(crate::specs::Reading::item_by))]
 #[cycle(read)]
 fn read_item(
@@ -241,7 +241,7 @@ fn read_array(
     Ok((array_value(head, items), left, block.behind))
 }
 
-/// So many values, one after the other.
+/// Reads `count` values, one after the other.
 #[cycle(read)]
 fn read_values(
     alloc: Global,
@@ -267,7 +267,7 @@ fn read_values(
     Ok((values, left, rest))
 }
 
-/// The data of so many items, one after the other.
+/// Reads the data of `count` items, one after the other.
 #[cycle(read)]
 fn read_items(
     alloc: Global,
@@ -295,7 +295,7 @@ fn read_items(
     Ok((items, left, rest))
 }
 
-/// So many keys and values in turn. Equal keys are a fault at the later one.
+/// Reads `count` keys and values in turn. Equal keys are a fault at the later one.
 #[cycle(read)]
 fn read_pairs(
     alloc: Global,
@@ -326,7 +326,7 @@ fn read_pairs(
     Ok((entries, left, rest))
 }
 
-/// An array's element constructor, and the descriptors in front of it.
+/// Reads an array's descriptors and its element constructor.
 #[cycle(read)]
 fn read_head(
     alloc: Global,
@@ -364,7 +364,7 @@ fn read_head(
     Err(w.short)
 }
 
-/// The value in front and its length, by the reading function.
+/// Returns the value at the front and its length, as the reading function defines them.
 fn decode_front(alloc: Global, bytes: &[u8], limits: Limits) -> Result<(Value, usize), ReadFault>
     ensures within { IfOk result (λ x. x.1 ≤ length bytes.now) }
     ensures exact { Gives (λ x. (view x.0, drop x.1 bytes.now)) result (decoded limits.depth limits.nodes bytes.now) }
@@ -380,26 +380,26 @@ fn decode_front(alloc: Global, bytes: &[u8], limits: Limits) -> Result<(Value, u
     Ok((value, bytes.len() - rest.len()))
 }
 
-/// The value that the bytes begin with, and its length in bytes. [1.2]
+/// Returns the value that the bytes begin with, and its length in bytes. [1.2]
 ///
-/// Bytes may follow it. A fault is the first from the left; `NoMemory` is answered only where memory
+/// Bytes may follow it. A fault is the first from the left; `NoMemory` is returned only if memory
 /// for the value, or for finding equal keys, was refused. Nothing is kept after a fault.
 ///
-/// What is held is bounded by the limit of nodes and by the input: at most one `Value` for each node
+/// The memory held is bounded by the limit of nodes and by the input: at most one `Value` for each node
 /// charged, doubled by the growth of vectors, and at most the input's bytes for the contents of
-/// binaries, strings and symbols. While a map is read, its keys are held once more in a form of their
-/// own to find equal ones: at most 19 bytes for each node in them, and their contents.
+/// binaries, strings and symbols. While a map is read, its keys are held once more, in a form of their
+/// own, to find equal ones: at most 19 bytes for each node in them, and their contents.
 pub fn decode(alloc: Global, bytes: &[u8], limits: Limits) -> Result<(Value, usize), ReadFault>
     ensures within { IfOk result (λ x. x.1 ≤ length bytes.now) }
-    // What is found is spelled there, lawful and within the limits.
+    // A value that is returned is spelled there, lawful and within the limits.
     ensures found { IfOk result (λ x. Spells (view x.0) (take x.1 bytes.now) × IsLawful (view x.0) × (depth_of (view x.0) ≤ limits.depth) × (nodes_of (view x.0) ≤ limits.nodes)) }
-    // Each lawful value within the limits that is spelled there is found, if its memory is there.
+    // Each lawful value within the limits that is spelled there is returned, unless memory is refused.
     ensures only { (t : Tree) (text rest : List ℕ) → Spells t text → IsLawful t → depth_of t ≤ limits.depth → nodes_of t ≤ limits.nodes
         → bytes.now ≡ text ++ rest → Gives {Y = Tree × ℕ} (λ x. (view x.0, x.1)) result (Ok (t, length text)) }
     // A fault is one that the bytes have, and it is the first.
     ensures misread { IfErr result (λ e. (e ≡ ReadFault.NoMemory) ⊎ Misread (AValue 1) limits.depth (outermost bytes.now) (Some limits.nodes) bytes.now e) }
     ensures exact { Gives (λ x. (view x.0, drop x.1 bytes.now)) result (decoded limits.depth limits.nodes bytes.now) }
-    // A fault stands within the bytes.
+    // A fault's place is within the bytes.
     ensures placed { IfErr result (λ e. place_of e ≤ length bytes.now) }
 {
     decode_front(alloc, bytes, limits)

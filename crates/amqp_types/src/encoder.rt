@@ -17,7 +17,7 @@ use crate::value::Value;
 use crate::write_fault::WriteFault;
 use std::alloc::{AllocError, Global};
 
-/// The value on the way to its spelling.
+/// Returns the shell and the content of the value's canonical spelling.
 #[cycle(spell)]
 #[tactic(auto, using(crate::proofs::Fitting::count_views, crate::proofs::Fitting::pair_count_views))]
 fn part_of(alloc: Global, value: &Value) -> Result<Part, WriteFault>
@@ -45,7 +45,7 @@ fn part_of(alloc: Global, value: &Value) -> Result<Part, WriteFault>
     }
 }
 
-/// The part of these, where a size and a count of four bytes hold its own.
+/// Makes a part of a shell and a content; `TooLong` if its size or its count does not fit four bytes.
 fn part(shell: Shell, content: Vec<u8>) -> Result<Part, WriteFault>
     ensures ok { IfOk result (λ p. seen p ≡ (shell, content.items)) }
     ensures room { OnOk result (IsTrue (has_room shell content.items)) }
@@ -58,7 +58,7 @@ fn part(shell: Shell, content: Vec<u8>) -> Result<Part, WriteFault>
     }
 }
 
-/// Appends the canonical spelling. What is appended before a fault means nothing.
+/// Appends the canonical spelling of the value. After a fault, what was appended means nothing.
 #[cycle(spell)]
 fn spell(alloc: Global, value: &Value, out: &mut Vec<u8>) -> Result<(), WriteFault>
     ensures ok { OnOk result (out.new.items ≡ out.old.items ++ canonical (view value.now)) }
@@ -70,7 +70,7 @@ fn spell(alloc: Global, value: &Value, out: &mut Vec<u8>) -> Result<(), WriteFau
     Ok(())
 }
 
-/// The spellings of the values, joined.
+/// Returns the spellings of the values, joined.
 #[cycle(spell)]
 fn spell_all(alloc: Global, items: &Vec<Value>) -> Result<Vec<u8>, WriteFault>
     ensures ok { IfOk result (λ c. c.items ≡ canonicals (views items.now.items)) }
@@ -84,7 +84,7 @@ fn spell_all(alloc: Global, items: &Vec<Value>) -> Result<Vec<u8>, WriteFault>
     Ok(out)
 }
 
-/// The spellings of keys and values in turn, joined.
+/// Returns the spellings of keys and values in turn, joined.
 #[cycle(spell)]
 fn spell_pairs(alloc: Global, entries: &Vec<(Value, Value)>) -> Result<Vec<u8>, WriteFault>
     ensures ok { IfOk result (λ c. c.items ≡ canonical_pairs (pair_views entries.now.items)) }
@@ -99,7 +99,7 @@ fn spell_pairs(alloc: Global, entries: &Vec<(Value, Value)>) -> Result<Vec<u8>, 
     Ok(out)
 }
 
-/// The descriptors of an array's items, each behind a 00. [1.2.4]
+/// Returns the spellings of an array's descriptors, a `00` before each, joined. [1.2.4]
 #[cycle(spell)]
 fn spell_heads(alloc: Global, descriptors: &Vec<Value>) -> Result<Vec<u8>, WriteFault>
     ensures ok { IfOk result (λ c. c.items ≡ canonical_heads (views descriptors.now.items)) }
@@ -114,7 +114,7 @@ fn spell_heads(alloc: Global, descriptors: &Vec<Value>) -> Result<Vec<u8>, Write
     Ok(out)
 }
 
-/// The values on the way to their data in an array.
+/// Returns the shell and the content of each item of an array.
 #[cycle(spell)]
 fn parts_of(alloc: Global, items: &Vec<Value>) -> Result<Vec<Part>, WriteFault>
     ensures ok { IfOk result (λ ps. map seen ps.items ≡ parts (views items.now.items)) }
@@ -140,7 +140,7 @@ fn all_small(parts: &[Part]) -> bool
     true
 }
 
-/// Appends an element constructor that every part fits, and their data.
+/// Appends the narrowest element constructor that every part fits, and the data of the parts.
 fn write_items(kind: Kind, parts: &[Part], out: &mut Vec<u8>) -> Result<(), AllocError>
     ensures { OnOk result (out.new.items ≡ out.old.items ++ items_data kind (map seen parts.now)) }
 {
@@ -159,7 +159,7 @@ fn write_all(size: SizeWidth, parts: &[Part], out: &mut Vec<u8>) -> Result<(), A
     Ok(())
 }
 
-/// What `encode` does, with the reason of each refusal.
+/// Does what `encode` does, and states the law that each refusal names.
 fn encode_checked(value: &Value, out: &mut Vec<u8>) -> Result<(), WriteFault>
     ensures appended { OnOk result (out.new.items ≡ out.old.items ++ canonical (view value.now)) }
     ensures unchanged { OnErr result (out.new.items ≡ out.old.items) }
@@ -183,13 +183,13 @@ fn encode_checked(value: &Value, out: &mut Vec<u8>) -> Result<(), WriteFault>
 
 /// Appends the canonical spelling of the value, whole or not at all. [1.2; 1.6]
 ///
-/// The spelling takes the shortest constructors. `WrongElement` says that an array in the value holds
-/// an item that is not of its kind, `DuplicateKey` that a map in it has two equal keys, `TooLong` that a
-/// size or a count would be above 2^32 - 1. A lawful value that fits is refused only for want of
-/// memory. After a fault `out` holds what it held before.
+/// The spelling takes the shortest constructors. `WrongElement` says that an array in the value holds an
+/// item that is not of its kind; `DuplicateKey` that a map in it has two equal keys; `TooLong` that a
+/// size or a count would be above 2^32 - 1. A lawful value that fits is refused only with `NoMemory`:
+/// memory was refused. After a fault `out` holds what it held before.
 ///
 /// Before anything is spelled, the keys of one map at a time are held in a form of their own to find
-/// equal ones: at most 19 bytes for each node in them, and their contents. All memory is of `out`'s
+/// equal ones: at most 19 bytes for each node in them, and their contents. All memory comes from `out`'s
 /// allocator.
 pub fn encode(value: &Value, out: &mut Vec<u8>) -> Result<(), WriteFault>
     ensures appended { OnOk result (out.new.items ≡ out.old.items ++ canonical (view value.now)) }

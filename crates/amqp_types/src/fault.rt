@@ -5,16 +5,17 @@ ghost use Rattle.amqp_types.specs.declared.fault.ReadFault.TheVariants.{NoMemory
 
 use std::alloc::{AllocError, AllocFailed};
 
-/// The first fault from the left, with its place: bytes from the first byte of the outermost value.
+/// The first fault from the left, with its place in bytes from the first byte of the outermost value.
 #[derive(Clone, Copy, Debug, PartialEq, Eq)]
 pub enum ReadFault {
-    /// The input ends inside a part that no list, map or array holds, or before the end that an outermost
-    /// size states; the place is its length.
+    /// The input ends inside a part that is in no list, map or array, or before the end that an outermost
+    /// size states; the place is the length of the input.
     Truncated(usize),
     /// A code that no constructor has, at the code.
     UnknownCode(usize),
-    /// A part, or the end that its size states, past the list, map or array around it, at that one's size
-    /// field; or bytes left over in one, or a size below that of a count, at its own.
+    /// A part, or the end that its size states, reaches past the list, map or array around it, at that
+    /// container's size field. Or a container has bytes left over, or a size too small for what comes
+    /// before its parts: a count, and an array's element constructor. This is at its own size field.
     BadSize(usize),
     /// A map with an odd count, at the count field.
     BadCount(usize),
@@ -28,9 +29,9 @@ pub enum ReadFault {
     BadBoolean(usize),
     /// A key that its map has already, at the later key's constructor.
     DuplicateKey(usize),
-    /// A container deeper than the limit, at its constructor.
+    /// A list, map, array or described value deeper than the limit, at its constructor.
     TooDeep(usize),
-    /// More nodes than the limit, where they are charged.
+    /// More nodes than the limit, at the constructor, the `00` or the count field that charges them.
     TooManyNodes(usize),
     /// Memory for the value, or for finding equal keys, was refused. This has no place.
     NoMemory,
@@ -40,7 +41,7 @@ impl ReadFault {
     ghost use Rattle.std.specs.Prelude.{◌≢◌, MatchOption};
     ghost use Rattle.amqp_types.specs.Places.{place_of};
 
-    /// Its place; `None` for `NoMemory`, which has none.
+    /// Returns the place of the fault in bytes; `None` for `NoMemory`, which has none.
     pub fn place(self) -> Option<usize>
         ensures { MatchOption result (self ≡ NoMemory) (λ place. (place ≡ place_of self) × (self ≢ NoMemory)) }
     {
@@ -60,7 +61,7 @@ impl ReadFault {
         }
     }
 
-    /// Its name, without the place.
+    /// Returns the name of the fault, without its place.
     pub fn name(self) -> &'static str {
         match self {
             ReadFault::Truncated(_) => "Truncated",

@@ -1,4 +1,4 @@
-//! A few keys of a map that hold no others, lent.
+//! Up to 32 borrowed keys of a map.
 
 ghost use Rattle.std.specs.Prelude.{◌≡◌, [], ◌∷◌, map, IsTrue, IsFalse};
 ghost use Rattle.amqp_types.specs.Decoding.{is_among};
@@ -8,14 +8,14 @@ use crate::key::{Key, are_equal};
 use crate::kind::Kind;
 use std::marker::Model;
 
-/// So many keys are compared with each other at most.
+/// At most this many keys are compared with each other.
 pub const FEW: usize = 32;
 
 /// Keys, the last one first.
 #[derive(Drop)]
 pub struct FewKeys<'a> {
     keys: [Key<'a>; FEW],
-    /// So many places in front are free.
+    /// This many places at the front are free.
     free: usize,
 }
 
@@ -32,7 +32,7 @@ impl<'a> Model for FewKeys<'a> {
 }
 
 impl<'a> FewKeys<'a> {
-    /// None yet.
+    /// Returns a set without keys.
     pub fn new() -> FewKeys<'a>
         ensures { result ≡ [] }
     {
@@ -49,14 +49,14 @@ impl<'a> FewKeys<'a> {
         has(self.lent(), key)
     }
 
-    /// All of them.
+    /// Returns all of them.
     pub fn lent(&self) -> &[Key<'a>]
         ensures { map key_image result.now ≡ self.now }
     {
         &self.keys[self.free..]
     }
 
-    /// Puts a key in front of the others, where there is room.
+    /// Puts a key before the others, if there is room; returns whether there was.
     pub fn push(&mut self, key: Key<'a>) -> bool
         ensures new { IsTrue result → self.new ≡ key_image key.entry ∷ self.old }
         ensures full { IsFalse result → self.new ≡ self.old }

@@ -1,4 +1,4 @@
-//! A form of values in memory by which equal ones are found.
+//! Images: a form of values in memory by which equal ones are found.
 
 ghost use Rattle.std.specs.Prelude.{◌≡◌, ◌++◌, ◌∷◌, ◌<◌, ◌^◌, length, OnOk};
 ghost use Rattle.byteorder.specs.Endian.{big_bytes};
@@ -14,7 +14,7 @@ use crate::shape::{Shape, shape_of};
 use crate::value::Value;
 use std::alloc::AllocError;
 
-/// The place of a kind among the kinds.
+/// Returns the number that stands for a kind in images.
 fn kind_number(kind: Kind) -> u8
     ensures { result ≡ kind_number kind }
 {
@@ -69,7 +69,7 @@ fn put_octets(kind: Kind, octets: &[u8], out: &mut Vec<u8>) -> Result<(), AllocE
     Ok(())
 }
 
-/// Appends the image of a key that holds no others.
+/// Appends the image of a key that holds no other values.
 pub(crate) fn put_key(key: &Key<'_>, out: &mut Vec<u8>) -> Result<(), AllocError>
     ensures { OnOk result (out.new.items ≡ out.old.items ++ key_image key.now) }
 {
@@ -79,7 +79,7 @@ pub(crate) fn put_key(key: &Key<'_>, out: &mut Vec<u8>) -> Result<(), AllocError
     }
 }
 
-/// Appends the image of a value, which is ranged. What is appended before memory is refused means nothing.
+/// Appends the image of a value, which is ranged. If memory is refused, what was appended means nothing.
 #[tactic(auto, using(std::proofs::Common::append_assoc), unfolding(crate::specs::Images::image))]
 #[cycle(image)]
 pub(crate) fn put_image(value: &Value, out: &mut Vec<u8>) -> Result<(), AllocError>
@@ -111,7 +111,7 @@ pub(crate) fn put_image(value: &Value, out: &mut Vec<u8>) -> Result<(), AllocErr
     }
 }
 
-/// Appends the image of each, behind a 1, and a 0.
+/// Appends a 1 and the image of each item, and a 0 at the end.
 #[tactic(auto, using(std::proofs::Common::append_assoc), unfolding(crate::specs::Images::images))]
 #[cycle(image)]
 fn put_images(items: &Vec<Value>, out: &mut Vec<u8>) -> Result<(), AllocError>
@@ -126,7 +126,7 @@ fn put_images(items: &Vec<Value>, out: &mut Vec<u8>) -> Result<(), AllocError>
     Ok(())
 }
 
-/// Appends the images of each key and its value, behind a 1, and a 0.
+/// Appends a 1 and the images of each key and its value, and a 0 at the end.
 #[tactic(auto, using(std::proofs::Common::append_assoc), unfolding(crate::specs::Images::pair_images))]
 #[cycle(image)]
 fn put_pair_images(entries: &Vec<(Value, Value)>, out: &mut Vec<u8>) -> Result<(), AllocError>

@@ -1,4 +1,4 @@
-//! A key of a map that holds no others, as it stands in the bytes.
+//! Keys of a map that hold no other values, borrowed from the bytes.
 
 ghost use Rattle.std.specs.Prelude.{◌≡◌, ℕ, ◌≤◌, length, IfSome, Option, Some, Ok};
 ghost use Rattle.std.specs.Str.{bytes_eq};
@@ -16,14 +16,14 @@ use crate::scalar::{allowed, number_at};
 use crate::window::Window;
 use byteorder::{BigEndian, ByteOrder};
 
-/// A value that holds no others. A number is the one in its full form; signed ones are in two's complement.
+/// A value that holds no others. A number is that of its full form; signed ones are in two's complement.
 #[derive(Clone, Copy)]
 pub enum Key<'a> {
     Number(Kind, u128),
     Octets(Kind, &'a [u8]),
 }
 
-/// The value in front and the bytes behind it, where it holds no others and nothing is wrong with it.
+/// Returns the value at the front and the bytes after it, if it holds no others and nothing is wrong in it.
 pub fn key_at(w: Window, bytes: &[u8]) -> Option<(Key<'_>, &[u8])>
     requires { length bytes.now ≤ w.end }
     ensures read { IfSome result (λ x. (inner : Option Level) (nodes : ℕ) → value_by inner w 0 (Some nodes) bytes.now ≡ Ok (tree_of_key x.0, Some nodes, x.1.now)) }
@@ -38,7 +38,7 @@ pub fn key_at(w: Window, bytes: &[u8]) -> Option<(Key<'_>, &[u8])>
     Some((key, behind))
 }
 
-/// The key by its constructor.
+/// Reads a key after the code of its constructor.
 fn key_of(w: Window, constructor: Constructor, bytes: &[u8]) -> Option<(Key<'_>, &[u8])>
     requires within { length bytes.now ≤ w.end }
     requires sound { FitsItsKind constructor }
@@ -55,7 +55,7 @@ fn key_of(w: Window, constructor: Constructor, bytes: &[u8]) -> Option<(Key<'_>,
     }
 }
 
-/// A number as a key.
+/// Reads a number as a key.
 #[tactic(auto, unfolding(crate::specs::Reading::number_at, crate::specs::Reading::form_at, crate::specs::Reading::item_by))]
 fn number_key(w: Window, kind: Kind, form: Form, bytes: &[u8]) -> Option<(Key<'_>, &[u8])>
     requires within { length bytes.now ≤ w.end }
@@ -91,7 +91,7 @@ pub fn are_equal(a: &Key<'_>, b: &Key<'_>) -> bool
     }
 }
 
-/// Whether two keys of a kind have the same bytes.
+/// Whether two keys of the same kind have the same bytes.
 pub fn are_same(a: &[u8], b: &[u8]) -> bool
     ensures { (kind : Kind) → result ≡ bytes_eq (image (Octets kind a.now)) (image (Octets kind b.now)) }
 {

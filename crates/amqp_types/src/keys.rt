@@ -1,4 +1,4 @@
-//! Keys of a map, among which equal ones are found.
+//! A set of a map's keys, which finds equal ones.
 
 ghost use Rattle.std.specs.Prelude.{◌≡◌, ℕ, ◌<◌, ◌^◌, [], not, ◌||◌, ◌++◌, List, length, map, IfOk, OnOk, OnErr};
 ghost use Rattle.std.specs.Str.{bytes_eq};
@@ -15,7 +15,7 @@ use std::alloc::{AllocError, Global};
 use std::collections::BTreeSet;
 use std::marker::Model;
 
-/// Keys, by their images: whether one is there is found in logarithmic time.
+/// Keys, held by their images. A lookup takes logarithmic time.
 #[derive(Drop)]
 pub(crate) struct Keys {
     images: BTreeSet<Vec<u8>>,
@@ -36,7 +36,7 @@ impl Keys {
         }
     }
 
-    /// Puts a key among them, and says whether it is new there.
+    /// Adds a key and returns whether it is new.
     pub(crate) fn insert(&mut self, alloc: Global, key: &Value) -> Result<bool, AllocError>
         ensures new { IfOk result (λ new. new ≡ not (is_among (image (view key.now)) self.old)) }
         ensures ok { OnOk result ((octets : List ℕ) → is_among octets self.new ≡ (bytes_eq (image (view key.now)) octets || is_among octets self.old)) }
@@ -49,7 +49,7 @@ impl Keys {
         Ok(self.images.insert(octets)?)
     }
 
-    /// The same of a key that holds no others.
+    /// Adds a key that holds no other values and returns whether it is new.
     pub(crate) fn insert_key(&mut self, alloc: Global, key: &Key<'_>) -> Result<bool, AllocError>
         ensures new { IfOk result (λ new. new ≡ not (is_among (key_image key.now) self.old)) }
         ensures ok { OnOk result (IsWith (key_image key.now) self.old self.new) }
@@ -60,7 +60,7 @@ impl Keys {
         Ok(self.images.insert(octets)?)
     }
 
-    /// Puts keys that hold no others among them, which may be there.
+    /// Adds keys that hold no other values; any of them may be there already.
     pub(crate) fn insert_all(&mut self, alloc: Global, keys: &[Key<'_>]) -> Result<(), AllocError>
         ensures ok { OnOk result ((octets : List ℕ) → is_among octets self.new ≡ is_among octets (map key_image keys.now ++ self.old)) }
     {

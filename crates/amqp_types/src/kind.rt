@@ -33,7 +33,7 @@ pub enum Kind {
 }
 
 impl Kind {
-    /// The name of the type in the standard's table. [1.6]
+    /// Returns the name of the type in the standard's table. [1.6]
     pub fn name(self) -> &'static str {
         match self {
             Kind::Null => "null",
@@ -64,7 +64,7 @@ impl Kind {
     }
 }
 
-/// The bytes of the full form of a fixed-width kind; 0 for a kind of variable width.
+/// Returns how many bytes the full form of a fixed-width kind has; 0 for a kind of variable width.
 pub(crate) fn width(kind: Kind) -> usize
     ensures { result ≡ width kind }
 {
@@ -79,7 +79,7 @@ pub(crate) fn width(kind: Kind) -> usize
     }
 }
 
-/// Whether some full form of the kind stands for no number of it.
+/// Whether some data of the kind's full form are not valid.
 pub(crate) fn is_partial(kind: Kind) -> bool
     ensures { result ≡ is_partial kind }
 {

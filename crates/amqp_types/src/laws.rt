@@ -1,4 +1,4 @@
-//! Laws of the grammar: calls without effect, whose contracts are the laws.
+//! Laws of the grammar. Each function does nothing: its contract is the law.
 
 ghost use Rattle.std.specs.Prelude.{◌≡◌, ◌↔◌, ℕ, ◌<◌, ◌≤◌, List, ◌++◌, slice_index, None, Ok, Err};
 ghost use Rattle.amqp_types.specs.declared.fault.ReadFault.{ReadFault};
@@ -31,8 +31,8 @@ pub fn canonical_tells_apart()
         → canonical t ≡ canonical u ↔ t ≡ u }
 {}
 
-/// Reading is the grammar's: of bytes, a value is read exactly if they begin with a spelling of it, and it is
-/// lawful and within the limits. Where nothing is kept the depth alone is limited, and equal keys pass. [1.2]
+/// Reading follows the grammar: a value is read exactly if the bytes begin with a spelling of it, and it is
+/// lawful and within the limits. If nothing is kept, only the depth is limited, and equal keys pass. [1.2]
 pub fn reading_is_exact()
     ensures found { (depth nodes : ℕ) (bytes rest : List ℕ) (t : Tree) → ((i : ℕ) → slice_index bytes i < 256)
         → decoded depth nodes bytes ≡ Ok (t, rest)
@@ -48,7 +48,7 @@ pub fn reading_is_exact()
         → value_of depth None (text ++ rest) ≡ Ok (t, None, rest) }
 {}
 
-/// Bytes are misread where the reading function meets the fault, and nowhere else. [1.2]
+/// Bytes are misread with a fault exactly if the reading function returns that fault. [1.2]
 pub fn misreading_is_exact()
     ensures found { (depth : ℕ) (budget : Budget) (bytes : List ℕ) (fault : ReadFault) → ((i : ℕ) → slice_index bytes i < 256)
         → value_of depth budget bytes ≡ Err fault → Misread (AValue 1) depth (outermost bytes) budget bytes fault }
@@ -56,21 +56,21 @@ pub fn misreading_is_exact()
         → Misread (AValue 1) depth (outermost bytes) budget bytes fault → value_of depth budget bytes ≡ Err fault }
 {}
 
-/// No bytes are misread that begin with a spelling of a value within the limits, lawful where keys are
-/// compared. [1.2]
+/// Bytes that begin with a spelling of a value within the limits are not misread. If keys are compared, the
+/// value has to be lawful too. [1.2]
 pub fn no_spelling_is_misread()
     ensures { (t : Tree) (text rest : List ℕ) (depth : ℕ) (w : Window) (budget : Budget) (fault : ReadFault) → Spells t text
         → depth_of t ≤ depth → Enough budget (nodes_of t) → (IsCounted budget → IsLawful t) → Misread (AValue 1) depth w budget (text ++ rest) fault → ⊥ }
 {}
 
-/// What is written is read back, whatever follows it: the canonical spelling of a lawful and ranged value that
-/// fits, within the limits. [1.2]
+/// What is written is read back, whatever follows it. This holds for the canonical spelling of a lawful and
+/// ranged value that fits and is within the limits. [1.2]
 pub fn written_is_read()
     ensures { (depth nodes : ℕ) (t : Tree) (rest : List ℕ) → IsLawful t → IsRanged t → Fits t → depth_of t ≤ depth → nodes_of t ≤ nodes
         → decoded depth nodes (canonical t ++ rest) ≡ Ok (t, rest) }
 {}
 
-/// Every value in hand is ranged: its numbers, characters and bytes are those of their kinds. [1.6]
+/// Every value in memory is ranged: its numbers, characters and bytes are valid for their kinds. [1.6]
 #[cycle(ranged)]
 pub fn ranged(value: &Value)
     ensures { IsRanged (view value.now) }

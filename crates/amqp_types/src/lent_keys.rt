@@ -1,4 +1,4 @@
-//! The keys of a map that hold no others, while it is checked.
+//! Borrowed keys of a map that hold no other values, while the map is checked.
 
 ghost use Rattle.std.specs.Prelude.{◌≡◌, ◌≢◌, [], map, not, true, Some, IfOk, IfSome};
 ghost use Rattle.amqp_types.specs.Decoding.{is_among};
@@ -10,7 +10,7 @@ use crate::many_keys::ManyKeys;
 use std::alloc::{AllocError, Global};
 use std::marker::Model;
 
-/// Keys that are lent: few, each of which is compared with all before it, or many, by their marks.
+/// Borrowed keys: few, each compared with all before it, or many, told apart by their marks.
 #[derive(Drop)]
 pub struct LentKeys<'a> {
     few: FewKeys<'a>,
@@ -28,7 +28,7 @@ impl<'a> Model for LentKeys<'a> {
 }
 
 impl<'a> LentKeys<'a> {
-    /// None yet, of so many.
+    /// Returns a set without keys, for `count` keys in all.
     pub fn new(alloc: Global, count: usize) -> LentKeys<'a>
         ensures { result ≡ [] }
     {
@@ -39,7 +39,7 @@ impl<'a> LentKeys<'a> {
         }
     }
 
-    /// All of them.
+    /// Returns all of them.
     pub fn lent(&self) -> &[Key<'a>]
         ensures { map key_image result.now ≡ self.now }
     {
@@ -50,7 +50,7 @@ impl<'a> LentKeys<'a> {
         }
     }
 
-    /// Whether the key is new: it is then put among them. `None` where that is not seen, or there is no room for it.
+    /// Adds the key if it is new, and returns whether it is; `None` if that is not known or there is no room.
     pub fn insert(&mut self, key: Key<'a>) -> Result<Option<bool>, AllocError>
         ensures new { IfOk result (λ seen. IfSome seen (λ new. new ≡ not (is_among (key_image key.entry) self.old))) }
         ensures with { IfOk result (λ seen. seen ≡ Some true → IsWith (key_image key.entry) self.old self.new) }

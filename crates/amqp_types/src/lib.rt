@@ -1,14 +1,13 @@
 //! The type system of AMQP 1.0 (part 1): values, how bytes spell them, reading and writing them.
 //!
-//! `decode` answers exactly the value that the front of the bytes spells, within limits of depth and nodes;
-//! `check` its length alone, and `skip` its length by the depth alone, without memory; each the first fault from
-//! the left with its place.
-//! `encode` appends the one canonical spelling of a value. Without memory, `peek` answers the outermost case of
-//! a spelled value, its parts lent, and `put` writes a scalar into a buffer. `specs/Spelling.antt` says what a
-//! spelling is, by cases on the value, and `specs/Misreading.antt` what is wrong where there is none;
-//! `specs/Canonical.antt` which one is written; `specs/Reading.antt` is the reading function, faults and all;
-//! `specs/Peeks.antt` says what the outermost cases are.
-//! The tests stand in `test_codec_rows`.
+//! Begin with [`Value`], [`decode`] and [`encode`]. `decode` returns exactly the value that the bytes begin
+//! with, within limits of depth and nodes. `check` returns its length alone; `skip` does so within a depth,
+//! without memory. Each returns the first fault from the left, with its place. `encode` appends the one
+//! canonical spelling of a value. Without memory, `peek` returns the outermost case of a spelled value, and
+//! `put` writes a scalar. `specs/Spelling.antt` defines what a spelling is, and `specs/Misreading.antt` what is
+//! wrong if there is none. `specs/Canonical.antt` defines the spelling that is written, and `specs/Reading.antt`
+//! the reading function, faults included; `specs/Peeks.antt` defines the outermost cases. The tests are in
+//! `test_codec_rows`.
 #![tactic(auto)]
 
 mod block;

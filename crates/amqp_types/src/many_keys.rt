@@ -1,4 +1,4 @@
-//! Many keys of a map that hold no others, lent.
+//! Many borrowed keys of a map that hold no other values.
 
 ghost use Rattle.std.specs.Prelude.{◌≡◌, [], map, false, IsTrue, IsFalse, IfOk};
 ghost use Rattle.amqp_types.specs.Decoding.{is_among};
@@ -13,8 +13,8 @@ use crate::marks::{Marks, mark_of};
 use std::alloc::{AllocError, Global};
 use std::marker::Model;
 
-/// Keys, and the marks of all of them. Whether a mark is there is found in logarithmic time, and by numbers: keys of two marks
-/// are not equal. Of keys of one mark nothing is known.
+/// Keys and their marks. A mark is a number, and is looked up in logarithmic time. Keys of different marks are not
+/// equal; keys of the same mark may be equal or not.
 #[derive(Drop)]
 pub struct ManyKeys<'a> {
     keys: Vec<Key<'a>>,
@@ -35,7 +35,7 @@ impl<'a> Model for ManyKeys<'a> {
 }
 
 impl<'a> ManyKeys<'a> {
-    /// None yet.
+    /// Returns a set without keys.
     pub fn new(alloc: Global) -> ManyKeys<'a>
         ensures { result ≡ [] }
     {
@@ -45,14 +45,14 @@ impl<'a> ManyKeys<'a> {
         }
     }
 
-    /// All of them.
+    /// Returns all of them.
     pub fn lent(&self) -> &[Key<'a>]
         ensures { map key_image result.now ≡ self.now }
     {
         &self.keys
     }
 
-    /// Puts a key among them where its mark is new, and says so.
+    /// Adds a key if its mark is new, and returns whether it is.
     pub fn insert(&mut self, key: Key<'a>) -> Result<bool, AllocError>
         ensures new { IfOk result (λ new. IsTrue new → is_among (key_image key.entry) self.old ≡ false) }
         ensures with { IfOk result (λ new. IsTrue new → IsWith (key_image key.entry) self.old self.new) }
@@ -66,7 +66,7 @@ impl<'a> ManyKeys<'a> {
     }
 }
 
-/// The mark of a key: that of its bytes, or of the last eight of a number.
+/// Returns the mark of a key: the mark of its bytes, or of the last eight bytes of a number.
 fn mark_of_key(key: &Key<'_>) -> u64
     ensures { result ≡ image_mark (key_image key.now) }
 {
@@ -76,7 +76,7 @@ fn mark_of_key(key: &Key<'_>) -> u64
     }
 }
 
-/// The mark of the last eight bytes of a number.
+/// Returns the mark of the last eight bytes of a number.
 fn number_mark(number: u128) -> u64
     ensures { (kind : Kind) → result ≡ image_mark (image (Number kind number)) }
 {

@@ -1,4 +1,4 @@
-//! Numbers that follow from bytes.
+//! Marks: numbers computed from bytes, which tell keys apart.
 
 ghost use Rattle.std.specs.Prelude.{◌≡◌, ℕ, ◌||◌, nat_eq, [], true, false, IsTrue, IfOk, OnOk, OnErr};
 ghost use Rattle.amqp_types.specs.Marks.{mark_of, is_marked};
@@ -7,11 +7,11 @@ use std::alloc::{AllocError, Global};
 use std::collections::BTreeSet;
 use std::marker::Model;
 
-/// 2^64 over the golden ratio. It is odd, so that no two marks become one where they are multiplied by it; its bits are mixed, so
-/// that keys that differ in a few bytes have marks that are far apart.
+/// 2^64 over the golden ratio. It is odd, so multiplying by it keeps different marks different. Its bits are mixed,
+/// so keys that differ in a few bytes have marks that are far apart.
 const FACTOR: u64 = 0x9e37_79b9_7f4a_7c15;
 
-/// Marks: whether one is there is found in logarithmic time.
+/// A set of marks. A lookup takes logarithmic time.
 #[derive(Drop)]
 pub struct Marks {
     marks: BTreeSet<u64>,
@@ -26,7 +26,7 @@ impl Model for Marks {
 }
 
 impl Marks {
-    /// None yet.
+    /// Returns a set without marks.
     pub fn new(alloc: Global) -> Marks
         ensures { result ≡ [] }
     {
@@ -35,7 +35,7 @@ impl Marks {
         }
     }
 
-    /// Puts a mark among them, and says whether it is new there.
+    /// Adds a mark and returns whether it is new.
     pub fn insert(&mut self, mark: u64) -> Result<bool, AllocError>
         ensures new { IfOk result (λ new. IsTrue new → is_marked mark self.old ≡ false) }
         ensures ok { OnOk result ((other : ℕ) → is_marked other self.new ≡ (nat_eq mark other || is_marked other self.old)) }
@@ -48,7 +48,7 @@ impl Marks {
     }
 }
 
-/// The mark of these bytes.
+/// Returns the mark of these bytes.
 pub fn mark_of(bytes: &[u8]) -> u64
     ensures { result ≡ mark_of bytes.now }
 {

@@ -1,4 +1,4 @@
-//! Values on the way to their spelling.
+//! Parts of a spelling: values whose content is spelled.
 
 ghost use Rattle.std.specs.Prelude.{◌≡◌, ◌<◌, ◌+◌, ◌^◌, ◌++◌, ◌&&◌, nat_lt, length, OnOk, true};
 ghost use Rattle.byteorder.specs.Endian.{big_bytes};
@@ -11,7 +11,7 @@ use crate::kind::{Kind, width};
 use crate::shell::{Shell, Short, full_code, narrowest, short_form};
 use std::alloc::AllocError;
 
-/// The content of a value, and what stands around it: a size and a count of four bytes hold its own.
+/// The content of a value, and its shell. Its size and its count fit four bytes.
 #[derive(Debug, Drop)]
 pub struct Part {
     pub shell: Shell,
@@ -19,7 +19,7 @@ pub struct Part {
     ghost roomy: { has_room shell content.items ≡ true },
 }
 
-/// Whether a size and a count of four bytes hold those of the value.
+/// Whether the size and the count of the value fit four bytes.
 pub fn has_room(shell: Shell, content: &[u8]) -> bool
     ensures { result ≡ has_room shell content.now }
 {
@@ -39,7 +39,7 @@ fn block_has_room(count: usize, len: usize) -> bool
     count < 1 << 32 && len < (1 << 32) - 4
 }
 
-/// Appends as many bytes as the kind has.
+/// Appends the number in as many bytes as the kind has.
 fn write_number(kind: Kind, number: u128, out: &mut Vec<u8>) -> Result<(), AllocError>
     ensures { OnOk result (out.new.items ≡ out.old.items ++ big_bytes (width kind) number) }
 {
@@ -116,7 +116,7 @@ impl Part {
         }
     }
 
-    /// Appends the data behind the code of the full form.
+    /// Appends the data that come after the code of the full form.
     pub fn write_data(&self, size: SizeWidth, out: &mut Vec<u8>) -> Result<(), AllocError>
         requires { size ≡ SizeWidth.One → is_small self.now.shell self.now.content.items ≡ true }
         ensures { OnOk result

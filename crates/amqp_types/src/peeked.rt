@@ -2,7 +2,7 @@
 
 use crate::kind::Kind;
 
-/// The outermost case of a value. What it holds is lent from its spelling. [1.1; 1.6]
+/// The outermost case of a value. What it holds is borrowed from its spelling. [1.1; 1.6]
 #[derive(Clone, Copy, Debug, PartialEq, Eq)]
 pub enum Peek<'a> {
     Null,

@@ -1,4 +1,4 @@
-//! The outermost case of a spelled value, with its parts lent.
+//! The outermost case of a spelled value, with its parts borrowed.
 
 ghost use Rattle.std.specs.Prelude.{◌≡◌, ℕ, ◌≤◌, List, ◌∷◌, ◌++◌, length};
 ghost use Rattle.amqp_types.specs.Codes.{FitsItsKind};
@@ -61,7 +61,7 @@ fn list_case(w: Window, size: SizeWidth, bytes: &[u8]) -> Result<Peek<'_>, ReadF
     Ok(Peek::List(count, items))
 }
 
-/// A descriptor and what it describes. Neither is deeper than it is long.
+/// Returns the spellings of a descriptor and what it describes. Neither is deeper than it has bytes.
 fn described_case(bytes: &[u8]) -> Result<Peek<'_>, ReadFault>
     ensures { (d t : Tree) (first second rest : List ℕ) → Spells d first → Spells t second
         → bytes.now ≡ first ++ (second ++ rest) → IsCaseFound (Described d t) (0 ∷ (first ++ second)) result }
@@ -71,7 +71,7 @@ fn described_case(bytes: &[u8]) -> Result<Peek<'_>, ReadFault>
     Ok(Peek::Described(descriptor, &rest[..len]))
 }
 
-/// The case of a value whose constructor stands in front of the bytes.
+/// Returns the outermost case of a value; `bytes` are those after its constructor.
 fn item_case(constructor: Constructor, w: Window, bytes: &[u8]) -> Result<Peek<'_>, ReadFault>
     requires within { length bytes.now ≤ w.end }
     requires sound { FitsItsKind constructor }
@@ -86,7 +86,7 @@ fn item_case(constructor: Constructor, w: Window, bytes: &[u8]) -> Result<Peek<'
     }
 }
 
-/// The case of the value at the front.
+/// Returns the outermost case of the value at the front.
 fn case_at(w: Window, bytes: &[u8]) -> Result<Peek<'_>, ReadFault>
     requires { length bytes.now ≤ w.end }
     ensures { (t : Tree) (text rest : List ℕ) → Spells t text → bytes.now ≡ text ++ rest → IsCaseFound t text result }
@@ -101,10 +101,10 @@ fn case_at(w: Window, bytes: &[u8]) -> Result<Peek<'_>, ReadFault>
     item_case(constructor, w, rest)
 }
 
-/// The outermost case of the value that the bytes begin with, which its caller knows to stand there. [1.2]
+/// Returns the outermost case of the value that the bytes begin with; its caller knows that there is one. [1.2]
 ///
-/// Bytes may follow it. No memory is taken. Of a list only the head is read; a descriptor and what it describes
-/// are skipped, with a depth of the stack that is bounded by their own.
+/// Bytes may follow it. No memory is taken. Only the head of a list is read. A descriptor and what it describes
+/// are skipped; their depth bounds the depth of the stack.
 pub fn peek(bytes: &[u8]) -> Peek<'_>
     requires { BeginsWithValue bytes.now }
     ensures { (t : Tree) (text rest : List ℕ) → Spells t text → bytes.now ≡ text ++ rest → IsOutermost t text result }

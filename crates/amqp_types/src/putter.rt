@@ -12,7 +12,7 @@ use crate::kind::{Kind, width};
 use crate::peeked::Peek;
 use crate::shell::{Short, full_code, short_form};
 
-/// Writes the bytes over those at the place.
+/// Overwrites the bytes at place `at`.
 fn write_at(at: usize, bytes: &[u8], out: &mut [u8])
     requires { at + length bytes.now ≤ length out.old }
     ensures written { take (at + length bytes.now) out.new ≡ take at out.old ++ bytes.now }
@@ -21,7 +21,7 @@ fn write_at(at: usize, bytes: &[u8], out: &mut [u8])
     out[at..at + bytes.len()].copy_from_slice(bytes);
 }
 
-/// Writes a code, a size and the data at the front, where all of them fit.
+/// Writes a code, a size and the data at the front, if all of them fit; returns their length.
 fn put_parts(code: u8, size: &[u8], bytes: &[u8], out: &mut [u8]) -> Option<usize>
     requires { 1 + length size.now + length bytes.now < 2 ^ 64 }
     ensures some { IfSome result (IsPut (code ∷ (size.now ++ bytes.now)) out.old out.new) }
@@ -56,7 +56,7 @@ fn put_number(kind: Kind, number: u64, out: &mut [u8]) -> Option<usize>
     }
 }
 
-/// Writes a value of variable width, where a size of four bytes counts its bytes.
+/// Writes a value of variable width, if it has less than 2^32 bytes and `out` has room.
 fn put_octets(kind: Kind, octets: &[u8], out: &mut [u8]) -> Option<usize>
     ensures some { IfSome result (IsPut (canonical (Octets kind octets.now)) out.old out.new) }
     ensures counted { IfSome result (λ n. length octets.now < 2 ^ 32) }
@@ -77,7 +77,7 @@ fn put_octets(kind: Kind, octets: &[u8], out: &mut [u8]) -> Option<usize>
     }
 }
 
-/// Whether the kind is one of unsigned numbers, and the number is one of the kind.
+/// Whether the kind is that of an unsigned number and the number is in its range.
 fn is_unsigned(kind: Kind, number: u64) -> bool
     ensures { IsTrue result ↔ IsUnsigned kind × (number < 256 ^ width kind) }
 {
@@ -90,11 +90,12 @@ fn is_unsigned(kind: Kind, number: u64) -> bool
     }
 }
 
-/// Writes the canonical spelling of a scalar at the front of `out`, and answers its length in bytes. [1.2; 1.6]
+/// Writes the canonical spelling of a scalar at the front of `out`, and returns its length in bytes. [1.2; 1.6]
 ///
-/// Scalars are null, booleans, unsigned numbers, strings, symbols and binaries. `None` says that the case is none
-/// of these, that it is none of its kind (a number too large for it, a symbol with a byte at or above 0x80,
-/// 2^32 bytes or more), or that `out` is too short; then `out` holds what it held before. No memory is taken.
+/// Scalars are null, booleans, unsigned numbers, strings, symbols and binaries. Returns `None` and leaves `out`
+/// as it was, if the case is none of these, is not valid for its kind, or has no room in `out`. Not valid are a
+/// number too large for its kind, a symbol with a byte at or above 0x80, and 2^32 bytes or more. No memory is
+/// taken.
 pub fn put(value: &Peek<'_>, out: &mut [u8]) -> Option<usize>
     // What is written is the canonical spelling, and it spells the value.
     ensures some { IfSome result (λ n. (t : Tree) × IsScalarOf t value.now × Spells t (canonical t)

@@ -1,6 +1,6 @@
-//! The length of a value in which nothing is wrong.
+//! Measures a value in which nothing is wrong.
 //!
-//! `None` says nothing of the value: it is for the pass with places to find what is wrong, and where.
+//! `None` says nothing about the value: the pass with places then finds what is wrong, and where.
 
 ghost use Rattle.std.specs.Prelude.{◌≡◌, ℕ, ◌+◌, ◌≤◌, length, drop, if◌then◌else◌, None, IfSome, IsTrue, Option, Some, Ok, false};
 ghost use Rattle.byteorder.specs.Endian.{big_number};
@@ -19,7 +19,7 @@ use crate::scalar::{allowed, first_beyond_ascii, size_len};
 use crate::skipper::{form_len, may_hold, one_less};
 use byteorder::{BigEndian, ByteOrder};
 
-/// The bytes behind a code, where they are as many for each of its values, and any will do.
+/// Returns how many bytes come after a code, if all its values have as many and any bytes are valid.
 #[inline(always)]
 fn plain_width(code: u8) -> Option<usize>
     ensures { IfSome result (λ n. plain_width (find_code code) ≡ Some n) }
@@ -32,14 +32,14 @@ fn plain_width(code: u8) -> Option<usize>
     }
 }
 
-/// Whether no data stand behind a code of this form, of a kind that has some.
+/// Whether the form has no data, whatever its kind.
 fn is_still(form: Form) -> bool
     ensures { (kind : Kind) → IsTrue result → form_len form (width kind) ≡ 0 }
 {
     matches!(form, Form::Zero | Form::One)
 }
 
-/// The length of the value in front, where its code has a plain width.
+/// Returns the length of the value at the front, if its code has a plain width.
 #[inline(always)]
 pub fn plain_len(bytes: &[u8]) -> Option<usize>
     ensures within { IfSome result (λ n. n ≤ length bytes.now) }
@@ -54,7 +54,7 @@ pub fn plain_len(bytes: &[u8]) -> Option<usize>
     Some(1 + width)
 }
 
-/// The length of a boolean's or a char's full form.
+/// Returns the length of a boolean's or a char's full form, if its data are valid.
 pub fn partial_len(kind: Kind, form: Form, bytes: &[u8]) -> Option<usize>
     ensures within { IfSome result (λ n. n ≤ length bytes.now) }
     ensures read { IfSome result (λ n. (w : Window) → rest_of (number_at w kind form bytes.now) ≡ Ok (drop n bytes.now)) }
@@ -78,7 +78,7 @@ pub fn partial_len(kind: Kind, form: Form, bytes: &[u8]) -> Option<usize>
     }
 }
 
-/// The number in a size's or a count's field at the front.
+/// Reads the size or the count at the front.
 #[inline(always)]
 fn number_in(size: SizeWidth, bytes: &[u8]) -> Option<usize>
     ensures within { IfSome result (λ n. size_len size ≤ length bytes.now) }
@@ -95,7 +95,7 @@ fn number_in(size: SizeWidth, bytes: &[u8]) -> Option<usize>
     }
 }
 
-/// Whether the bytes may be those of the kind.
+/// Whether the bytes are valid for the kind.
 pub fn are_octets(kind: Kind, octets: &[u8]) -> bool
     ensures { IsTrue result → (at : ℕ) → octets_fault kind at octets.now ≡ None }
 {
@@ -109,8 +109,8 @@ pub fn are_octets(kind: Kind, octets: &[u8]) -> bool
     }
 }
 
-/// The bytes that a size in front counts, and those behind them, where nothing is wrong with them.
-// Without the mark `dump` takes 0.8 in 100 more instructions.
+/// Returns the bytes that a size at the front counts, and the bytes after them, if nothing is wrong with them.
+// Without `inline`, `dump` takes 0.8 in 100 more instructions.
 #[inline(always)]
 pub fn octets_in(kind: Kind, size: SizeWidth, bytes: &[u8]) -> Option<(&[u8], &[u8])>
     ensures within { IfSome result (λ x. size_len size + length x.0.now + length x.1.now ≡ length bytes.now) }
@@ -125,7 +125,7 @@ pub fn octets_in(kind: Kind, size: SizeWidth, bytes: &[u8]) -> Option<(&[u8], &[
     Some(rest.split_at(len))
 }
 
-/// The kind of a code whose size has one byte.
+/// Returns the kind of a code, if its size has one byte.
 fn short_kind(code: u8) -> Option<Kind>
     ensures { IfSome result (λ kind. allowed 0 false (find_code code) ≡ Ok (Constructor.Variable kind SizeWidth.One)) }
 {
@@ -135,8 +135,9 @@ fn short_kind(code: u8) -> Option<Kind>
     }
 }
 
-/// The kind and the bytes of the value in front, and the bytes behind it, where its size has one byte and nothing is wrong with it.
-// Without the mark `dump` takes 1.8 in 100 more instructions, `texts` 2.1.
+/// Returns the kind and the bytes of the value at the front, and the bytes after it, if its size has one byte and
+/// nothing is wrong with it.
+// Without `inline`, `dump` takes 1.8 in 100 more instructions, `texts` 2.1.
 #[inline(always)]
 pub fn short_octets(bytes: &[u8]) -> Option<(Kind, &[u8], &[u8])>
     ensures rest { IfSome result (λ x. length x.2.now ≤ length bytes.now) }
@@ -148,7 +149,7 @@ pub fn short_octets(bytes: &[u8]) -> Option<(Kind, &[u8], &[u8])>
     Some((kind, octets, rest))
 }
 
-/// The length of a size and the bytes that it counts.
+/// Returns the length of a size together with the bytes that it counts.
 fn octets_len(kind: Kind, size: SizeWidth, bytes: &[u8]) -> Option<usize>
     ensures within { IfSome result (λ n. n ≤ length bytes.now) }
     ensures read { IfSome result (λ n. (w : Window) → rest_of (sized_at w kind size bytes.now) ≡ Ok (drop n bytes.now)) }
@@ -157,7 +158,7 @@ fn octets_len(kind: Kind, size: SizeWidth, bytes: &[u8]) -> Option<usize>
     Some(size_len(size) + octets.len())
 }
 
-/// The length of so many sizes, each with the bytes that it counts.
+/// Returns the length of `count` sizes, each with the bytes that it counts.
 fn octets_items_len(kind: Kind, size: SizeWidth, count: usize, bytes: &[u8]) -> Option<usize>
     ensures within { IfSome result (λ n. n ≤ length bytes.now) }
     ensures read { IfSome result (λ n. (inner : Option Level) (w : Window) → after (trees_at (item_by inner (Constructor.Variable kind size)) count w None bytes.now) ≡ Ok (drop n bytes.now)) }
@@ -169,7 +170,7 @@ fn octets_items_len(kind: Kind, size: SizeWidth, count: usize, bytes: &[u8]) -> 
     Some(at)
 }
 
-/// The length of so many items, where they hold no others.
+/// Returns the length of `count` items; `None` too if they may hold other values, or are booleans or chars.
 fn elements_len(constructor: Constructor, count: usize, bytes: &[u8]) -> Option<usize>
     requires { FitsItsKind constructor }
     ensures within { IfSome result (λ n. n ≤ length bytes.now) }
@@ -188,7 +189,7 @@ fn elements_len(constructor: Constructor, count: usize, bytes: &[u8]) -> Option<
     }
 }
 
-/// The count in a list, a map or an array behind its code, and the bytes behind the count.
+/// Returns the count of a list, a map or an array, and its other bytes after the count; `bytes` begin after its code.
 #[inline(always)]
 pub fn body_at(size: SizeWidth, bytes: &[u8]) -> Option<(usize, &[u8])>
     ensures { IfSome result (λ x. IsBody size bytes.now x.0 x.1.now) }
@@ -203,7 +204,7 @@ pub fn body_at(size: SizeWidth, bytes: &[u8]) -> Option<(usize, &[u8])>
     Some((count, &body[size_len(size)..]))
 }
 
-/// The length of an array's data, where its items hold no others and have no descriptor.
+/// Returns the length of an array's data, if its items hold no other values and have no descriptor.
 fn array_len(depth: usize, size: SizeWidth, bytes: &[u8]) -> Option<usize>
     ensures within { IfSome result (λ n. n ≤ length bytes.now) }
     ensures read { IfSome result (λ n. (w : Window) → after (array_at (level_by (inside depth)) w size None bytes.now) ≡ Ok (drop n bytes.now)) }
@@ -217,7 +218,7 @@ fn array_len(depth: usize, size: SizeWidth, bytes: &[u8]) -> Option<usize>
     Some(2 * size_len(size) + parts.len())
 }
 
-/// The length of the value in front.
+/// Returns the length of the value at the front, if nothing is wrong with it.
 #[cycle(lengths)]
 #[inline(always)]
 pub fn value_len(depth: usize, bytes: &[u8]) -> Option<usize>
@@ -230,7 +231,7 @@ pub fn value_len(depth: usize, bytes: &[u8]) -> Option<usize>
     }
 }
 
-/// The length of the value in front, by its code.
+/// Returns the length of the value at the front, by its code.
 #[cycle(lengths)]
 fn other_len(depth: usize, bytes: &[u8]) -> Option<usize>
     ensures within { IfSome result (λ n. n ≤ length bytes.now) }
@@ -244,7 +245,7 @@ fn other_len(depth: usize, bytes: &[u8]) -> Option<usize>
     Some(1 + item_len(depth, constructor, rest)?)
 }
 
-/// The length of a descriptor and what it describes.
+/// Returns the length of a descriptor and what it describes.
 #[cycle(lengths)]
 fn described_len(depth: usize, bytes: &[u8]) -> Option<usize>
     ensures within { IfSome result (λ n. n ≤ length bytes.now) }
@@ -255,7 +256,7 @@ fn described_len(depth: usize, bytes: &[u8]) -> Option<usize>
     Some(first + second)
 }
 
-/// The length of the data of a constructor.
+/// Returns the length of the data of a constructor.
 #[tactic(auto, unfolding(crate::specs::Reading::item_by))]
 #[cycle(lengths)]
 fn item_len(depth: usize, constructor: Constructor, bytes: &[u8]) -> Option<usize>
@@ -273,7 +274,7 @@ fn item_len(depth: usize, constructor: Constructor, bytes: &[u8]) -> Option<usiz
     }
 }
 
-/// The length of a list's data, or of a map's, whose parts come in pairs.
+/// Returns the length of a list's data, or of a map's, whose parts come in pairs.
 #[cycle(lengths)]
 fn parts_len(depth: usize, size: SizeWidth, paired: bool, bytes: &[u8]) -> Option<usize>
     ensures within { IfSome result (λ n. n ≤ length bytes.now) }
@@ -289,7 +290,7 @@ fn parts_len(depth: usize, size: SizeWidth, paired: bool, bytes: &[u8]) -> Optio
     Some(2 * size_len(size) + parts.len())
 }
 
-/// The length of so many values.
+/// Returns the length of `count` values.
 #[cycle(lengths)]
 fn values_len(depth: usize, count: usize, bytes: &[u8]) -> Option<usize>
     ensures within { IfSome result (λ n. n ≤ length bytes.now) }

@@ -13,7 +13,7 @@ use crate::fault::ReadFault;
 use crate::kind::{Kind, width};
 use crate::window::Window;
 
-/// The constructor of a code at the place, where it may stand.
+/// Returns the constructor of a code at place `at`; `TooDeep` for a container if `holds` is false.
 #[inline(always)]
 pub fn allowed(at: usize, code: u8, holds: bool) -> Result<Constructor, ReadFault>
     ensures read { Is (λ c. c) result (allowed at holds (find_code code)) }
@@ -26,7 +26,7 @@ pub fn allowed(at: usize, code: u8, holds: bool) -> Result<Constructor, ReadFaul
     }
 }
 
-/// Whether values of the constructor hold others.
+/// Whether values of the constructor may hold others.
 fn is_container(constructor: Constructor) -> bool
     requires { FitsItsKind constructor }
     ensures { result ≡ is_container (kind_of constructor) }
@@ -37,7 +37,7 @@ fn is_container(constructor: Constructor) -> bool
     }
 }
 
-/// A byte in two's complement, as the number that `n` bytes in two's complement give it.
+/// Returns a byte in two's complement, extended to `n` bytes in two's complement.
 #[tactic(auto, using(crate::proofs::Powers::pow_of_one))]
 fn sign_extended(n: usize, byte: u64) -> u64
     requires some { 1 ≤ n }
@@ -61,7 +61,7 @@ fn sign_extended(n: usize, byte: u64) -> u64
     }
 }
 
-/// A number of `n` bytes, in its form.
+/// Reads a number of `n` bytes, in its form.
 #[tactic(auto, using(crate::proofs::Powers::pow_of_one), unfolding(crate::specs::Reading::form_at))]
 fn form_at(w: Window, form: Form, n: usize, bytes: &[u8]) -> Result<(u64, &[u8]), ReadFault>
     requires some { 1 ≤ n }
@@ -82,7 +82,7 @@ fn form_at(w: Window, form: Form, n: usize, bytes: &[u8]) -> Result<(u64, &[u8])
     }
 }
 
-/// A number of the kind, in its form.
+/// Reads a number of the kind, in its form.
 #[tactic(auto, unfolding(crate::specs::Reading::number_at))]
 pub fn number_at(w: Window, kind: Kind, form: Form, bytes: &[u8]) -> Result<(u64, &[u8]), ReadFault>
     requires within { length bytes.now ≤ w.end }
@@ -102,7 +102,7 @@ pub fn number_at(w: Window, kind: Kind, form: Form, bytes: &[u8]) -> Result<(u64
     }
 }
 
-/// The bytes that the size field says.
+/// Returns how many bytes the size field has.
 pub fn size_len(size: SizeWidth) -> usize
     ensures { result ≡ size_len size }
 {
@@ -112,7 +112,7 @@ pub fn size_len(size: SizeWidth) -> usize
     }
 }
 
-/// What is wrong with the bytes of a value of variable width, which begin at `at`.
+/// Returns what is wrong with the bytes of a value of variable width, which begin at place `at`.
 fn octets_fault(kind: Kind, at: usize, octets: &[u8]) -> Option<ReadFault>
     requires { at + length octets.now < 2 ^ 64 }
     ensures fault { result ≡ octets_fault kind at octets.now }
@@ -136,7 +136,7 @@ fn text_fault(at: usize, octets: &[u8]) -> Option<ReadFault>
     }
 }
 
-/// Where the first byte is that no symbol has.
+/// Returns the index of the first byte at or above 0x80.
 pub fn first_beyond_ascii(octets: &[u8]) -> Option<usize>
     ensures first { result ≡ position is_beyond_ascii octets.now }
     ensures within { IfSome result (λ n. n < length octets.now) }
@@ -156,7 +156,7 @@ fn symbol_fault(at: usize, octets: &[u8]) -> Option<ReadFault>
     }
 }
 
-/// The bytes of a value of variable width, behind their size.
+/// Reads a size, and returns the bytes of variable width that it counts and the bytes after them.
 #[tactic(auto, unfolding(crate::specs::Reading::sized_at))]
 pub fn sized_at(
     w: Window,

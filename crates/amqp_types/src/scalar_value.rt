@@ -1,4 +1,4 @@
-//! Values that hold no others, from their data.
+//! Makes values that hold no others from their data.
 
 ghost use Rattle.std.specs.Prelude.{◌≡◌, ◌≢◌, ℕ, ◌^◌, ◌<◌, ◌≤◌, List, ◌∷◌, length, Option, IfOk, IfErr, IfSome, Some, None, Ok, false};
 ghost use Rattle.byteorder.specs.Endian.{big_number};
@@ -20,7 +20,7 @@ use crate::value::Value;
 use crate::window::Window;
 use std::alloc::Global;
 
-/// The value that a number of the kind is.
+/// Makes the value of the kind that a number stands for.
 fn number_value(kind: Kind, number: u64) -> Value
     requires fixed { fixed_width kind ≢ None }
     requires some { 1 ≤ width kind }
@@ -49,7 +49,7 @@ fn number_value(kind: Kind, number: u64) -> Value
     }
 }
 
-/// The next sixteen bytes.
+/// Reads the next sixteen bytes.
 fn sixteen(w: Window, bytes: &[u8]) -> Result<([u8; 16], &[u8]), ReadFault>
     ensures read { Is (λ x. (big_number 16 x.0, x.1.now)) result (big_at w 16 bytes.now) }
     ensures rest { IfOk result (λ x. length x.1.now ≤ length bytes.now) }
@@ -60,7 +60,7 @@ fn sixteen(w: Window, bytes: &[u8]) -> Result<([u8; 16], &[u8]), ReadFault>
     Ok((octets, rest))
 }
 
-/// A value of fixed width, in its form.
+/// Reads a value of fixed width, in its form.
 #[tactic(auto, unfolding(crate::specs::Reading::number_at, crate::specs::Reading::form_at))]
 pub fn fixed_value(
     w: Window,
@@ -90,7 +90,7 @@ pub fn fixed_value(
     }
 }
 
-/// The value of a code that has no data, where it holds no others.
+/// Returns the value of a code that has no data, except for the empty list.
 #[inline(always)]
 fn bare_value(code: u8) -> Option<Value>
     ensures { IfSome result (λ v. (inner : Option Level) (w : Window) (left : ℕ) (rest : List ℕ) → value_by inner w 0 (Some left) (code ∷ rest) ≡ Ok (view v, Some left, rest)) }
@@ -106,7 +106,7 @@ fn bare_value(code: u8) -> Option<Value>
     Some(value)
 }
 
-/// The value of an unsigned number's code with one byte behind it.
+/// Returns the value of an unsigned number's code with one byte after it.
 #[inline(always)]
 fn byte_value(code: u8, byte: u8) -> Option<Value>
     ensures { IfSome result (λ v. (inner : Option Level) (w : Window) (left : ℕ) (rest : List ℕ) → value_by inner w 0 (Some left) (code ∷ byte ∷ rest) ≡ Ok (view v, Some left, rest)) }
@@ -120,7 +120,7 @@ fn byte_value(code: u8, byte: u8) -> Option<Value>
     Some(value)
 }
 
-/// The value in front and the bytes behind it, where that is one with no data or an unsigned number of one byte.
+/// Returns the value at the front and the bytes after it, if it has no data or is a one-byte unsigned number.
 #[inline(always)]
 pub fn small_value(bytes: &[u8]) -> Option<(Value, &[u8])>
     ensures read { IfSome result (λ x. (inner : Option Level) (w : Window) (left : ℕ) → value_by inner w 0 (Some left) bytes.now ≡ Ok (view x.0, Some left, x.1.now)) }
@@ -134,7 +134,7 @@ pub fn small_value(bytes: &[u8]) -> Option<(Value, &[u8])>
     Some((byte_value(*code, *byte)?, behind))
 }
 
-/// The value that bytes of the kind are.
+/// Makes a value of the kind from a copy of its bytes.
 pub fn octets_value(alloc: Global, kind: Kind, octets: &[u8]) -> Result<Value, ReadFault>
     requires variable { fixed_width kind ≡ None }
     requires holds_none { is_container kind ≡ false }

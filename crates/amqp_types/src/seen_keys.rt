@@ -1,4 +1,4 @@
-//! The keys of a map that were seen, while it is checked.
+//! The keys of a map seen so far, while the map is checked.
 
 ghost use Rattle.std.specs.Prelude.{◌≡◌, [], not, ◌≤◌, length, map, IfOk, IfErr, IsTrue, OnOk, Some};
 ghost use Rattle.amqp_types.specs.Decoding.{is_among};
@@ -18,7 +18,7 @@ use crate::window::Window;
 use std::alloc::{AllocError, Global};
 use std::marker::Model;
 
-/// Keys, lent where none of them holds others and they can be told apart so, and else in a set.
+/// Keys: borrowed as long as none holds other values and marks tell them apart, and otherwise in a set.
 #[derive(Drop)]
 pub struct SeenKeys<'a> {
     lent: LentKeys<'a>,
@@ -38,7 +38,7 @@ impl<'a> Model for SeenKeys<'a> {
 }
 
 impl<'a> SeenKeys<'a> {
-    /// None yet, of so many.
+    /// Returns a set without keys, for `count` keys in all.
     pub fn new(alloc: Global, count: usize) -> SeenKeys<'a>
         ensures { result ≡ [] }
     {
@@ -49,7 +49,7 @@ impl<'a> SeenKeys<'a> {
         }
     }
 
-    /// The nodes left and the bytes behind the key in front, which is none of those before it and is put among them.
+    /// Reads and adds the key at the front; returns the nodes left and the bytes after it. It has to be new.
     pub fn take(
         &mut self,
         alloc: Global,
@@ -76,7 +76,7 @@ impl<'a> SeenKeys<'a> {
         Ok((left, rest))
     }
 
-    /// Puts a key that holds no others among them, and says whether it is new there.
+    /// Adds a key that holds no other values and returns whether it is new.
     pub fn insert(&mut self, alloc: Global, key: Key<'a>) -> Result<bool, AllocError>
         ensures new { IfOk result (λ new. new ≡ not (is_among (key_image key.entry) self.old)) }
         ensures ok { OnOk result (IsWith (key_image key.entry) self.old self.new) }
@@ -92,7 +92,7 @@ impl<'a> SeenKeys<'a> {
         self.set.insert_key(alloc, &key)
     }
 
-    /// The same of any key.
+    /// Adds any key and returns whether it is new.
     fn insert_value(&mut self, alloc: Global, key: &Value) -> Result<bool, AllocError>
         ensures new { IfOk result (λ new. new ≡ not (is_among (image (view key.now)) self.old)) }
         ensures ok { IfOk result (λ new. IsTrue new → IsWith (image (view key.now)) self.old self.new) }

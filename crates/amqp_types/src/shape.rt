@@ -12,7 +12,7 @@ use crate::kind::Kind;
 use crate::value::Value;
 use byteorder::{BigEndian, ByteOrder};
 
-/// A value, with what it holds lent. A number is the one in its full form; signed ones are in
+/// A value, with what it holds borrowed. A number is that of its full form; signed ones are in
 /// two's complement.
 pub enum Shape<'a> {
     Number(Kind, u128),
@@ -23,7 +23,7 @@ pub enum Shape<'a> {
     Described(&'a Box<Value>, &'a Box<Value>),
 }
 
-/// The shape of a value that is these bytes of the kind.
+/// Returns the shape of a value of the kind that has these bytes.
 fn octets_shape(kind: Kind, octets: &[u8]) -> Shape<'_>
     requires kind { IsOfOctets kind }
     requires of_kind { AreOctetsOf kind octets.now }
@@ -34,7 +34,7 @@ fn octets_shape(kind: Kind, octets: &[u8]) -> Shape<'_>
     Shape::Octets(kind, octets)
 }
 
-/// What the value is made of.
+/// Returns what the value is made of.
 pub fn shape_of(value: &Value) -> Shape<'_>
     ensures seen { view value.now ≡ tree_of result }
     ensures ranged { IsRangedShape result }

@@ -6,8 +6,8 @@ ghost use Rattle.amqp_types.specs.Canonical.{full_code, by_size, boolean_form, u
 use crate::code::SizeWidth;
 use crate::kind::Kind;
 
-/// What of a value stands around its content. Counts are those of the parts, of a map's keys and
-/// values together; numbers are those of the full form.
+/// What of a value stands around its content. Counts are those of the parts, and a map's keys and
+/// values are counted together. Numbers are those of the full form.
 #[derive(Clone, Copy, Debug)]
 pub enum Shell {
     Number(Kind, u128),
@@ -27,7 +27,7 @@ pub enum Short {
     Byte(u8, u8),
 }
 
-/// The code of a kind's full form, or of the kind with a size of that width. [1.6]
+/// Returns the code of a kind's full form, or of the kind with a size of that width. [1.6]
 pub fn full_code(size: SizeWidth, kind: Kind) -> u8
     ensures { result ≡ full_code size kind }
 {
@@ -68,7 +68,7 @@ fn by_size(size: SizeWidth, one: u8, four: u8) -> u8
     }
 }
 
-/// The width of sizes that is enough.
+/// Returns the width of size fields that is enough: one byte if `small`, and else four.
 pub fn narrowest(small: bool) -> SizeWidth
     ensures { result ≡ narrowest small }
 {
@@ -112,7 +112,7 @@ fn signed_form(code: u8, least: u128, number: u128) -> Option<Short>
     }
 }
 
-/// The spelling of a number that is shorter than its full form, where there is one. [1.6]
+/// Returns the spelling of a number that is shorter than its full form, if there is one. [1.6]
 pub fn short_form(kind: Kind, number: u128) -> Option<Short>
     ensures { result ≡ short_form kind number }
 {

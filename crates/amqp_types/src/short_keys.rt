@@ -1,4 +1,4 @@
-//! The keys of a map of few, as long as they are short and all of one kind.
+//! The keys of a map that has few, as long as they are short and all of one kind.
 
 ghost use Rattle.std.specs.Prelude.{◌≡◌, ℕ, [], ◌++◌, ◌≤◌, List, length, map, Option, Some, None, IfOk, IfErr, IfSome, OnOk};
 ghost use Rattle.amqp_types.specs.Decoding.{is_among};
@@ -19,12 +19,12 @@ use crate::window::Window;
 use std::alloc::{AllocError, Global};
 use std::marker::Model;
 
-/// Keys of one kind whose sizes have one byte, lent, the last one first.
+/// Borrowed keys of one kind whose sizes have one byte, the last one first.
 #[derive(Drop)]
 pub struct ShortKeys<'a> {
     kind: Kind,
     keys: [&'a [u8]; FEW],
-    /// So many places in front are free.
+    /// This many places at the front are free.
     free: usize,
 }
 
@@ -42,7 +42,7 @@ impl<'a> Model for ShortKeys<'a> {
 }
 
 impl<'a> ShortKeys<'a> {
-    /// None yet. The first one stands in front.
+    /// Returns a set without keys. `bytes` begin with the first key.
     pub fn new(bytes: &[u8]) -> ShortKeys<'a>
         ensures { result ≡ [] }
     {
@@ -54,8 +54,8 @@ impl<'a> ShortKeys<'a> {
         }
     }
 
-    /// The bytes behind the key in front, which is none of those before it and is put among them. `None` where it isn't such a
-    /// key, or there is no room.
+    /// Adds the key at the front and returns the bytes after it. Returns `None` if it has another kind or a longer size, or
+    /// there is no room. A key equal to an earlier one is `DuplicateKey`.
     pub fn take(&mut self, w: Window, bytes: &'a [u8]) -> Result<Option<&'a [u8]>, ReadFault>
         requires { length bytes.now ≤ w.end }
         ensures new { IfOk result (λ x. IfSome x (λ rest. (inner : Option Level) (nodes : ℕ) → Takes (value_by inner w 0 (Some nodes) bytes.now) self.old self.new nodes rest.now)) }
@@ -77,7 +77,7 @@ impl<'a> ShortKeys<'a> {
         Ok(Some(rest))
     }
 
-    /// Puts them among others.
+    /// Adds the keys to `seen`.
     pub fn put_into(&self, alloc: Global, seen: &mut SeenKeys<'a>) -> Result<(), AllocError>
         ensures { OnOk result ((octets : List ℕ) → is_among octets seen.new ≡ is_among octets (self.now ++ seen.old)) }
     {
@@ -85,7 +85,7 @@ impl<'a> ShortKeys<'a> {
     }
 }
 
-/// Puts keys of a kind among others.
+/// Adds keys of one kind to `seen`.
 fn put_all<'a>(
     alloc: Global,
     kind: Kind,
@@ -100,7 +100,7 @@ fn put_all<'a>(
     Ok(())
 }
 
-/// The kind of the value in front, where its size has one byte.
+/// Returns the kind of the value at the front, if its size has one byte, and else `Symbol`.
 fn first_kind(bytes: &[u8]) -> Kind {
     match short_octets(bytes) {
         Some((kind, _, _)) => kind,

@@ -1,4 +1,4 @@
-//! The length of a value, read without keeping it.
+//! Measures a value without keeping it.
 
 ghost use Rattle.std.specs.Prelude.{◌≡◌, ℕ, ◌+◌, ◌≤◌, List, ◌++◌, length, take, drop, None, IfOk, IfErr, MatchOption, is_some, Some, Ok};
 ghost use Rattle.amqp_types.specs.Kinds.{width};
@@ -20,7 +20,7 @@ use crate::quick_skip::value_len;
 use crate::scalar::{allowed, number_at, size_len, sized_at};
 use crate::window::Window;
 
-/// How many bytes stand behind a fixed-width constructor.
+/// Returns how many bytes of data come after the code of a fixed-width constructor.
 pub fn form_len(kind: Kind, form: Form) -> usize
     ensures { result ≡ form_len form (width kind) }
 {
@@ -45,7 +45,7 @@ pub fn skip_number(w: Window, kind: Kind, form: Form, bytes: &[u8]) -> Result<&[
     Ok(rest)
 }
 
-/// Whether the constructor has no data behind it.
+/// Whether the constructor has no data.
 pub fn is_still(constructor: Constructor) -> bool
     ensures { result ≡ is_still constructor }
 {
@@ -56,7 +56,7 @@ pub fn is_still(constructor: Constructor) -> bool
     }
 }
 
-/// Whether a container may stand where so many levels of depth are left.
+/// Whether a container may begin here, with `depth` levels left.
 #[tactic(auto, using(crate::proofs::Levels::inside_zero, crate::proofs::Levels::inside_some))]
 pub fn may_hold(depth: usize) -> bool
     ensures { result ≡ is_some (inside depth) }
@@ -64,7 +64,7 @@ pub fn may_hold(depth: usize) -> bool
     depth > 0
 }
 
-/// The depth that is left inside a container, where one may stand.
+/// Returns the depth that is left inside a container; `None` if none may begin here.
 #[tactic(auto, using(crate::proofs::Levels::inside_zero, crate::proofs::Levels::inside_more))]
 pub fn one_less(depth: usize) -> Option<usize>
     ensures inside { MatchOption result (inside depth ≡ None) (λ less. inside depth ≡ Some (level_by (inside less))) }
@@ -90,7 +90,7 @@ fn skip_value(depth: usize, w: Window, bytes: &[u8]) -> Result<&[u8], ReadFault>
     skip_item(depth, constructor, w, rest)
 }
 
-/// What is left behind a descriptor and what it describes; the `00` in front of them stands at `at`.
+/// Returns the bytes after a descriptor and what it describes; the `00` before them is at place `at`.
 #[tactic(auto, unfolding(crate::specs::Reading::described_at))]
 #[cycle(walk)]
 fn skip_described(depth: usize, w: Window, at: usize, bytes: &[u8]) -> Result<&[u8], ReadFault>
@@ -105,7 +105,7 @@ fn skip_described(depth: usize, w: Window, at: usize, bytes: &[u8]) -> Result<&[
     skip_value(less, w, rest)
 }
 
-/// What is left behind the data of a constructor.
+/// Returns the bytes after the data of a constructor.
 #[tactic(auto, unfolding(crate::specs::Reading::item_by))]
 #[cycle(walk)]
 fn skip_item(
@@ -184,7 +184,7 @@ fn skip_array(depth: usize, w: Window, size: SizeWidth, bytes: &[u8]) -> Result<
     Ok(block.behind)
 }
 
-/// What is left behind so many values.
+/// Returns the bytes after `count` values.
 #[cycle(walk)]
 fn skip_values(depth: usize, count: usize, w: Window, bytes: &[u8]) -> Result<&[u8], ReadFault>
     requires { length bytes.now ≤ w.end }
@@ -198,7 +198,7 @@ fn skip_values(depth: usize, count: usize, w: Window, bytes: &[u8]) -> Result<&[
     Ok(rest)
 }
 
-/// What is left behind the data of so many items. Those of width zero are not walked.
+/// Returns the bytes after the data of `count` items. Items of width zero are not walked.
 #[cycle(walk)]
 fn skip_items(
     depth: usize,
@@ -222,7 +222,7 @@ fn skip_items(
     Ok(rest)
 }
 
-/// An array's element constructor, behind its descriptors.
+/// Skips an array's descriptors and returns its element constructor.
 #[cycle(walk)]
 fn skip_head(depth: usize, w: Window, bytes: &[u8]) -> Result<(Constructor, &[u8]), ReadFault>
     requires { length bytes.now ≤ w.end }
@@ -243,7 +243,7 @@ fn skip_head(depth: usize, w: Window, bytes: &[u8]) -> Result<(Constructor, &[u8
     Err(w.short)
 }
 
-/// The length of the value in front, or what is wrong with it and where.
+/// Returns the length of the value at the front, or what is wrong with it and where.
 #[cold]
 #[inline(never)]
 fn placed_len(bytes: &[u8], depth: usize) -> Result<usize, ReadFault>
@@ -254,8 +254,8 @@ fn placed_len(bytes: &[u8], depth: usize) -> Result<usize, ReadFault>
     Ok(bytes.len() - rest.len())
 }
 
-/// The length of the value in front, by the reading function. Only where the first pass finds none, the second
-/// looks for what is wrong.
+/// Returns the length of the value at the front, as the reading function defines it. A second pass looks for
+/// what is wrong only if the first one finds no length.
 fn skip_len(bytes: &[u8], depth: usize) -> Result<usize, ReadFault>
     ensures within { IfOk result (λ n. n ≤ length bytes.now) }
     ensures exact { Is (λ n. drop n bytes.now) result (after (value_of depth None bytes.now)) }
@@ -266,21 +266,21 @@ fn skip_len(bytes: &[u8], depth: usize) -> Result<usize, ReadFault>
     }
 }
 
-/// The length of the value that the bytes begin with, in bytes, within a depth. [1.2]
+/// Returns the length in bytes of the value that the bytes begin with, if it is within the depth. [1.2]
 ///
 /// Bytes may follow it. Nothing is kept, no memory is taken, elements of width zero are not walked, and the
-/// depth of the stack is bounded by `depth`. Equal keys are not looked for and nodes are not counted: never
-/// answers `DuplicateKey`, `TooManyNodes` or `NoMemory`.
+/// depth of the stack is bounded by `depth`. Equal keys are not looked for and nodes are not counted, so it
+/// never returns `DuplicateKey`, `TooManyNodes` or `NoMemory`.
 pub fn skip(bytes: &[u8], depth: usize) -> Result<usize, ReadFault>
     ensures within { IfOk result (λ n. n ≤ length bytes.now) }
-    // What is found is spelled there.
+    // A length that is returned is that of a value spelled there.
     ensures found { IfOk result (λ n. (t : Tree) × Spells t (take n bytes.now) × (depth_of t ≤ depth)) }
-    // Each value within the depth that is spelled there is found.
+    // The length of each value within the depth that is spelled there is returned.
     ensures only { (t : Tree) (text rest : List ℕ) → Spells t text → depth_of t ≤ depth → bytes.now ≡ text ++ rest → result ≡ Ok (length text) }
     // A fault is one that the bytes have, and it is the first.
     ensures misread { IfErr result (λ e. Misread (AValue 1) depth (outermost bytes.now) None bytes.now e) }
     ensures exact { Is (λ n. drop n bytes.now) result (after (value_of depth None bytes.now)) }
-    // A fault stands within the bytes, and is of them alone.
+    // A fault's place is within the bytes, and it depends on them and the depth alone.
     ensures placed { IfErr result (λ e. place_of e ≤ length bytes.now) }
     ensures plain { IfErr result (λ e. IsPlain e) }
 {

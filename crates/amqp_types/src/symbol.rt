@@ -21,7 +21,7 @@ impl Model for Symbol {
 }
 
 impl Symbol {
-    /// The symbol of these bytes, where each is below 0x80. Takes no memory.
+    /// Returns the symbol of these bytes; `None` if one is at or above 0x80. Takes no memory.
     pub fn new(octets: Vec<u8>) -> Option<Symbol>
         ensures made { IfSome result (λ s. s ≡ octets.items) }
         ensures ascii { IsSome result ↔ IsAscii octets.items }
@@ -33,7 +33,7 @@ impl Symbol {
         }
     }
 
-    /// The bytes of the symbol, each below 0x80.
+    /// Returns the bytes of the symbol, each below 0x80.
     pub fn as_bytes(&self) -> &[u8]
         ensures octets { result.now ≡ self.now }
         ensures ascii { IsAscii self.now }
@@ -41,7 +41,7 @@ impl Symbol {
         &self.octets
     }
 
-    /// The bytes of the symbol, given back. Takes no memory.
+    /// Returns the bytes of the symbol and consumes it. Takes no memory.
     pub fn into_bytes(self) -> Vec<u8>
         ensures { result.items ≡ self }
     {

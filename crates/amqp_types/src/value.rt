@@ -1,4 +1,4 @@
-//! Values in hand.
+//! Values in memory.
 
 use crate::kind::Kind;
 use crate::symbol::Symbol;

@@ -1,4 +1,4 @@
-//! The bytes in hand, with what it means that they end.
+//! Where the bytes at hand end, and which fault it is to reach past them.
 
 ghost use Rattle.std.specs.Prelude.{◌≡◌, ◌≤◌, length};
 ghost use Rattle.byteorder.specs.Endian.{big_number};
@@ -6,7 +6,7 @@ ghost use Rattle.byteorder.specs.Endian.{big_number};
 use crate::fault::ReadFault;
 use byteorder::{BigEndian, ByteOrder};
 
-/// A part that reaches past the bytes is the fault `short`; they end at the place `end`.
+/// A part that reaches past the bytes has the fault `short`; the bytes end at place `end`.
 #[derive(Clone, Copy)]
 pub struct Window {
     pub short: ReadFault,
@@ -27,7 +27,7 @@ impl Window {
         }
     }
 
-    /// Where the bytes that are left begin.
+    /// Returns the place where the bytes that are left begin.
     pub fn place(self, bytes: &[u8]) -> usize
         requires { length bytes.now ≤ self.end }
         ensures { result ≡ place self bytes.now }
@@ -35,7 +35,7 @@ impl Window {
         self.end - bytes.len()
     }
 
-    /// The next `n` bytes, and those behind them.
+    /// Returns the next `n` bytes, and the bytes after them.
     pub fn octets(self, n: usize, bytes: &[u8]) -> Result<(&[u8], &[u8]), ReadFault>
         ensures read { Is (λ x. (x.0.now, x.1.now)) result (octets_at self n bytes.now) }
         ensures parts { IfOk result (λ x. (length x.0.now ≡ n) × (length x.1.now + n ≡ length bytes.now)) }
@@ -46,7 +46,7 @@ impl Window {
         Ok(bytes.split_at(n))
     }
 
-    /// The number in the next `n` bytes, big-endian.
+    /// Returns the number in the next `n` bytes, big-endian, and the bytes after them.
     pub fn big(self, n: usize, bytes: &[u8]) -> Result<(u64, &[u8]), ReadFault>
         requires some { 1 ≤ n }
         requires eight { n ≤ 8 }
@@ -61,7 +61,8 @@ impl Window {
     }
 }
 
-/// The number in the first `n` bytes, big-endian. Most are sizes and counts, of one byte or four.
+/// Returns the number in the first `n` bytes, big-endian. Most are sizes and counts of 1 or 4
+/// bytes.
 fn front_number(n: usize, bytes: &[u8]) -> u64
     requires some { 1 ≤ n }
     requires eight { n ≤ 8 }

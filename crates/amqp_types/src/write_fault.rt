@@ -5,7 +5,7 @@ ghost use Rattle.amqp_types.specs.declared.write_fault.WriteFault.TheVariants.{N
 
 use std::alloc::{AllocError, AllocFailed};
 
-/// Something that a value has for which it has no canonical spelling, or that memory was refused.
+/// Why a value has no canonical spelling, or that memory was refused.
 #[derive(Clone, Copy, Debug, PartialEq, Eq)]
 pub enum WriteFault {
     /// A size or a count would be above 2^32 - 1.

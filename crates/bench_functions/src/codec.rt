@@ -27,13 +27,13 @@ pub enum Subject {
     Flow,
     Attach,
     Disposition,
-    /// A list of so many small values.
+    /// A list of this many small values.
     List(u16),
-    /// A map of so many distinct keys to null.
+    /// A map of this many distinct keys to null.
     Map(u16),
 }
 
-/// A call on a value, and how often it is timed where the command line doesn't say.
+/// A call on a value, and how often it is timed if the command line doesn't say.
 #[derive(Clone, Copy)]
 pub struct Case {
     name: &'static str,
@@ -85,7 +85,7 @@ const fn timed(name: &'static str, call: Call, subject: Subject, rounds: u32) ->
     }
 }
 
-/// Every case, in the order in which they are measured.
+/// Returns every case, in the order in which they are measured.
 pub fn cases() -> [Case; 15] {
     [
         timed("skip-transfer", Call::Skip, Subject::Transfer, 1_000_000),

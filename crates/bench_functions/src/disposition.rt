@@ -19,7 +19,7 @@ const PAYLOAD: usize = 100;
 enum Meets {
     /// Deliveries that came in this round and were handed up, which it closes.
     HandedUp,
-    /// The same, by the receiver's own settlement.
+    /// Deliveries that came in this round and were handed up, which the receiver settles itself.
     SettledHere,
     /// Deliveries that are ready, which it settled in the first round.
     Settled,
@@ -27,7 +27,7 @@ enum Meets {
     Nothing,
 }
 
-/// A disposition a round, and how often that is where the command line doesn't say.
+/// A disposition a round, and how often that is if the command line doesn't say.
 #[derive(Clone, Copy)]
 pub struct Case {
     name: &'static str,
@@ -59,7 +59,7 @@ impl Measured for Case {
     }
 }
 
-/// Every case, in the order in which they are measured.
+/// Returns every case, in the order in which they are measured.
 pub fn cases() -> [Case; 4] {
     [
         Case {
@@ -89,7 +89,7 @@ pub fn cases() -> [Case; 4] {
     ]
 }
 
-/// One disposition a round. Answers how many deliveries they settled.
+/// One disposition a round. Returns how many deliveries they settled.
 fn dispose_often(alloc: Global, meets: Meets, rounds: u32, payload: &[u8]) -> Result<u64, Stopped> {
     let mut session = begin(alloc, 1)?;
     let mut settled: u64 = 0;
@@ -103,7 +103,7 @@ fn dispose_often(alloc: Global, meets: Meets, rounds: u32, payload: &[u8]) -> Re
     Ok(settled)
 }
 
-/// The deliveries of a round come. Answers the first id.
+/// Lets the deliveries of a round come. Returns the first id.
 fn come(session: &mut Session, meets: Meets, first: u32, payload: &[u8]) -> Result<u32, Stopped> {
     for index in 0..OPEN {
         let id = first.wrapping_add(index);
@@ -117,7 +117,7 @@ fn come(session: &mut Session, meets: Meets, first: u32, payload: &[u8]) -> Resu
     Ok(first)
 }
 
-/// The disposition of a round. Answers how many deliveries it settled.
+/// Makes the disposition of a round. Returns how many deliveries it settled.
 fn dispose(session: &mut Session, meets: Meets, first: u32) -> u32 {
     let (first, count) = match meets {
         Meets::Nothing => (first.wrapping_add(OPEN), 1 << 31),

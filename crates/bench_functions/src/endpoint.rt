@@ -13,13 +13,14 @@ use std::time::Instant;
 /// How the bytes come to the endpoint.
 #[derive(Clone, Copy)]
 pub enum By {
-    /// Fed in pieces of so many.
+    /// Fed in pieces of this many.
     Pieces(u32),
     /// Read into its room, as many as it asks for.
     Fills,
 }
 
-/// Messages that come one after the other, are handed up and settled, and how many do where the command line doesn't say.
+/// Messages that come one after the other, are handed up and settled, and how many do if the command line doesn't
+/// say.
 #[derive(Clone, Copy)]
 pub struct Case {
     name: &'static str,
@@ -81,12 +82,12 @@ const fn one_link(name: &'static str, message: u32, by: By, rounds: u32) -> Case
     }
 }
 
-/// The same case with so many others open.
+/// Returns the case with this many others open.
 const fn open(case: Case, name: &'static str, open: u32) -> Case {
     Case { name, open, ..case }
 }
 
-/// The same case on so many links of so many sessions.
+/// Returns the case on this many links of this many sessions.
 const fn on(case: Case, name: &'static str, sessions: u16, links: u16) -> Case {
     let shape = Shape {
         sessions,
@@ -100,7 +101,7 @@ const fn on(case: Case, name: &'static str, sessions: u16, links: u16) -> Case {
     }
 }
 
-/// Every case, in the order in which they are measured.
+/// Returns every case, in the order in which they are measured.
 pub fn cases() -> [Case; 19] {
     let short = By::Pieces(4096);
     let long = By::Pieces(65536);
@@ -128,7 +129,7 @@ pub fn cases() -> [Case; 19] {
     ]
 }
 
-/// Feeds blocks of messages until at least so many came.
+/// Feeds blocks of messages until at least this many came.
 fn receive(run: &mut Run, block: &mut Block, by: By, messages: u32) -> Result<(), Failure> {
     let first = run.messages;
     for _ in 0..messages {

@@ -3,7 +3,7 @@ ghost use Rattle.std.specs.Prelude.{◌≡◌};
 
 use amqp_perform::{Attach, ReceiverSettleMode, Role, SenderSettleMode, Transfer};
 
-/// An attach, with a source and a target that say nothing.
+/// Returns an attach, with a source and a target that say nothing.
 pub fn attach(handle: u32) -> Attach<'static>
     ensures { result.handle ≡ handle }
 {
@@ -25,7 +25,7 @@ pub fn attach(handle: u32) -> Attach<'static>
     }
 }
 
-/// A delivery in one transfer.
+/// Returns a delivery in one transfer.
 pub fn whole(handle: u32, id: u32) -> Transfer<'static> {
     Transfer {
         handle,
@@ -42,7 +42,7 @@ pub fn whole(handle: u32, id: u32) -> Transfer<'static> {
     }
 }
 
-/// The last transfer of a delivery in several.
+/// Returns the last transfer of a delivery in several.
 pub fn last(handle: u32) -> Transfer<'static> {
     Transfer {
         delivery_id: None,

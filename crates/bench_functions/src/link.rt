@@ -25,14 +25,15 @@ pub enum Open {
 pub enum Way {
     /// A link is granted credit, takes the frames and hands the message up, which its sender has settled.
     Link(Open),
-    /// The receiver settles one of so many deliveries that were handed up, in the middle of them, and the message that
-    /// then comes is handed up in its place, not settled.
+    /// The receiver settles one of this many deliveries that were handed up, in the middle of them, and the
+    /// message that then comes is handed up in its place, not settled.
     Settle(u32),
     /// The payloads are copied into a new vector.
     Copy,
 }
 
-/// A message of so many frames with so many bytes each, and how often it comes where the command line doesn't say.
+/// A message of this many frames with this many bytes each, and how often it comes if the command line doesn't
+/// say.
 #[derive(Clone, Copy)]
 pub struct Case {
     pub name: &'static str,
@@ -80,7 +81,7 @@ impl Measured for Case {
     }
 }
 
-/// A message of one frame with 100 bytes.
+/// Returns a message of one frame with 100 bytes.
 const fn small(name: &'static str, way: Way) -> Case {
     Case {
         name,
@@ -91,7 +92,7 @@ const fn small(name: &'static str, way: Way) -> Case {
     }
 }
 
-/// A message of 1,000,000 bytes in frames of 4,000.
+/// Returns a message of 1,000,000 bytes in frames of 4,000.
 const fn large(name: &'static str, way: Way) -> Case {
     Case {
         name,
@@ -102,7 +103,7 @@ const fn large(name: &'static str, way: Way) -> Case {
     }
 }
 
-/// Every case, in the order in which they are measured.
+/// Returns every case, in the order in which they are measured.
 pub fn cases() -> [Case; 8] {
     [
         small("small", Way::Link(Open::No)),
@@ -116,7 +117,7 @@ pub fn cases() -> [Case; 8] {
     ]
 }
 
-/// One delivery a round on one link. Answers how many bytes were handed up.
+/// One delivery a round on one link. Returns how many bytes were handed up.
 fn deliver_often(
     alloc: Global,
     open: Open,
@@ -133,7 +134,7 @@ fn deliver_often(
     Ok(moved)
 }
 
-/// One delivery settled and one more handed up a round, on one link. Answers how many bytes were handed up.
+/// One delivery settled and one more handed up a round, on one link. Returns how many bytes were handed up.
 fn settle_often(alloc: Global, open: u32, rounds: u32, payload: &mut [u8]) -> Result<u64, Failure> {
     let mut link = link_awaiting(alloc, open, payload)?;
     let mut moved: u64 = 0;
@@ -144,7 +145,7 @@ fn settle_often(alloc: Global, open: u32, rounds: u32, payload: &mut [u8]) -> Re
     Ok(moved)
 }
 
-/// One copy a round. Answers how many bytes were copied.
+/// One copy a round. Returns how many bytes were copied.
 fn copy_often(alloc: Global, frames: u32, rounds: u32, payload: &mut [u8]) -> Result<u64, Failure> {
     let mut moved: u64 = 0;
     for _ in 0..rounds {

@@ -56,7 +56,7 @@ fn run_all(rt: &(impl Print + Clock), alloc: Global) -> Result<(), Failure> {
     Ok(())
 }
 
-/// Runs the cases of a group, or the one of a name, and answers how many.
+/// Runs the cases of a group, or the one of a name, and returns how many.
 fn run_group(
     rt: &(impl Print + Clock),
     alloc: Global,

@@ -44,12 +44,12 @@ impl<T: Drop> From<AllocFailed<T>> for Failure {
 pub enum Mode {
     /// In one round, not timed.
     Once,
-    /// In so many rounds, or in as many as it has by itself.
+    /// In this many rounds, or in as many as it has by itself.
     Timed(Option<u32>),
 }
 
 impl Mode {
-    /// The rounds of a case that has so many by itself.
+    /// Returns the rounds of a case that has this many by itself.
     pub fn rounds(self, own: u32) -> u32 {
         match self {
             Mode::Once => 1,
@@ -57,7 +57,7 @@ impl Mode {
         }
     }
 
-    /// The time since the start for each of so many, where it is asked for.
+    /// Returns the time since the start for each of this many, if it is requested.
     pub fn time_of(self, rt: &impl Clock, start: &Instant, count: u128) -> io::Result<Time> {
         match self {
             Mode::Once => Ok(Time(None)),
@@ -69,7 +69,7 @@ impl Mode {
     }
 }
 
-/// The end of a line: the nanoseconds of one round or of one message, where they were measured.
+/// The end of a line: the nanoseconds of one round or of one message, if they were measured.
 #[derive(Clone, Copy)]
 pub struct Time(Option<u128>);
 
@@ -90,7 +90,7 @@ pub trait Measured: Copy {
     /// The name that the command line calls it by.
     fn name(&self) -> &'static str;
 
-    /// What it is, in a sentence.
+    /// Returns what it is, in a sentence.
     fn about(&self) -> &'static str;
 
     /// Runs it, and prints its rounds, its bytes and its time.
@@ -106,7 +106,7 @@ pub fn list<C: Measured>(rt: &impl Print, cases: &[C]) -> io::Result<()> {
     Ok(())
 }
 
-/// Runs the cases, or the one of this name, and answers how many.
+/// Runs the cases, or the one of this name, and returns how many.
 pub fn run_named<C: Measured>(
     rt: &(impl Print + Clock),
     alloc: Global,

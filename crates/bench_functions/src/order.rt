@@ -28,7 +28,8 @@ pub enum Order<'w> {
     Once,
     /// A list of the cases.
     Help,
-    /// The cases of a group, or the one of this name, in so many rounds or in as many as each has by itself.
+    /// The cases of a group, or the one of this name, in this many rounds or in as many as each has by
+    /// itself.
     Timed {
         group: Group,
         case: Option<&'w str>,
@@ -36,7 +37,7 @@ pub enum Order<'w> {
     },
 }
 
-/// What the words after the program's name ask for. None for any other words.
+/// Returns what the words after the program's name ask for. None for any other words.
 pub fn order_of(words: &[String]) -> Option<Order<'_>> {
     match words {
         [] => Some(Order::Once),

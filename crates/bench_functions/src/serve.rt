@@ -12,14 +12,16 @@ use std::time::Instant;
 /// The bytes of a message.
 const MESSAGE: u32 = 100;
 
-/// A connection of one session, on whose links messages come in turn, and how many do where the command line doesn't say.
+/// A connection of one session, on whose links messages come in turn, and how many do if the command line doesn't
+/// say.
 #[derive(Clone, Copy)]
 pub struct Case {
     name: &'static str,
     links: u16,
     /// The credit that each link is kept at.
     credit: u32,
-    /// At how much credit, or less, it is topped up to that by steps; where none is said it is served at once, and kept there.
+    /// At how much credit, or less, it is topped up to that by steps; if none is said it is served at once, and
+    /// kept there.
     mark: Option<u32>,
     rounds: u32,
 }
@@ -56,7 +58,7 @@ impl Measured for Case {
     }
 }
 
-/// The credit of links where nothing else is said.
+/// The credit of links if nothing else is said.
 const CREDIT: u32 = 100;
 
 const fn on(name: &'static str, links: u16, credit: u32) -> Case {
@@ -79,7 +81,7 @@ const fn by_steps(name: &'static str, mark: u32) -> Case {
     }
 }
 
-/// Every case, in the order in which they are measured.
+/// Returns every case, in the order in which they are measured.
 pub fn cases() -> [Case; 8] {
     [
         on("1-link", 1, CREDIT),

@@ -12,8 +12,8 @@ use std::time::Instant;
 /// How many bytes a message has.
 const PAYLOAD: u16 = 100;
 
-/// A session on which one delivery after the other comes in one transfer, is handed up and settled, and how often that
-/// is where the command line doesn't say.
+/// A session on which one delivery after the other comes in one transfer, is handed up and settled, and how often
+/// that is if the command line doesn't say.
 #[derive(Clone, Copy)]
 pub struct Case {
     name: &'static str,
@@ -48,7 +48,7 @@ impl Measured for Case {
     }
 }
 
-/// Every case, in the order in which they are measured.
+/// Returns every case, in the order in which they are measured.
 pub fn cases() -> [Case; 3] {
     [
         Case {
@@ -75,7 +75,7 @@ pub fn cases() -> [Case; 3] {
     ]
 }
 
-/// One delivery a round. Answers how many bytes were handed up.
+/// One delivery a round. Returns how many bytes were handed up.
 fn deliver_often(
     alloc: Global,
     case: Case,

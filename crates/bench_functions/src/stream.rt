@@ -29,7 +29,7 @@ pub struct Shape {
 }
 
 impl Shape {
-    /// How many messages come in a block: about 64 kB.
+    /// Returns how many messages come in a block: about 64 kB.
     fn messages(self) -> u32 {
         (MAX_FRAME / self.message.max(1)).clamp(1, 256)
     }
@@ -51,7 +51,7 @@ fn push(
     Ok(())
 }
 
-/// What a sender says before its messages.
+/// Returns what a sender says before its messages.
 pub fn opening(alloc: Global, sessions: u16, links: u16) -> Result<Vec<u8>, AllocError> {
     let mut bytes = Vec::from_slice(alloc, b"AMQP\x00\x01\x00\x00")?;
     let open = Performative::Open(Open {
@@ -73,7 +73,7 @@ pub fn opening(alloc: Global, sessions: u16, links: u16) -> Result<Vec<u8>, Allo
     Ok(bytes)
 }
 
-/// What it says to begin a session with its links.
+/// Returns what it says to begin a session with its links.
 fn begin(bytes: &mut Vec<u8>, channel: u16, links: u16) -> Result<(), AllocError> {
     let begin = Performative::Begin(Begin {
         remote_channel: None,
@@ -94,7 +94,7 @@ fn begin(bytes: &mut Vec<u8>, channel: u16, links: u16) -> Result<(), AllocError
 }
 
 impl Block {
-    /// The messages of one round, on the links and sessions in turn.
+    /// Returns the messages of one round, on the links and sessions in turn.
     pub fn new(alloc: Global, shape: Shape) -> Result<Block, AllocError> {
         let payload = Vec::from_elem(alloc, 0x78, shape.message as usize)?;
         let mut block = Block {
@@ -137,7 +137,7 @@ impl Block {
         Ok(())
     }
 
-    /// How many messages it has.
+    /// Returns how many messages it has.
     pub fn messages(&self) -> u32 {
         u32::try_from(self.ids.len()).unwrap_or(u32::MAX)
     }
@@ -158,7 +158,7 @@ impl Block {
     }
 }
 
-/// The first frame of a delivery, with an id that is written in four bytes.
+/// Returns the first frame of a delivery, with an id that is written in four bytes.
 fn head(handle: u32) -> Transfer<'static> {
     whole(handle, u32::MAX)
 }

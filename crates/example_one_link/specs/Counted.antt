@@ -9,7 +9,7 @@ pub record ReceiverState : Type 0 where
   pub credit : ℕ
   pub got : ℕ
 
--- Its endpoint was a new one; since then its calls granted so much at handle 0 of the session on channel 0, and took so many messages there. No more was granted than the credit.
+-- Its endpoint was a new one; since then its calls granted this much at handle 0 of the session on channel 0, and took this many messages there. No more was granted than the credit.
 pub record IsCounted (endpoint : EndpointState) (credit granted got : ℕ) : Type 0 where
   pub used : IsUsed endpoint.connection.config 0 0 granted got endpoint
   pub most : granted ≤ credit

@@ -37,8 +37,8 @@ impl<A: Allocator + Copy> Model for Receiver<A> {
 }
 
 impl<A: Allocator + Copy> Receiver<A> {
-    /// A receiver that grants so much credit, or what its link is allowed where that is less [2.6.7]. An error where memory for
-    /// its endpoint is refused.
+    /// Returns a receiver that grants this much credit, or what its link is allowed if that is less [2.6.7]. An
+    /// error if memory for its endpoint is refused.
     pub fn new(alloc: A, config: Config<A>, credit: u32) -> Result<Self, AllocError>
         ensures config { IfOk result (λ r. r.endpoint.connection.config ≡ config) }
         ensures credit { IfOk result (λ r. r.credit ≡ credit) }
@@ -55,10 +55,10 @@ impl<A: Allocator + Copy> Receiver<A> {
         })
     }
 
-    /// Takes bytes of the peer, up to the end of the header or of a frame at most [2.2, 2.3.1]. Answers what that came to, as
-    /// [`Endpoint::feed`] does, and the message that it completed [2.6.14]. That is settled as accepted, unless its sender
-    /// settled it or the output has no room for it [2.6.12]. The credit is granted once the link is there and the output has
-    /// room [2.6.7].
+    /// Takes bytes of the peer, up to the end of the header or of a frame at most [2.2, 2.3.1]. Returns what that
+    /// resulted in, as [`Endpoint::feed`] does, and the message that it completed [2.6.14]. That is settled as
+    /// accepted, unless its sender settled it or the output has no room for it [2.6.12]. The credit is granted
+    /// once the link is there and the output has room [2.6.7].
     pub fn feed(&mut self, piece: &[u8]) -> (Fed, Option<Taken<A>>)
         ensures used { result.0.used ≤ length piece.now }
         ensures ready { (result.0.outcome ≡ Outcome.Event (Event.Ready 0 0)) ↔ IsSome result.1 }
@@ -124,7 +124,8 @@ impl<A: Allocator + Copy> Receiver<A> {
         }
     }
 
-    /// Grants the credit, where it was not granted before. It is refused until the link is there, and while the output is full.
+    /// Grants the credit, if it was not granted before. It is refused until the link is there, and while the
+    /// output is full.
     fn grant_once(&mut self)
         ensures got { self.new.got ≡ self.old.got }
         ensures still { IsStill self.old self.new }
@@ -144,7 +145,7 @@ impl<A: Allocator + Copy> Receiver<A> {
         }
     }
 
-    /// Moves the first bytes that wait to be sent into `out`, as many as it holds, and answers how many.
+    /// Moves the first bytes that wait to be sent into `out`, as many as it holds, and returns how many.
     pub fn output(&mut self, out: &mut [u8]) -> usize
         ensures count { result ≡ min (length out.old) (length self.old.endpoint.unsent) }
         ensures read { out.new ≡ take result self.old.endpoint.unsent ++ drop result out.old }
@@ -156,7 +157,7 @@ impl<A: Allocator + Copy> Receiver<A> {
         self.endpoint.output(out)
     }
 
-    /// How many messages it got: no more than the credit that it was made with.
+    /// Returns how many messages it got: at most the credit that it was made with.
     pub fn got(&self) -> u32
         ensures value { result ≡ self.now.got }
         ensures most { result ≤ self.now.credit }
@@ -165,7 +166,7 @@ impl<A: Allocator + Copy> Receiver<A> {
         self.got
     }
 
-    /// How many bytes its endpoint holds: no more than any endpoint of its configuration.
+    /// Returns how many bytes its endpoint holds: at most what any endpoint of its configuration may hold.
     pub fn held(&self) -> u64
         ensures value { result ≡ held self.now.endpoint }
         ensures most { result ≤ held_by_any self.now.endpoint.connection.config }
@@ -174,7 +175,7 @@ impl<A: Allocator + Copy> Receiver<A> {
         self.endpoint.held()
     }
 
-    /// Whether the connection is over: no more bytes are used.
+    /// Returns whether the connection is over: no more bytes are used.
     pub fn is_over(&self) -> bool
         ensures { result ≡ is_dead self.now.endpoint.connection.phase }
     {

@@ -20,10 +20,10 @@ const CREDIT: u32 = 16;
 /// The transfer frames of a session that are on their way, at most.
 const WINDOW: u32 = 2048;
 
-/// So many bytes of a message are printed.
+/// This many bytes of a message are printed.
 const SHOWN: usize = 60;
 
-/// An endpoint before its peer's header.
+/// Returns an endpoint before its peer's header.
 pub fn new_endpoint(alloc: Global) -> Result<Endpoint> {
     let name = String::from_str(alloc, "receive")?;
     let checked = Config::checked(
@@ -41,7 +41,7 @@ pub fn new_endpoint(alloc: Global) -> Result<Endpoint> {
     Ok(Endpoint::new(alloc, config)?)
 }
 
-/// Does what follows from what came of the bytes that were read.
+/// Does what follows from the result of the bytes that were read.
 pub fn follow(rt: &impl Print, endpoint: &mut Endpoint, told: Outcome) -> Result<()> {
     match told {
         Outcome::Event(event) => hear(rt, endpoint, event)?,
@@ -111,7 +111,7 @@ fn top_up_link(endpoint: &mut Endpoint, channel: u16, handle: u32) -> Result<(),
     Ok(())
 }
 
-/// A call was refused, and nothing has changed.
+/// Returns the error of a call that was refused. Nothing has changed then.
 fn refused(fault: CallFault) -> Error {
     anyhow!("the endpoint refused a call: {fault:?}")
 }

@@ -5,7 +5,7 @@ use amqp_endpoint::Endpoint;
 use anyhow::Result;
 use std::io::{self, Read, Write};
 
-/// So many bytes wait in an endpoint to be sent at most.
+/// This many bytes wait in an endpoint to be sent at most.
 const OUTPUT: usize = 8192;
 
 /// Serves a connection until it is over or its input ends, and prints how it stood then.

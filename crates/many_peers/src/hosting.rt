@@ -13,7 +13,7 @@ use std::mem;
 /// The credit of a link, which is topped up once half of it is left.
 const CREDIT: u32 = 16;
 
-/// A hub with its peers, and what came of them.
+/// A hub with its peers, and what they were answered and had recorded.
 #[derive(Drop)]
 pub struct Host {
     alloc: Global,
@@ -26,7 +26,7 @@ pub struct Host {
 }
 
 impl Host {
-    /// One with so many peers.
+    /// Makes a host with this many peers.
     pub fn new(alloc: Global, peers: usize) -> Result<Host, Failure> {
         let rule = Rule {
             credit: CREDIT,
@@ -48,7 +48,7 @@ impl Host {
         })
     }
 
-    /// Lets the peer at a place be heard, unit by unit, and hands out what is answered behind each.
+    /// Lets the peer at a place be heard, unit by unit, and hands out what is answered after each.
     pub fn hear(&mut self, at: usize, piece: &[u8]) -> Result<(), Failure> {
         let Some(key) = self.keys.get(at).copied() else {
             return Ok(());
@@ -79,7 +79,7 @@ impl Host {
     }
 }
 
-/// Hands out the first bytes that wait for a peer, as many as lie in one piece. False where none do.
+/// Hands out the first bytes that wait for a peer, as many as lie in one piece. False if none do.
 fn hand_front(hub: &mut Hub, key: usize, answers: &mut Digest) -> bool {
     let front = hub.unsent_front(key);
     let count = front.len();
@@ -88,7 +88,7 @@ fn hand_front(hub: &mut Hub, key: usize, answers: &mut Digest) -> bool {
     count > 0
 }
 
-/// What a gateway sets its endpoints up with.
+/// Returns what a gateway sets its endpoints up with.
 fn settings(alloc: Global) -> Result<Config, Failure> {
     let name = String::from_str(alloc, "hub")?;
     Config::checked(name, 16384, 1, 1, CREDIT, 65536, 256).ok_or(Failure::Settings)

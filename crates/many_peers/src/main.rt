@@ -23,7 +23,7 @@ const PEERS: usize = 200;
 /// The hostile one's place.
 const HOSTILE: usize = 77;
 
-/// So many kinds of pieces are made a turn, and handed out to the peers in turn.
+/// This many kinds of pieces are made a turn, and handed out to the peers in turn.
 const KINDS: usize = 4;
 
 fn main(rt: HostRuntime) -> Result<(), Failure> {

@@ -17,14 +17,14 @@ const PIECE: usize = 8192;
 /// Messages in each piece.
 const MESSAGES: u32 = 8;
 
-/// The header, the open, a session and a link.
+/// Returns the header, the open, a session and a link.
 pub fn opening(alloc: Global) -> Result<Vec<u8>, Failure> {
     let mut bytes = hostile_opening(alloc)?;
     put(&mut bytes, &attach())?;
     Ok(bytes)
 }
 
-/// The same without the link.
+/// Returns the header, the open and a session, without a link.
 pub fn hostile_opening(alloc: Global) -> Result<Vec<u8>, Failure> {
     let mut bytes = Vec::new(alloc);
     bytes.extend_from_slice(&HEADER)?;
@@ -55,7 +55,7 @@ pub fn hostile_opening(alloc: Global) -> Result<Vec<u8>, Failure> {
     Ok(bytes)
 }
 
-/// A piece full of links that begin and end.
+/// Returns a piece full of links that begin and end.
 pub fn hostile_piece(alloc: Global) -> Result<Vec<u8>, Failure> {
     let mut piece = Vec::new(alloc);
     let detach = Detach {
@@ -122,7 +122,7 @@ impl Messages {
         Ok(messages)
     }
 
-    /// The next number (xorshift).
+    /// Returns the next number (xorshift).
     fn draw(&mut self) -> u64 {
         let mut next = self.number;
         next ^= next << 13;

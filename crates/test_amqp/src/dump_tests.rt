@@ -8,7 +8,7 @@ use std::io::{self, Read, Write};
 use std::process::Abort;
 use std::test::Fail;
 
-/// What `dump` prints of these bytes.
+/// Returns what `dump` prints of these bytes.
 fn dumped(alloc: Global, mut bytes: &[u8]) -> Result<Vec<u8>, DumpFault> {
     let mut lines = Vec::new(alloc);
     let _ = dump(
@@ -19,7 +19,7 @@ fn dumped(alloc: Global, mut bytes: &[u8]) -> Result<Vec<u8>, DumpFault> {
     Ok(lines)
 }
 
-/// The header, and then these bytes.
+/// Returns the header, and then these bytes.
 fn behind_header(alloc: Global, bytes: &[u8]) -> Result<Vec<u8>, AllocError> {
     let mut stream = Vec::from_slice(alloc, HEADER.as_slice())?;
     stream.extend_from_slice(bytes)?;

@@ -57,7 +57,7 @@ fn row_of(handle: u32) -> Row {
     ROWS[(handle % 5) as usize]
 }
 
-/// A configuration with these rows, whose own limits hold for no link.
+/// Returns a configuration with these rows, whose own limits hold for no link.
 fn config(alloc: Global) -> Result<Config, Fail> {
     let mut limits = Vec::new(alloc);
     for row in ROWS {
@@ -115,7 +115,7 @@ fn opening(alloc: Global) -> Result<Vec<u8>, AllocError> {
     Ok(bytes)
 }
 
-/// The attach of a sender at a handle, under a name with the prefix of its row.
+/// Returns the attach of a sender at a handle, under a name with the prefix of its row.
 fn attach(alloc: Global, handle: u32) -> Result<Vec<u8>, AllocError> {
     let prefix = row_of(handle).prefix;
     let name = format!(in alloc; "{prefix}{handle}")?;
@@ -138,7 +138,7 @@ fn attach(alloc: Global, handle: u32) -> Result<Vec<u8>, AllocError> {
     framed(alloc, &attach, &[])
 }
 
-/// A delivery of so many bytes in one transfer.
+/// Returns a delivery of this many bytes in one transfer.
 fn delivery(alloc: Global, handle: u32, id: u32, len: usize) -> Result<Vec<u8>, AllocError> {
     let transfer = Performative::Transfer(Transfer {
         handle,
@@ -164,7 +164,7 @@ struct Held {
 }
 
 impl Held {
-    /// What a piece comes to.
+    /// Returns what a piece results in.
     fn feed(&mut self, rt: &impl Abort, piece: &[u8]) -> Outcome {
         let outcome = self.endpoint.feed(piece).outcome;
         self.assert_within(rt);
@@ -262,7 +262,8 @@ fn each_link_keeps_what_its_name_may(rt: HostRuntime) -> Result<(), Fail> {
     Ok(())
 }
 
-/// All links, a message on each that is as long as it may be, one on each that is a byte longer, and a close.
+/// Returns all links, a message on each that is as long as it may be, one on each that is a byte longer, and a
+/// close.
 fn stream(alloc: Global) -> Result<Vec<u8>, AllocError> {
     let mut bytes = opening(alloc)?;
     for handle in 0..LINKS {

@@ -12,14 +12,14 @@ use std::test::Fail;
 const WRITTEN: &[u8] =
     b"\x41\x4d\x51\x50\x00\x01\x00\x00\x00\x00\x00\x1a\x02\x00\x00\x00\x00\x53\x10\xc0\x0d\x04\xa1\x01\x72\x40\x70\x00\x00\x02\x00\x60\x00\x00\x00\x00\x00\x17\x02\x00\x00\x00\x00\x53\x11\xc0\x0a\x05\x60\x00\x00\x43\x52\x64\x43\x52\x01\x00\x00\x00\x22\x02\x00\x00\x00\x00\x53\x12\xc0\x15\x0b\xa1\x01\x6c\x43\x41\x40\x40\x00\x53\x28\x45\x00\x53\x29\x45\x40\x40\x40\x53\x0a\x00\x00\x00\x17\x02\x00\x00\x00\x00\x53\x13\xc0\x0a\x07\x43\x52\x64\x43\x43\x43\x43\x52\x01\x00\x00\x00\x16\x02\x00\x00\x00\x00\x53\x15\xc0\x09\x05\x41\x43\x40\x41\x00\x53\x24\x45\x00\x00\x00\x19\x02\x00\x00\x00\x00\x53\x13\xc0\x0c\x07\x52\x01\x52\x63\x43\x43\x43\x52\x01\x52\x01\x00\x00\x00\x17\x02\x00\x00\x00\x00\x53\x15\xc0\x0a\x05\x41\x52\x01\x40\x41\x00\x53\x24\x45\x00\x00\x00\x19\x02\x00\x00\x00\x00\x53\x13\xc0\x0c\x07\x52\x02\x52\x62\x43\x43\x43\x52\x02\x52\x01\x00\x00\x00\x0c\x02\x00\x00\x00\x00\x53\x18\x45";
 
-/// A listener on a free port, and its address.
+/// Returns a listener on a free port, and its address.
 pub fn listening(rt: &HostRuntime) -> io::Result<(TcpListener, SocketAddr)> {
     let listener = TcpListener::bind(rt, SocketAddr::from((Ipv4Addr::LOCALHOST, 0)))?;
     let address = listener.local_addr()?;
     Ok((listener, address))
 }
 
-/// A peer that has sent these bytes, and sends no more.
+/// Returns a peer that has sent these bytes, and sends no more.
 pub fn connected(rt: &HostRuntime, address: SocketAddr, bytes: &[u8]) -> io::Result<TcpStream> {
     let mut stream = TcpStream::connect(rt, address)?;
     stream.write_all(bytes)?;
@@ -27,7 +27,7 @@ pub fn connected(rt: &HostRuntime, address: SocketAddr, bytes: &[u8]) -> io::Res
     Ok(stream)
 }
 
-/// All that a peer is sent.
+/// Returns all that a peer is sent.
 fn received(alloc: Global, mut stream: TcpStream) -> io::Result<Vec<u8>> {
     let mut bytes = Vec::new(alloc);
     stream.read_to_end(&mut bytes)?;
@@ -67,7 +67,8 @@ fn two_peers_are_answered_in_turn(rt: HostRuntime) -> Result<(), Fail> {
     assert_answered(&rt, rt.alloc(), second)
 }
 
-/// A peer of another protocol, and two that stop inside a frame and between two: the one that waits behind them is served.
+/// A peer of another protocol, and two that stop inside a frame and between two: the one that waits after them is
+/// served.
 #[test]
 fn one_that_waits_is_served_behind_others_that_fail(rt: HostRuntime) -> Result<(), Fail> {
     let (listener, address) = listening(&rt)?;
@@ -88,7 +89,7 @@ fn one_that_waits_is_served_behind_others_that_fail(rt: HostRuntime) -> Result<(
     assert_answered(&rt, rt.alloc(), waiting)
 }
 
-/// Where no peer waits and the listener doesn't either, no connection is accepted.
+/// If no peer waits and the listener doesn't either, no connection is accepted.
 #[test]
 fn an_accept_that_fails_is_logged(rt: HostRuntime) -> Result<(), Fail> {
     let (listener, address) = listening(&rt)?;
@@ -101,7 +102,7 @@ fn an_accept_that_fails_is_logged(rt: HostRuntime) -> Result<(), Fail> {
     assert_answered(&rt, rt.alloc(), stream)
 }
 
-/// Behind a sink that fails the peer that waits is not accepted, and none of the first one's messages is answered.
+/// After a sink that fails the peer that waits is not accepted, and none of the first one's messages is answered.
 #[test]
 fn a_sink_that_fails_ends_it_though_one_waits(rt: HostRuntime) -> Result<(), Fail> {
     let (listener, address) = listening(&rt)?;

@@ -161,7 +161,7 @@ impl Eprint for Log {
     }
 }
 
-/// Keeps so many bytes at most, and then fails.
+/// Keeps this many bytes at most, and then fails.
 #[derive(Drop)]
 struct Sink {
     bytes: Vec<u8>,
@@ -184,7 +184,8 @@ impl Write for Sink {
     }
 }
 
-/// What came of serving these peers, with a sink of so many bytes: whether all were closed, the log, the records.
+/// Returns the result of serving these peers, with a sink of this many bytes: whether all were closed, the log,
+/// the records.
 fn served(
     alloc: Global,
     peers: &[Option<Peer<'_>>],
@@ -198,7 +199,7 @@ fn served(
     served_by(alloc, &queue, connections, most)
 }
 
-/// The same of the peers that a listener has.
+/// Returns the result of serving the peers that a listener has, with a sink of `most` bytes.
 pub fn served_by<L: OpenListener>(
     alloc: Global,
     listener: &L,
@@ -215,7 +216,7 @@ where
     }
 }
 
-/// The same under these settings.
+/// Returns the result of serving the peers that a listener has, under these settings.
 pub fn served_under<L: OpenListener>(
     alloc: Global,
     config: &Config,
@@ -229,7 +230,8 @@ where
     served_within(alloc, config, listener, connections, None, most)
 }
 
-/// The same, where each socket is waited for so long.
+/// Returns the result of serving the peers that a listener has, each socket of which is waited for at most
+/// `idle`.
 fn served_within<L: OpenListener>(
     alloc: Global,
     config: &Config,
@@ -296,7 +298,7 @@ fn serves_one_after_the_other(rt: HostRuntime) -> Result<(), Fail> {
     Ok(())
 }
 
-/// A peer that sends the stream and takes nothing.
+/// Returns a peer that sends the stream and takes nothing.
 fn deaf<'a>(wire: &'a Wire) -> Option<Peer<'a>> {
     Some(Peer {
         rest: STREAM,
@@ -345,7 +347,8 @@ fn stops_behind_a_sink_that_fails(rt: HostRuntime) -> Result<(), Fail> {
     Ok(())
 }
 
-/// One that says nothing more and one that takes nothing are left where that is asked, and else the socket has failed.
+/// One that says nothing more and one that takes nothing are left if that is asked, and else the socket has
+/// failed.
 #[test]
 fn leaves_who_is_waited_for_in_vain(rt: HostRuntime) -> Result<(), Fail> {
     let wire = Wire::new();

@@ -154,7 +154,7 @@ struct Caller<'a> {
 }
 
 impl Caller<'_> {
-    /// Connects and sends, where it has not yet.
+    /// Connects and sends, if it has not yet.
     fn call(&self) -> io::Result<()> {
         let Ok(mut stream) = self.stream.try_borrow_mut() else {
             return Err(io::Error::from(ErrorKind::Other));
@@ -178,7 +178,7 @@ fn append(stream: &RefCell<String>, text: impl Display + Drop, end: &str) -> io:
 }
 
 impl Host<'_> {
-    /// How many bytes more standard output takes.
+    /// Returns how many bytes more standard output takes.
     fn room(&self) -> usize {
         match self.out.try_borrow() {
             Ok(out) => self.most.saturating_sub(out.len()),
@@ -354,7 +354,7 @@ impl Net for Host<'_> {
     }
 }
 
-/// A host whose words are these.
+/// Returns a host whose words are these.
 fn host_of<'a>(alloc: Global, words: &'a [&'a str], file: Option<Bytes<'a>>) -> Host<'a> {
     Host {
         alloc,
@@ -370,7 +370,7 @@ fn host_of<'a>(alloc: Global, words: &'a [&'a str], file: Option<Bytes<'a>>) -> 
     }
 }
 
-/// The same of a host with this standard input.
+/// Returns a host whose words are these, with this standard input.
 fn host_fed<'a>(alloc: Global, words: &'a [&'a str], input: &'a [u8]) -> Host<'a> {
     Host {
         alloc,
@@ -398,7 +398,7 @@ fn assert_ends(rt: &impl Abort, host: Host<'_>, status: ExitCode, out: &str, err
     assert_eq!(rt; (printed.as_str(), told.as_str()), (out, err));
 }
 
-/// A file that gives its bytes and ends.
+/// Returns a file that gives its bytes and ends.
 fn whole<'a>(bytes: &'a [u8]) -> Option<Bytes<'a>> {
     Some(Bytes {
         all: bytes,
@@ -457,7 +457,7 @@ fn dumps_standard_input(rt: HostRuntime) {
 const HELLO: &[u8] =
     b"\x00\x01\x00\x00\x00\x02\x00\x00\x00\x03\x00\x00\x00\x00\x00\x00\x00\x0a\x00Su\xa0\x05hello";
 
-/// The same, behind which another one is cut off.
+/// That record, and a beginning of another one.
 const HELLO_AND_CUT: &[u8] =
     b"\x00\x01\x00\x00\x00\x02\x00\x00\x00\x03\x00\x00\x00\x00\x00\x00\x00\x0a\x00Su\xa0\x05hello\x00\x01";
 
@@ -550,8 +550,8 @@ fn runs_a_script(rt: HostRuntime) {
     }
 }
 
-/// A script with so many calls that ask what is held and so many that feed nothing, of whose answers one has 7 bytes and the
-/// other 12, and the lines that it is answered with.
+/// Returns a script with this many calls that ask what is held and so many that feed nothing, of whose answers one
+/// has 7 bytes and the other 12, and the lines that it is answered with.
 fn answered(alloc: Global, held: usize, fed: usize) -> Result<(String, String), AllocError> {
     let mut script = String::from_str(alloc, "config r 512 0 1 4 10 100\n")?;
     let mut lines = String::new(alloc);
@@ -622,7 +622,7 @@ const MANY: &[u8] =
 const LONG: &[u8] =
     b"aaaaaaaaaaaaaaaaaaaaaaaaaaaaaaaaaaaaaaaaaaaaaaaaaaaaaaaaaaaaaaaaaaaaaaaaaaaaaaaaaaaaaaaaaaaaaaaaaaaaaaaaaaaaaaaaaaaaaaaaaaaaaaaaaaaaaaaaaaaaaaaaaaaaaaaaaaaaaaaaaaaaaaaaaaaaaaaaaaaaaaaaaaaaaaaaaaaaaaaaaaaaaaaaaaaaaaaaaaaaaaaaaaaaaaaaaaaaaaaaaaaaaaaaaaaaaaaa 1 1\n";
 
-/// Behind limits that are read the address isn't open; behind others it is not asked for.
+/// After limits that are read the address isn't open; after others it is not asked for.
 #[test]
 fn names_the_line_of_a_bad_limit(rt: HostRuntime) {
     let words: [&str; 6] = [
@@ -726,7 +726,7 @@ const TRACED: [&str; 6] = [
 /// What stands on standard error where that file takes nothing.
 const LOST: &str = "trace: Write, nothing more is told there\nconnection 1: Closed\n";
 
-/// Where the file can't be opened no peer is accepted; where it takes nothing the peer is served all the same.
+/// Where the file can't be opened no peer is accepted; if it takes nothing the peer is served all the same.
 #[test]
 fn goes_on_where_a_trace_is_lost(rt: HostRuntime) -> Result<(), Fail> {
     for (file, status, told, records) in [
@@ -745,7 +745,7 @@ fn goes_on_where_a_trace_is_lost(rt: HostRuntime) -> Result<(), Fail> {
     Ok(())
 }
 
-/// The lines of a trace and of events on standard error, behind the peer's address.
+/// The lines of a trace and of events on standard error, after the peer's address.
 const TOLD: &str = "\n1 0ms <- header id=0 version=1.0.0\n";
 
 const EVENTS: &str =

@@ -23,7 +23,7 @@ const RECEIVER: &[u8] = b"AMQP\x00\x01\x00\x00\
 
 const CLOSE: &[u8] = b"\x00\x00\x00\x0c\x02\x00\x00\x00\x00\x53\x18\x45";
 
-/// A sender named `s`, with a link named `l`.
+/// Returns a sender named `s`, with a link named `l`.
 fn sender(alloc: Global) -> Result<Sender, AllocError> {
     let config = SendConfig {
         container_id: String::from_str(alloc, "s")?,
@@ -35,7 +35,7 @@ fn sender(alloc: Global) -> Result<Sender, AllocError> {
     Sender::new(alloc, config)
 }
 
-/// What becomes of 'hi' where the receiver says this behind its flow, and what is written.
+/// Returns what becomes of 'hi' where the receiver says this after its flow, and what is written.
 fn sent(alloc: Global, told: &[u8]) -> Result<(Fate, Vec<u8>), Fail> {
     let mut input = Vec::from_slice(alloc, RECEIVER)?;
     input.extend_from_slice(told)?;

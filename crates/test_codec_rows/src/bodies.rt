@@ -13,12 +13,12 @@ const BLANK: u8 = 0xa5;
 /// How many rooms are tried for a frame.
 const ROOMS: usize = 400;
 
-/// What `read_body` answers, with nothing of its contract: calls are checked faster.
+/// Returns what `read_body` answers, with nothing of its contract: calls are checked faster.
 fn body_of(body: &[u8]) -> Result<(Performative<'_>, usize), BodyFault> {
     amqp_perform::read_body(body)
 }
 
-/// What `write_frame` answers, with nothing of its contract.
+/// Returns what `write_frame` answers, with nothing of its contract.
 fn put(
     channel: u16,
     performative: &Performative<'_>,
@@ -28,7 +28,7 @@ fn put(
     amqp_perform::write_frame(channel, performative, payload, out)
 }
 
-/// What a body says and its length, or its fault.
+/// Returns what a body says and its length, or its fault.
 pub fn read(alloc: Global, words: &str) -> Result<String, Miss> {
     match body_of(&bytes_of(alloc, words)?) {
         Ok((performative, len)) => Ok(format!(in alloc; "{performative:?} {len}")?),
@@ -36,7 +36,7 @@ pub fn read(alloc: Global, words: &str) -> Result<String, Miss> {
     }
 }
 
-/// What the body of a frame says, and the length of the payload. It is written again as the same frame.
+/// Returns what the body of a frame says, and the length of the payload. It is written again as the same frame.
 pub fn frame(alloc: Global, words: &str) -> Result<String, Miss> {
     let frame = bytes_of(alloc, words)?;
     let body = frame.get(8..).ok_or("no such frame")?;
@@ -52,7 +52,7 @@ pub fn frame(alloc: Global, words: &str) -> Result<String, Miss> {
     }
 }
 
-/// The frame of what a body says, which is the whole of the bytes.
+/// Returns the frame of what a body says, which is the whole of the bytes.
 pub fn rewrite(alloc: Global, words: &str) -> Result<String, Miss> {
     let body = bytes_of(alloc, words)?;
     let (performative, len) = body_of(&body).ok().ok_or("no such frame")?;
@@ -64,8 +64,8 @@ pub fn rewrite(alloc: Global, words: &str) -> Result<String, Miss> {
     }
 }
 
-/// The frame of a performative, in the shortest room that it fits into, of so many bytes at least. No shorter room is
-/// changed.
+/// Returns the frame of a performative, in the shortest room that it fits into, of this many bytes at least. No
+/// shorter room is changed.
 fn frame_of(
     alloc: Global,
     performative: &Performative<'_>,
@@ -84,7 +84,7 @@ fn frame_of(
     Err(Miss::Unread("no such frame"))
 }
 
-/// What is written into a room on a channel: its length, and the whole room.
+/// Returns what is written into a room on a channel: its length, and the whole room.
 pub fn write(alloc: Global, words: &str) -> Result<String, Miss> {
     let (channel, words) = cut(words, ' ')?;
     let (room, words) = cut(words, ' ')?;
@@ -96,7 +96,7 @@ pub fn write(alloc: Global, words: &str) -> Result<String, Miss> {
     Ok(format!(in alloc; "{len} {room}")?)
 }
 
-/// An open with a container-id alone.
+/// Returns an open with a container-id alone.
 fn open_of(name: &str) -> Open<'_> {
     Open {
         container_id: name,
@@ -112,7 +112,7 @@ fn open_of(name: &str) -> Open<'_> {
     }
 }
 
-/// The frame of an open with this container-id alone, which is read as that open.
+/// Returns the frame of an open with this container-id alone, which is read as that open.
 pub fn open(alloc: Global, words: &str) -> Result<String, Miss> {
     let name = bytes_of(alloc, words)?;
     let open = Performative::Open(open_of(text_of(&name)?));
@@ -126,7 +126,7 @@ pub fn open(alloc: Global, words: &str) -> Result<String, Miss> {
     }
 }
 
-/// The same frame, of an open whose hostname and properties are a null.
+/// Returns the frame of an open with this container-id, whose hostname and properties are a null.
 pub fn open_with_nulls(alloc: Global, words: &str) -> Result<String, Miss> {
     let name = bytes_of(alloc, words)?;
     let open = Open {

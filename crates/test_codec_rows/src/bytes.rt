@@ -1,11 +1,11 @@
-//! Bytes as words: hex digits in pairs; `78*252`, a byte so many times; `"text"`, the bytes of a text without spaces; and
-//! `keys*300`, so many entries of a map, each a number in its full form, and null.
+//! Bytes as words: hex digits in pairs; `78*252`, a byte this many times; `"text"`, the bytes of a text without
+//! spaces; and `keys*300`, this many entries of a map, each a number in its full form, and null.
 
 use crate::words::parsed;
 use std::alloc::{AllocError, Global};
 use test_row_files::Miss;
 
-/// The bytes that the words stand for.
+/// Returns the bytes that the words stand for.
 pub fn bytes_of(alloc: Global, words: &str) -> Result<Vec<u8>, Miss> {
     let mut bytes = Vec::new(alloc);
     for word in words.split_whitespace() {
@@ -52,7 +52,7 @@ fn put_run(bytes: &mut Vec<u8>, byte: u8, count: usize) -> Result<(), Miss> {
 /// The shortest run of equal bytes that is written as one word.
 const RUN: usize = 17;
 
-/// The words for the bytes.
+/// Returns the words for the bytes.
 pub fn words_of(alloc: Global, bytes: &[u8]) -> Result<String, AllocError> {
     let mut words = String::new(alloc);
     let mut rest = bytes;

@@ -28,18 +28,18 @@ const NAMES: [&str; 12] = [
     "TooManyNodes",
 ];
 
-/// What `check` answers, with nothing of its contract: calls are checked faster.
+/// Returns what `check` answers, with nothing of its contract: calls are checked faster.
 pub fn len_of(alloc: Global, bytes: &[u8], limits: Limits) -> Result<usize, ReadFault> {
     amqp_types::check(alloc, bytes, limits)
 }
 
-/// What `decode` answers without the value.
+/// Returns what `decode` answers without the value.
 fn decoded_len(alloc: Global, bytes: &[u8], limits: Limits) -> Result<usize, ReadFault> {
     let (_value, len) = amqp_types::decode(alloc, bytes, limits)?;
     Ok(len)
 }
 
-/// A depth, a number of nodes, and bytes: the length that is checked, or the first fault.
+/// Returns a depth, a number of nodes, and bytes: the length that is checked, or the first fault.
 pub fn check(alloc: Global, words: &str) -> Result<String, Miss> {
     let (depth, words) = cut(words, ' ')?;
     let (nodes, words) = cut(words, ' ')?;
@@ -58,8 +58,8 @@ pub fn check(alloc: Global, words: &str) -> Result<String, Miss> {
     Ok(text)
 }
 
-/// Checks so many bodies that are made of numbers. Names the answers that many have, or the first body of which
-/// `check` does not answer what `decode` does.
+/// Checks this many bodies that are made of numbers. Names the answers that many have, or the first body of
+/// which `check` does not answer what `decode` does.
 pub fn alike(alloc: Global, words: &str) -> Result<String, Miss> {
     let count: u32 = parsed(words)?;
     let mut numbers = Numbers::of(1);

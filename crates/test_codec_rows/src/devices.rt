@@ -12,7 +12,7 @@ use test_row_files::words::{cut, name_of};
 /// What stands behind the device.
 #[derive(Drop)]
 enum Inner {
-    /// Gives or takes at most so many bytes at a time, and fails once none of its turns is left.
+    /// Gives or takes at most this many bytes at a time, and fails once none of its turns is left.
     Turns { left: u8, size: usize },
     /// Takes all, and fails at its first flush alone.
     FailsOnce { has_failed: bool },
@@ -25,7 +25,7 @@ fn failure() -> io::Error {
 }
 
 impl Inner {
-    /// How many bytes are given or taken of so many.
+    /// Returns how many bytes are given or taken of this many.
     fn turn(&mut self, room: usize) -> io::Result<usize>
         ensures { IfOk result (λ count. count ≤ room) }
     {
@@ -87,7 +87,8 @@ impl Marked {
         }
     }
 
-    /// Makes a new device, over `turns 3 1`, say; or reads into so many bytes, writes so many, or flushes.
+    /// Makes a new device, over `turns 3 1`, say; or reads into this many bytes, writes this many, or
+    /// flushes.
     pub fn call(&mut self, alloc: Global, words: &str) -> Result<String, Miss> {
         let (name, words) = name_of(words);
         match name {

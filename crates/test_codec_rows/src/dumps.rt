@@ -9,17 +9,17 @@ use test_row_files::Miss;
 /// The line of a header.
 const HEADER_LINE: &str = "header id=0 version=1.0.0";
 
-/// The lines of a stream.
+/// Returns the lines of a stream.
 pub fn stream(alloc: Global, words: &str) -> Result<String, Miss> {
     lines_of(alloc, &bytes_of(alloc, words)?)
 }
 
-/// The lines of what stands behind a header.
+/// Returns the lines of what stands after a header.
 pub fn behind(alloc: Global, words: &str) -> Result<String, Miss> {
     lines_behind(alloc, &bytes_of(alloc, words)?)
 }
 
-/// The text of a value, which is a frame's whole body.
+/// Returns the text of a value, which is a frame's whole body.
 pub fn value(alloc: Global, words: &str) -> Result<String, Miss> {
     let body = bytes_of(alloc, words)?;
     let size = u32::try_from(body.len())

@@ -16,12 +16,12 @@ pub struct Numbers {
 }
 
 impl Numbers {
-    /// The numbers that follow from this one.
+    /// Returns the numbers that follow from this one.
     pub fn of(first: u64) -> Numbers {
         Numbers { last: first }
     }
 
-    /// A number below `end`; 0 where that is 0.
+    /// Returns a number below `end`; 0 if that is 0.
     pub fn below(&mut self, end: u32) -> u32 {
         self.last = self
             .last
@@ -31,7 +31,7 @@ impl Numbers {
         if end == 0 { 0 } else { high % end }
     }
 
-    /// Whether one of so many falls out.
+    /// Returns whether a draw of one in `count` succeeds.
     pub fn is_one_of(&mut self, count: u32) -> bool {
         self.below(count) == 0
     }
@@ -52,7 +52,8 @@ impl Numbers {
     }
 }
 
-/// Bytes that begin with a value, in most cases, of at most so many levels; sometimes one is cut off or changed.
+/// Returns bytes that begin with a value, in most cases, of at most this many levels; sometimes one is cut off
+/// or changed.
 pub fn body(alloc: Global, numbers: &mut Numbers, depth: u32) -> Result<Vec<u8>, AllocError> {
     let mut bytes = Vec::new(alloc);
     put_value(alloc, numbers, depth, &mut bytes)?;
@@ -173,7 +174,7 @@ fn put_entries(
     Ok(())
 }
 
-/// Appends an element constructor, behind a descriptor in some cases, and the data of items.
+/// Appends an element constructor, after a descriptor in some cases, and the data of items.
 #[cycle(put)]
 fn put_items(
     alloc: Global,
@@ -256,7 +257,7 @@ fn put_random(numbers: &mut Numbers, len: u32, bytes: &mut Vec<u8>) -> Result<()
     Ok(())
 }
 
-/// How many bytes stand behind a code of fixed width. [1.2]
+/// Returns how many bytes stand after a code of fixed width. [1.2]
 fn width(code: u8) -> u32 {
     match code >> 4 {
         5 => 1,
@@ -268,7 +269,7 @@ fn width(code: u8) -> u32 {
     }
 }
 
-/// How many bytes there are, where that fits.
+/// Returns how many bytes there are, if that fits.
 fn short_len(bytes: &[u8]) -> u32 {
     u32::try_from(bytes.len()).unwrap_or(0)
 }

@@ -6,7 +6,7 @@ use amqp_types::{Kind, Symbol, Value};
 use std::alloc::Global;
 use test_row_files::Miss;
 
-/// A scalar by its kind and its number or bytes, or one of the values below.
+/// Returns a scalar by its kind and its number or bytes, or one of the values below.
 pub fn value_of(alloc: Global, words: &str) -> Result<Value, Miss> {
     let (name, rest) = words.split_once(' ').unwrap_or((words, ""));
     match name {
@@ -32,7 +32,7 @@ fn four(bytes: &[u8]) -> Result<[u8; 4], Miss> {
     }
 }
 
-/// A value that holds others, or may.
+/// Returns a value that holds others, or may.
 fn holder(alloc: Global, name: &str) -> Result<Value, Miss> {
     match name {
         "list" => Ok(list(alloc)),
@@ -93,7 +93,7 @@ fn array(alloc: Global, kind: Kind, items: Vec<Value>) -> Result<Value, Miss> {
     })
 }
 
-/// A map with the keys `a`, 1 and `a`.
+/// Returns a map with the keys `a`, 1 and `a`.
 fn doubled(alloc: Global) -> Result<Value, Miss> {
     let mut entries = vec![in alloc; (text(alloc, "a")?, Value::Null)]?;
     entries.push((Value::Uint(1), Value::Null))?;
@@ -101,7 +101,7 @@ fn doubled(alloc: Global) -> Result<Value, Miss> {
     Ok(Value::Map(entries))
 }
 
-/// The value in this place of another one.
+/// Returns the value in this place of another one.
 pub fn placed(alloc: Global, place: &str, inner: Value) -> Result<Value, Miss> {
     match place {
         "alone" => Ok(inner),

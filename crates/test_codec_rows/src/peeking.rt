@@ -6,7 +6,7 @@ use amqp_types::{Kind, Peek, skip};
 use std::alloc::Global;
 use test_row_files::Miss;
 
-/// The outermost case of the value that the bytes begin with, where one stands there.
+/// Returns the outermost case of the value that the bytes begin with, if one stands there.
 fn case_of(bytes: &[u8]) -> Option<Peek<'_>> {
     match skip(bytes, 32) {
         Ok(_) => Some(amqp_types::peek(bytes)),
@@ -20,12 +20,12 @@ pub fn peek(alloc: Global, words: &str) -> Result<String, Miss> {
     Ok(format!(in alloc; "{case:?}")?)
 }
 
-/// What `put` answers, with nothing of its contract: calls are checked faster.
+/// Returns what `put` answers, with nothing of its contract: calls are checked faster.
 fn put_into(case: &Peek<'_>, out: &mut [u8]) -> Option<usize> {
     amqp_types::put(case, out)
 }
 
-/// The bytes that are put of a case: its kind, and its number, text or bytes.
+/// Returns the bytes that are put of a case: its kind, and its number, text or bytes.
 pub fn put(alloc: Global, words: &str) -> Result<String, Miss> {
     let (name, rest) = words.split_once(' ').unwrap_or((words, ""));
     match name {
@@ -41,7 +41,7 @@ pub fn put(alloc: Global, words: &str) -> Result<String, Miss> {
     }
 }
 
-/// A descriptor of one byte, and the value behind it.
+/// Returns a descriptor of one byte, and the value after it.
 fn put_described(alloc: Global, bytes: &[u8]) -> Result<String, Miss> {
     let (descriptor, value) = bytes.split_at_checked(1).ok_or("no such case")?;
     put_case(alloc, &Peek::Described(descriptor, value))
@@ -58,7 +58,8 @@ fn kind_of(name: &str) -> Result<Kind, Miss> {
     }
 }
 
-/// What is put into a room of eight bytes 07, whose other bytes stay. Where one byte is missing nothing is put.
+/// Returns what is put into a room of eight bytes 07, whose other bytes stay. Where one byte is missing nothing
+/// is put.
 fn put_case(alloc: Global, case: &Peek<'_>) -> Result<String, Miss> {
     let mut out = [7; 8];
     let len = put_into(case, &mut out);
@@ -77,7 +78,7 @@ fn put_case(alloc: Global, case: &Peek<'_>) -> Result<String, Miss> {
     }
 }
 
-/// Whether anything is put where one of so many bytes is missing.
+/// Returns whether anything is put where one of this many bytes is missing.
 fn is_put_into_less(case: &Peek<'_>, len: usize) -> bool {
     let mut out = [7; 8];
     let Some(room) = out.get_mut(..len.wrapping_sub(1)) else {

@@ -5,13 +5,14 @@ use amqp_perform::{Condition, Outcome};
 use std::alloc::Global;
 use test_row_files::Miss;
 
-/// What `Condition::of` and `span` answer, with nothing of their contracts: calls are checked faster.
+/// Returns what `Condition::of` and `span` answer, with nothing of their contracts: calls are checked
+/// faster.
 fn condition_of(span: &[u8]) -> (Condition, &'static [u8]) {
     let condition = Condition::of(span);
     (condition, condition.span())
 }
 
-/// The same of an outcome.
+/// Returns what `Outcome::of` and `span` answer, with nothing of their contracts.
 fn outcome_of(span: &[u8]) -> (Option<Outcome>, &'static [u8]) {
     let outcome = Outcome::of(span);
     let canonical: &'static [u8] = match outcome {
@@ -21,12 +22,12 @@ fn outcome_of(span: &[u8]) -> (Option<Outcome>, &'static [u8]) {
     (outcome, canonical)
 }
 
-/// What is said of a span that is the canonical one.
+/// Returns what is said of a span that is the canonical one.
 fn mark(is_canonical: bool) -> &'static str {
     if is_canonical { ", canonical" } else { "" }
 }
 
-/// The condition that an error names.
+/// Returns the condition that an error names.
 pub fn condition(alloc: Global, words: &str) -> Result<String, Miss> {
     let span = bytes_of(alloc, words)?;
     let (condition, canonical) = condition_of(&span);
@@ -34,7 +35,7 @@ pub fn condition(alloc: Global, words: &str) -> Result<String, Miss> {
     Ok(format!(in alloc; "{condition:?}{mark}")?)
 }
 
-/// The outcome that a state is.
+/// Returns the outcome that a state is.
 pub fn outcome(alloc: Global, words: &str) -> Result<String, Miss> {
     let span = bytes_of(alloc, words)?;
     let (outcome, canonical) = outcome_of(&span);

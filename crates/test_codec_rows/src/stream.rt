@@ -15,7 +15,7 @@ pub struct Stream<'a> {
 }
 
 impl<'a> Stream<'a> {
-    /// A stream whose frames have at most so many bytes, which is at least 8.
+    /// Returns a stream whose frames have at most this many bytes, which is at least 8.
     pub fn new(heap: Heap<'a>, max: usize) -> Result<Stream<'a>, Miss> {
         Ok(Stream {
             splitter: Splitter::new(heap, max.max(8))?,
@@ -34,14 +34,15 @@ impl<'a> Stream<'a> {
         }
     }
 
-    /// How many bytes of these are taken.
+    /// Returns how many bytes of these are taken.
     fn push(&mut self, alloc: Global, words: &str) -> Result<String, Miss> {
         let bytes = bytes_of(alloc, words)?;
         let used = self.splitter.push(&bytes);
         Ok(format!(in alloc; "{used}")?)
     }
 
-    /// How many of these are read at a time into the room that is lent, until it is empty or none is left.
+    /// Returns how many of these are read at a time into the room that is lent, until it is empty or none
+    /// is left.
     fn fill(&mut self, alloc: Global, words: &str) -> Result<String, Miss> {
         let bytes = bytes_of(alloc, words)?;
         let mut rest = bytes.as_slice();
@@ -62,7 +63,7 @@ impl<'a> Stream<'a> {
         Ok(taken)
     }
 
-    /// How many are taken of each byte.
+    /// Returns how many are taken of each byte.
     fn push_each(&mut self, alloc: Global, words: &str) -> Result<String, Miss> {
         let mut taken = String::new(alloc);
         for byte in bytes_of(alloc, words)? {
@@ -85,7 +86,7 @@ impl<'a> Stream<'a> {
         Ok(format!(in alloc; "{rest:?}")?)
     }
 
-    /// The unit that waits, and how many bytes there are.
+    /// Returns the unit that waits, and how many bytes there are.
     pub fn shown(&self, alloc: Global) -> Result<String, AllocError> {
         let len = self.splitter.len();
         let mut shown = format!(in alloc; "len={len} header=")?;
@@ -117,7 +118,8 @@ fn put_frame(shown: &mut String, unit: Result<Frame<'_>, FrameFault>) -> Result<
     }
 }
 
-/// The units of a stream that comes in pieces: the longest frame, the size of a piece, and the bytes.
+/// Returns the units of a stream that comes in pieces: the longest frame, the size of a piece, and the
+/// bytes.
 pub fn split(alloc: Global, heap: Heap<'_>, words: &str) -> Result<String, Miss> {
     let (max, words) = cut(words, ' ')?;
     let (size, words) = cut(words, ' ')?;
@@ -149,7 +151,7 @@ impl Stream<'_> {
         Ok(())
     }
 
-    /// Appends the unit that waits, and answers whether there is one.
+    /// Appends the unit that waits, and returns whether there is one.
     fn put_unit(&self, units: &mut String) -> Result<bool, AllocError> {
         if let Some(header) = self.splitter.header() {
             units.push_str("header ")?;

@@ -20,17 +20,17 @@ const AMPLE: Limits = Limits {
     nodes: 1_000_000,
 };
 
-/// What `decode` answers, with nothing of its contract: calls are checked faster.
+/// Returns what `decode` answers, with nothing of its contract: calls are checked faster.
 fn read(alloc: Global, bytes: &[u8], limits: Limits) -> Result<(Value, usize), ReadFault> {
     amqp_types::decode(alloc, bytes, limits)
 }
 
-/// What `skip` answers, with nothing of its contract.
+/// Returns what `skip` answers, with nothing of its contract.
 fn len_of(bytes: &[u8], depth: usize) -> Result<usize, ReadFault> {
     amqp_types::skip(bytes, depth)
 }
 
-/// A value and its length, or a fault.
+/// Returns a value and its length, or a fault.
 fn told(alloc: Global, answer: &Result<(Value, usize), ReadFault>) -> Result<String, Miss> {
     match answer {
         Ok((value, len)) => Ok(format!(in alloc; "{value:?} {len}")?),
@@ -39,7 +39,7 @@ fn told(alloc: Global, answer: &Result<(Value, usize), ReadFault>) -> Result<Str
     }
 }
 
-/// A length, or a fault.
+/// Returns a length, or a fault.
 pub fn told_len(alloc: Global, answer: Result<usize, ReadFault>) -> Result<String, AllocError> {
     match answer {
         Ok(len) => format!(in alloc; "{len}"),
@@ -47,7 +47,7 @@ pub fn told_len(alloc: Global, answer: Result<usize, ReadFault>) -> Result<Strin
     }
 }
 
-/// Appends what `check` answers where that is not what `decode` does.
+/// Appends what `check` answers if that is not what `decode` does.
 fn put_checked(
     alloc: Global,
     text: &mut String,
@@ -70,7 +70,7 @@ pub struct Answer {
     pub text: String,
 }
 
-/// What the calls answer.
+/// Returns what the calls answer.
 fn both(alloc: Global, bytes: &[u8], limits: Limits) -> Result<Answer, Miss> {
     let answer = read(alloc, bytes, limits);
     let mut text = told(alloc, &answer)?;
@@ -85,18 +85,18 @@ fn both(alloc: Global, bytes: &[u8], limits: Limits) -> Result<Answer, Miss> {
     Ok(Answer { is_read, text })
 }
 
-/// What the calls answer within limits that are not reached.
+/// Returns what the calls answer within limits that are not reached.
 pub fn answer_of(alloc: Global, bytes: &[u8]) -> Result<Answer, Miss> {
     both(alloc, bytes, LIMITS)
 }
 
-/// The value that the bytes begin with and its length, or the first fault.
+/// Returns the value that the bytes begin with and its length, or the first fault.
 pub fn decode(alloc: Global, words: &str) -> Result<String, Miss> {
     let bytes = bytes_of(alloc, words)?;
     Ok(answer_of(alloc, &bytes)?.text)
 }
 
-/// A depth, a number of nodes, and bytes, which `skip` does not read.
+/// Returns a depth, a number of nodes, and bytes, which `skip` does not read.
 pub fn limits(alloc: Global, words: &str) -> Result<String, Miss> {
     let (depth, words) = cut(words, ' ')?;
     let (nodes, words) = cut(words, ' ')?;
@@ -111,7 +111,7 @@ pub fn limits(alloc: Global, words: &str) -> Result<String, Miss> {
     Ok(text)
 }
 
-/// A depth, and bytes, which `skip` alone reads.
+/// Returns a depth, and bytes, which `skip` alone reads.
 pub fn skip(alloc: Global, words: &str) -> Result<String, Miss> {
     let (depth, words) = cut(words, ' ')?;
     let bytes = bytes_of(alloc, words)?;
@@ -140,7 +140,7 @@ impl Limited {
     }
 }
 
-/// The least limit within which the bytes are read, and what is answered at one less.
+/// Returns the least limit within which the bytes are read, and what is answered at one less.
 pub fn least(alloc: Global, limited: Limited, words: &str) -> Result<String, Miss> {
     let bytes = bytes_of(alloc, words)?;
     let mut below = String::from_str(alloc, "none")?;
@@ -154,7 +154,7 @@ pub fn least(alloc: Global, limited: Limited, words: &str) -> Result<String, Mis
     Ok(below)
 }
 
-/// The codes that both calls know, of values that end too soon.
+/// Returns the codes that both calls know, of values that end too soon.
 pub fn codes(alloc: Global) -> Result<String, Miss> {
     let mut known = Vec::new(alloc);
     for code in 0..=255 {
@@ -168,7 +168,7 @@ pub fn codes(alloc: Global) -> Result<String, Miss> {
     Ok(words_of(alloc, &known)?)
 }
 
-/// How many entries the map of these bytes has, and its length.
+/// Returns how many entries the map of these bytes has, and its length.
 pub fn entries(alloc: Global, words: &str) -> Result<String, Miss> {
     let answer = read(alloc, &bytes_of(alloc, words)?, AMPLE);
     match &answer {
@@ -180,7 +180,7 @@ pub fn entries(alloc: Global, words: &str) -> Result<String, Miss> {
     }
 }
 
-/// The bytes of the symbol that is made of them.
+/// Returns the bytes of the symbol that is made of them.
 pub fn symbol(alloc: Global, words: &str) -> Result<String, Miss> {
     let Some(symbol) = Symbol::new(bytes_of(alloc, words)?) else {
         return Ok(String::from_str(alloc, "None")?);
@@ -203,7 +203,7 @@ pub fn call_laws(alloc: Global, words: &str) -> Result<String, Miss> {
     Ok(String::from_str(alloc, "()")?)
 }
 
-/// The value that the bytes begin with.
+/// Returns the value that the bytes begin with.
 pub fn value_at(alloc: Global, bytes: &[u8]) -> Result<Value, Miss> {
     match read(alloc, bytes, LIMITS) {
         Ok((value, _)) => Ok(value),

@@ -3,7 +3,7 @@
 use std::str::FromStr;
 use test_row_files::Miss;
 
-/// The number that a word is.
+/// Returns the number that a word is.
 pub fn parsed<N: FromStr>(word: &str) -> Result<N, Miss>
 where
     N::Err: Drop,

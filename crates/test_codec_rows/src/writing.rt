@@ -8,33 +8,34 @@ use std::alloc::Global;
 use test_row_files::Miss;
 use test_row_files::words::cut;
 
-/// Bytes that stand in front of what is written.
+/// Bytes that stand before what is written.
 const BEFORE: [u8; 2] = [7, 0xff];
 
-/// What `encode` does, with nothing of its contract: calls are checked faster.
+/// Returns what `encode` does, with nothing of its contract: calls are checked faster.
 fn put(value: &Value, out: &mut Vec<u8>) -> Result<(), WriteFault> {
     amqp_types::encode(value, out)
 }
 
-/// The canonical spelling of the value that the bytes spell.
+/// Returns the canonical spelling of the value that the bytes spell.
 pub fn encode(alloc: Global, words: &str) -> Result<String, Miss> {
     let value = value_at(alloc, &bytes_of(alloc, words)?)?;
     written(alloc, &value)
 }
 
-/// The spelling of a value in hand.
+/// Returns the spelling of a value in hand.
 pub fn make(alloc: Global, words: &str) -> Result<String, Miss> {
     written(alloc, &value_of(alloc, words)?)
 }
 
-/// The same of one that stands in another.
+/// Returns the spelling of a value that is inside another one.
 pub fn make_in(alloc: Global, words: &str) -> Result<String, Miss> {
     let (place, words) = cut(words, ' ')?;
     let value = value_of(alloc, words)?;
     written(alloc, &placed(alloc, place, value)?)
 }
 
-/// What is written of the value behind what stands there, or the fault with which nothing is.
+/// Returns what is written of the value after what stands there, or the fault with which nothing
+/// is.
 fn written(alloc: Global, value: &Value) -> Result<String, Miss> {
     let mut out = Vec::from_slice(alloc, &BEFORE)?;
     let answer = put(value, &mut out);
@@ -49,7 +50,7 @@ fn written(alloc: Global, value: &Value) -> Result<String, Miss> {
     }
 }
 
-/// The spelling, and where it is not read as the value, what it is read as.
+/// Returns the spelling, and if it is not read as the value, what it is read as.
 fn read_back(alloc: Global, value: &Value, spelling: &[u8]) -> Result<String, Miss> {
     let words = words_of(alloc, spelling)?;
     let found = answer_of(alloc, spelling)?.text;

@@ -1,4 +1,5 @@
-//! A reader and a writer in memory that give and take so many bytes at a time, and fail at one call.
+//! A reader and a writer in memory that give and take this many bytes at a time, and fail at one
+//! call.
 
 use std::alloc::Global;
 use std::io::{self, Read, Write};
@@ -28,7 +29,7 @@ impl Calls {
     }
 }
 
-/// Gives at most so many bytes at a time.
+/// Gives at most this many bytes at a time.
 #[derive(Drop)]
 pub struct Source<'a> {
     pub rest: &'a [u8],
@@ -46,7 +47,7 @@ impl Read for Source<'_> {
     }
 }
 
-/// Keeps what is written to it, at most so many bytes at a time. Its flushes are calls too.
+/// Keeps what is written to it, at most this many bytes at a time. Its flushes are calls too.
 #[derive(Drop)]
 pub struct Kept {
     pub bytes: Vec<u8>,
@@ -60,7 +61,7 @@ impl Kept {
         Kept::failing(alloc, NEVER, NEVER)
     }
 
-    /// One that takes at most so many bytes at a time, and fails at the call of a number.
+    /// One that takes at most this many bytes at a time, and fails at the call of a number.
     pub fn failing(alloc: Global, most: usize, call: usize) -> Kept {
         Kept {
             bytes: Vec::new(alloc),

@@ -44,9 +44,10 @@ impl Failure {
     }
 }
 
-/// How often a device is called in all. The header is read at once, and of a frame the four bytes of SIZE, the four behind
-/// them, and what is left. The writer is flushed eight times, at first, at its end, and before six of the reads, and takes
-/// the header and nine frames; the sink is flushed at first and behind each record, which it takes in two parts.
+/// How often a device is called in all. The header is read at once, and of a frame the four bytes of SIZE, the
+/// four after them, and what is left. The writer is flushed eight times, at first, at its end, and before six of
+/// the reads, and takes the header and nine frames; the sink is flushed at first and after each record, which it
+/// takes in two parts.
 #[test]
 fn each_call_of_each_device_fails_once(rt: HostRuntime) -> Result<(), Fail> {
     for (most, reads, writes, records) in [(1, 130, 229, 41), (3, 53, 86, 17), (NEVER, 19, 18, 7)] {
@@ -57,7 +58,7 @@ fn each_call_of_each_device_fails_once(rt: HostRuntime) -> Result<(), Fail> {
     Ok(())
 }
 
-/// Asserts that a device fails at each of so many calls, and is called no more often.
+/// Asserts that a device fails at each of this many calls, and is called no more often.
 fn assert_fails(
     rt: &impl Abort,
     alloc: Global,
@@ -77,8 +78,8 @@ fn assert_fails(
     Ok(())
 }
 
-/// Serves the stream with a failure. What was written and recorded begins what would be, and is all of it where nothing
-/// failed; behind a record that failed no answer to it was written.
+/// Serves the stream with a failure. What was written and recorded begins what would be, and is all of it if
+/// nothing failed; after a record that failed no answer to it was written.
 fn assert_served(
     rt: &impl Abort,
     alloc: Global,
@@ -113,8 +114,8 @@ fn assert_served(
     Ok(())
 }
 
-/// Whether this begins what is written and recorded in all, is all of it where nothing failed, and has no answer whose record
-/// the sink does not have.
+/// Returns whether this begins what is written and recorded in all, is all of it if nothing failed, and has no
+/// answer whose record the sink does not have.
 fn is_kept(end: Result<End, ServeFault>, written: &[u8], recorded: &[u8]) -> bool {
     if !WRITTEN.starts_with(written) || !RECORDS.starts_with(recorded) {
         return false;
@@ -127,8 +128,9 @@ fn is_kept(end: Result<End, ServeFault>, written: &[u8], recorded: &[u8]) -> boo
     }
 }
 
-/// Asserts what an endpoint still answers behind a failure, where so many bytes of the stream were read: it holds no more than
-/// may be held, and was given all of them; then it holds what was not written, which is nothing where the reader failed.
+/// Asserts what an endpoint still answers after a failure, where this many bytes of the stream were read: it holds
+/// no more than may be held, and was given all of them; then it holds what was not written, which is nothing if
+/// the reader failed.
 fn assert_left(rt: &impl Abort, endpoint: &mut Endpoint, failure: Failure, read: usize) {
     assert!(rt;
         endpoint.held() <= 512 + 8192 + 64 + (1407 + 4 * (10 + 96)),
@@ -143,7 +145,7 @@ fn assert_left(rt: &impl Abort, endpoint: &mut Endpoint, failure: Failure, read:
     assert!(rt; endpoint.held() <= most, "{failure:?}");
 }
 
-/// How the connection stands once so many bytes of the stream came, of which the last unit is a close.
+/// How the connection stands once this many bytes of the stream came, of which the last unit is a close.
 fn end_at(read: usize) -> End {
     let ended = ENDS.iter().copied().filter(|end| *end <= read).max();
     match read.saturating_sub(ended.unwrap_or(0)) {

@@ -22,7 +22,7 @@ fn endpoint(heap: &LocalHeap) -> Result<Fixed<'_>, AllocError> {
     Endpoint::new(heap, config)
 }
 
-/// A new one with a session and a link, which has all its credit.
+/// Returns a new one with a session and a link, which has all its credit.
 fn attached<'a>(rt: &impl Abort, heap: &'a LocalHeap) -> Result<Fixed<'a>, Fail> {
     let mut endpoint = endpoint(heap)?;
     for unit in OPENING {
@@ -32,7 +32,7 @@ fn attached<'a>(rt: &impl Abort, heap: &'a LocalHeap) -> Result<Fixed<'a>, Fail>
     Ok(endpoint)
 }
 
-/// A delivery of 1,000 bytes in one transfer, with this id.
+/// Returns a delivery of 1,000 bytes in one transfer, with this id.
 fn delivery(alloc: Global, id: u8) -> Result<Vec<u8>, AllocError> {
     let head = b"\x00\x00\x03\xfc\x02\x00\x00\x00\x00\x53\x14\xc0\x07\x03\x43\x52";
     let mut frame = Vec::from_slice(alloc, head.as_slice())?;
@@ -93,7 +93,7 @@ fn with_less_a_delivery_waits(rt: HostRuntime) -> Result<(), Fail> {
     Ok(())
 }
 
-/// Feeds deliveries up to the first one that waits for memory, and answers its id.
+/// Feeds deliveries up to the first one that waits for memory, and returns its id.
 fn first_to_wait(
     rt: &impl Abort,
     alloc: Global,

@@ -5,7 +5,7 @@ use std::process::Abort;
 use std::test::Fail;
 use test_heap::TestHeap;
 
-/// A vector of two elements, at 16 bytes.
+/// Returns a vector of two elements, at 16 bytes.
 fn pair<'a>(heap: &'a TestHeap<Global>) -> Result<Vec<u64, &'a TestHeap<Global>>, AllocError> {
     let mut pair = Vec::with_capacity(heap, 2)?;
     pair.push(1)?;
@@ -13,7 +13,7 @@ fn pair<'a>(heap: &'a TestHeap<Global>) -> Result<Vec<u64, &'a TestHeap<Global>>
     Ok(pair)
 }
 
-/// Asserts that so many bytes were granted, and that so many live.
+/// Asserts that this many bytes were granted, and that this many live.
 fn assert_bytes<B: Allocator>(rt: &impl Abort, heap: &TestHeap<B>, granted: u64, live: u64) {
     assert_eq!(rt; (heap.requested(), heap.live()), (granted, live));
 }
@@ -88,7 +88,7 @@ fn keeps_the_most_that_lived(rt: HostRuntime) -> Result<(), Fail> {
     Ok(())
 }
 
-/// A growth is one request, of the whole new block. Where it is refused, the old block lives on.
+/// A growth is one request, of the whole new block. If it is refused, the old block lives on.
 #[test]
 fn counts_a_growth_as_a_request(rt: HostRuntime) -> Result<(), Fail> {
     for (number, requested, live) in [(0, 16 + 80, 80), (2, 16, 16)] {

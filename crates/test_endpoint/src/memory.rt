@@ -19,14 +19,14 @@ const LAST: &[u8] = b"\x00\x00\x00\x10\x02\x00\x00\x00\x00\x53\x14\xc0\x02\x01\x
 /// An endpoint whose heap refuses a request.
 type Refused<'a> = Endpoint<&'a TestHeap<Global>>;
 
-/// A new one, with frames of 8,192 bytes and messages of 10,000. None where memory is refused.
+/// Returns a new one, with frames of 8,192 bytes and messages of 10,000. None if memory is refused.
 fn endpoint<A: Allocator + Copy>(alloc: A) -> Option<Endpoint<A>> {
     let name = String::from_str(alloc, "r").ok()?;
     let config = Config::checked(name, 8192, 0, 1, 4, 10000, 5000)?;
     Endpoint::new(alloc, config).ok()
 }
 
-/// What becomes of a unit, which may wait first, whole, for memory that was refused.
+/// Returns what becomes of a unit, which may wait first, whole, for memory that was refused.
 fn fed(endpoint: &mut Refused<'_>, unit: &[u8]) -> Result<Outcome, Fail> {
     let held = endpoint.held();
     let fed = endpoint.feed(unit);
@@ -42,7 +42,7 @@ fn fed(endpoint: &mut Refused<'_>, unit: &[u8]) -> Result<Outcome, Fail> {
     Ok(endpoint.feed(&[]).outcome)
 }
 
-/// The first transfer of a delivery, which another follows, with so many bytes.
+/// Returns the first transfer of a delivery, which another follows, with this many bytes.
 fn first_of(alloc: Global, count: u32) -> Result<Vec<u8>, Fail> {
     let (head, _) = FIRST.split_at(22);
     let mut unit = Vec::from_slice(alloc, &count.saturating_add(22).to_be_bytes())?;
@@ -53,8 +53,8 @@ fn first_of(alloc: Global, count: u32) -> Result<Vec<u8>, Fail> {
     Ok(unit)
 }
 
-/// How many bytes were granted for the first transfer of a link when its request of this number was refused. None where it makes
-/// no such request.
+/// Returns how many bytes were granted for the first transfer of a link when its request of this number was
+/// refused. None if it makes no such request.
 fn granted_before(alloc: Global, number: u64, unit: &[u8]) -> Result<Option<u64>, Fail> {
     let heap = TestHeap::new(alloc, 0);
     let mut endpoint = endpoint(&heap).ok_or("no endpoint")?;
@@ -70,7 +70,7 @@ fn granted_before(alloc: Global, number: u64, unit: &[u8]) -> Result<Option<u64>
     }
 }
 
-/// Receives a message of 5,000 transfers, where there is memory for an endpoint.
+/// Receives a message of 5,000 transfers, if there is memory for an endpoint.
 fn receive(rt: &impl Abort, heap: &TestHeap<Global>) -> Result<(), Fail> {
     let Some(mut endpoint) = endpoint(heap) else {
         return Ok(());
@@ -113,7 +113,8 @@ fn each_growth_of_a_long_message_is_refused_in_turn(rt: HostRuntime) -> Result<(
     Ok(())
 }
 
-/// The delivery and its place are asked for, and its payload last: what was granted before does not depend on the payload.
+/// The delivery and its place are requested, and its payload last: what was granted before does not depend on the
+/// payload.
 #[test]
 fn a_delivery_has_its_place_before_its_payload_is_copied(rt: HostRuntime) -> Result<(), Fail> {
     let alloc = rt.alloc();

@@ -6,8 +6,8 @@ use amqp_send::{OfferFault, SendConfig};
 use std::alloc::Allocator;
 use std::test::Fail;
 
-/// These turns on an endpoint with frames of 512 bytes, four deliveries of ten bytes for a link, and so many places of its
-/// window.
+/// Makes these turns on an endpoint with frames of 512 bytes, four deliveries of ten bytes for a link, and this
+/// many places of its window.
 fn run<A: Allocator + Copy>(alloc: A, window: u32, turns: &[Turn<'_>]) -> Result<Joined<A>, Fail> {
     let name = String::from_str(alloc, "r")?;
     let config = Config::checked(name, 512, 0, 1, 4, 10, window).ok_or("refused settings")?;

@@ -102,7 +102,7 @@ fn a_writer_that_fails_ends_the_script(rt: HostRuntime) {
     }
 }
 
-/// What comes of the script where the write of this number fails, and what was written.
+/// Returns the result of the script where the write of this number fails, and what was written.
 fn over_a_full_writer(alloc: Global, failing: usize) -> (Result<(), ScriptFault>, Vec<u8>) {
     let mut script = SCRIPT;
     let mut printed = Full {

@@ -32,11 +32,11 @@ pub const RECORD: usize = 19;
 /// The lengths of the stream at which a unit ends.
 pub const ENDS: [usize; 7] = [8, 25, 45, 77, 97, 118, 130];
 
-/// How much answers so many of its units.
+/// How much answers this many of its units.
 const ANSWERS: [usize; 8] = [0, 8, 34, 57, 114, 161, 209, 221];
 
-/// What is read of it where all is given that is asked for: the header, and of each frame the four bytes of SIZE, the
-/// four behind them, and what is left.
+/// What is read of it where all is given that is requested: the header, and of each frame the four bytes of SIZE,
+/// the four after them, and what is left.
 const READS: [usize; 19] = [8, 4, 4, 9, 4, 4, 12, 4, 4, 24, 4, 4, 12, 4, 4, 13, 4, 4, 4];
 
 /// Serves the front of the stream, with one place of credit.
@@ -54,7 +54,7 @@ fn serve_stream<R: AtHand + Drop, W: Write + HoldsBack + Drop>(
     )
 }
 
-/// The same over devices in hand.
+/// Serves the front of the stream over these devices, with one place of credit.
 fn serve_over<R: AtHand + Drop, W: Write + HoldsBack + Drop, S: Write + Drop>(
     alloc: Global,
     reader: &mut Device<R>,
@@ -69,8 +69,8 @@ fn serve_over<R: AtHand + Drop, W: Write + HoldsBack + Drop, S: Write + Drop>(
     Ok(serve(&mut endpoint, reader, writer, sink, one_by_one()))
 }
 
-/// The container 'r', with frames of 512 bytes, channel 0, the handles 0 and 1, four deliveries of ten bytes for a link, and a
-/// window of 100 places.
+/// Returns the container 'r', with frames of 512 bytes, channel 0, the handles 0 and 1, four deliveries of ten
+/// bytes for a link, and a window of 100 places.
 pub fn config<A: Allocator + Copy>(alloc: A) -> Result<Config<A>, AllocError> {
     let name = String::from_str(alloc, "r")?;
     Config::checked(name, 512, 0, 1, 4, 10, 100).ok_or(AllocError)
@@ -84,7 +84,7 @@ pub fn one_by_one() -> Policy {
     }
 }
 
-/// The stream, in pieces of so many bytes at most, with a failure at the read of this number.
+/// Returns the stream, in pieces of this many bytes at most, with a failure at the read of this number.
 fn stream_by(most: usize, failing: usize) -> Source<'static> {
     Source {
         rest: STREAM,
@@ -93,17 +93,18 @@ fn stream_by(most: usize, failing: usize) -> Source<'static> {
     }
 }
 
-/// How much answers so many units of the stream.
+/// Returns how many bytes answer this many units of the stream.
 pub fn answers_to(units: usize) -> usize {
     ANSWERS.get(units).copied().unwrap_or(0)
 }
 
-/// How many units end in so many bytes of the stream.
+/// Returns how many units end in this many bytes of the stream.
 fn units_in(given: usize) -> usize {
     ENDS.iter().filter(|end| **end <= given).count()
 }
 
-/// Behind a reader that fails all that was read is recorded and answered, however much the sink and the writer keep.
+/// After a reader that fails all that was read is recorded and answered, however much the sink and the writer
+/// keep.
 #[test]
 fn what_was_read_is_recorded_and_answered(rt: HostRuntime) -> Result<(), Fail> {
     let mut given = 0_usize;
@@ -122,7 +123,7 @@ fn what_was_read_is_recorded_and_answered(rt: HostRuntime) -> Result<(), Fail> {
     Ok(())
 }
 
-/// What is written and recorded through buffers where the read of this number fails.
+/// Returns what is written and recorded through buffers where the read of this number fails.
 fn kept_before(rt: &impl Abort, alloc: Global, read: usize) -> Result<(Vec<u8>, Vec<u8>), Fail> {
     let (mut written, mut recorded) = (Kept::all(alloc), Kept::all(alloc));
     let mut reader = Device::new(Direct::new(stream_by(NEVER, read)));
@@ -184,7 +185,7 @@ impl Write for &Wire {
     }
 }
 
-/// Gives at most so many bytes at a time, and only where all that answers what it gave before was flushed.
+/// Gives at most this many bytes at a time, and only where all that answers what it gave before was flushed.
 #[derive(Drop)]
 struct Asker<'a> {
     given: usize,
@@ -326,9 +327,10 @@ impl Write for Broken {
     }
 }
 
-/// No disposition leaves before the record that it answers. The first one answers 114 bytes of the peer's. Where the sink buffers
-/// and fails at its first write, the peer got those of them that a writer with so much room could not keep: all, or all but the
-/// last 57, or none; and none where the sink failed at the flush before the second read, which comes before the writer's.
+/// No disposition leaves before the record that it answers. The first one answers 114 bytes of the peer's. If the
+/// sink buffers and fails at its first write, the peer got those of them that a writer with this much room could
+/// not keep: all, or all but the last 57, or none; and none if the sink failed at the flush before the second
+/// read, which comes before the writer's.
 #[test]
 fn no_answer_leaves_before_its_record(rt: HostRuntime) -> Result<(), Fail> {
     for (most, room, sent) in [

@@ -23,14 +23,14 @@ const PARTS: [&[u8]; 3] = [
     b"\x00\x00\x00\x10\x02\x00\x00\x00\x00\x53\x14\xc0\x02\x01\x43e",
 ];
 
-/// An endpoint of the container 'r', with frames of 512 bytes, channel 0, the handles 0 and 1, four deliveries of ten bytes
-/// for a link, and a window of 100 places.
+/// Returns an endpoint of the container 'r', with frames of 512 bytes, channel 0, the handles 0 and 1, four
+/// deliveries of ten bytes for a link, and a window of 100 places.
 fn config<A: Allocator + Copy>(alloc: A) -> Result<Config<A>, Fail> {
     let name = String::from_str(alloc, "r")?;
     Ok(Config::checked(name, 512, 0, 1, 4, 10, 100).ok_or("refused settings")?)
 }
 
-/// Feeds all of a stream, and answers the last outcome.
+/// Feeds all of a stream, and returns the last outcome.
 fn feed_all<A: Allocator + Copy>(endpoint: &mut Endpoint<A>, stream: &[u8]) -> Outcome {
     let mut at = 0;
     let mut last = Outcome::More;
@@ -139,7 +139,7 @@ fn fill(endpoint: &mut Endpoint, written: &mut Vec<u8>) -> Result<(), Fail> {
     Ok(())
 }
 
-/// Moves out so many bytes of those that wait, or all where they are fewer.
+/// Moves out this many bytes of those that wait, or all if they are fewer.
 fn move_out(alloc: Global, endpoint: &mut Endpoint, count: usize) -> Result<(), Fail> {
     let mut room = Vec::from_elem(alloc, 0, count)?;
     endpoint.output(room.as_mut_slice());

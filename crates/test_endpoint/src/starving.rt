@@ -1,4 +1,4 @@
-//! A connection that is served on where memory was refused: in the end it is as if memory had been ample.
+//! A connection that is served on after memory was refused: in the end it is as if memory had been ample.
 ghost use Rattle.std.specs.Prelude.{IsTrue};
 ghost use Rattle.amqp_frame.specs.Devices.{has_failed};
 
@@ -14,8 +14,8 @@ use std::process::Abort;
 use std::test::Fail;
 use test_heap::TestHeap;
 
-/// What the peer sends behind its opening: an attach at handle 1, three messages in two transfers each, of which the first two
-/// come turn about on both links, and a close.
+/// What the peer sends after its opening: an attach at handle 1, three messages in two transfers each, of which
+/// the first two come turn about on both links, and a close.
 const MESSAGES: [&[u8]; 8] = [
     b"\x00\x00\x00\x21\x02\x00\x00\x00\x00\x53\x12\xc0\x14\x0a\xa1\x01m\x52\x01\x42\x40\x40\x00\x53\x28\x45\x00\x53\x29\x45\x40\x40\x43",
     b"\x00\x00\x00\x19\x02\x00\x00\x00\x00\x53\x14\xc0\x09\x06\x43\x43\xa0\x01t\x40\x40\x41abc",
@@ -39,7 +39,7 @@ const TRIES: u64 = 100;
 /// An endpoint whose heap refuses requests.
 type Refused<'a> = Endpoint<&'a TestHeap<Global>>;
 
-/// Which requests are refused behind the first one that is.
+/// Which requests are refused after the first one that is.
 #[derive(Clone, Copy, Debug)]
 enum Again {
     Never,
@@ -55,7 +55,7 @@ struct Refusal {
 }
 
 impl Refusal {
-    /// The number of the next one, from where it is served on behind so many others; 0 where there is none.
+    /// Returns the number of the next one, from where it is served on after this many others; 0 if there is none.
     fn next(self, refused: u64) -> u64 {
         match self.again {
             Again::Never => 0,
@@ -64,7 +64,7 @@ impl Refusal {
     }
 }
 
-/// What came of a connection that was served to its end.
+/// The result of a connection that was served to its end.
 #[derive(Debug, PartialEq, Eq, Drop)]
 struct Served {
     end: End,
@@ -72,7 +72,7 @@ struct Served {
     recorded: Vec<u8>,
 }
 
-/// All that the peer sends.
+/// Returns all that the peer sends.
 fn stream(alloc: Global) -> Result<Vec<u8>, AllocError> {
     let mut bytes = Vec::new(alloc);
     append(&mut bytes, &OPENING)?;
@@ -87,8 +87,8 @@ fn append(bytes: &mut Vec<u8>, units: &[&[u8]]) -> Result<(), AllocError> {
     Ok(())
 }
 
-/// Serves a new endpoint to the end of the stream, by a reader that has a buffer of so many bytes. Its heap refuses nothing before.
-/// Answers too how often memory was refused.
+/// Serves a new endpoint to the end of the stream, by a reader that has a buffer of this many bytes. Its heap
+/// refuses nothing before. Answers too how often memory was refused.
 fn serve_refused(
     rt: &impl Abort,
     alloc: Global,
@@ -172,7 +172,7 @@ fn serve_amply(rt: &impl Abort, alloc: Global, room: usize) -> Result<Served, Fa
     Ok(ample)
 }
 
-/// Refuses each request in turn until there is none of that number, and answers how many there were.
+/// Refuses each request in turn until there is none of that number, and returns how many there were.
 fn refuse_each(
     rt: &impl Abort,
     alloc: Global,

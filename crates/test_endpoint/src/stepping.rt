@@ -9,7 +9,7 @@ use std::alloc::Global;
 use std::process::Abort;
 use std::test::Fail;
 
-/// What steps came to: their answers, and the bytes that they wrote and recorded.
+/// What steps resulted in: their answers, and the bytes that they wrote and recorded.
 #[derive(Drop)]
 struct Steps {
     told: Vec<Stepped>,
@@ -18,7 +18,8 @@ struct Steps {
     end: End,
 }
 
-/// Steps a new server through bytes, in pieces of so many at most, and lets it take nothing twice behind them.
+/// Steps a new server through bytes, in pieces of this many at most, and lets it take nothing twice after
+/// them.
 fn step_through(alloc: Global, mut bytes: &[u8], most: usize) -> Result<Steps, Fail> {
     let endpoint = Endpoint::new(alloc, config(alloc)?)?;
     let mut server = Server::new(endpoint, Rule::of(one_by_one()));
@@ -40,7 +41,7 @@ fn step_through(alloc: Global, mut bytes: &[u8], most: usize) -> Result<Steps, F
     })
 }
 
-/// However the stream is cut, the steps write and record what it makes, and take nothing behind its end.
+/// However the stream is cut, the steps write and record what it makes, and take nothing after its end.
 #[test]
 fn steps_ignore_cuts(rt: HostRuntime) -> Result<(), Fail> {
     for most in [1, 3, 7, 50, STREAM.len()] {
@@ -54,7 +55,7 @@ fn steps_ignore_cuts(rt: HostRuntime) -> Result<(), Fail> {
     Ok(())
 }
 
-/// A step takes no more than one unit, and tells what it did.
+/// A step takes at most one unit, and tells what it did.
 #[test]
 fn a_step_tells_what_it_did(rt: HostRuntime) -> Result<(), Fail> {
     let steps = step_through(rt.alloc(), STREAM, STREAM.len())?;
@@ -85,7 +86,7 @@ fn ready() -> Event {
     }
 }
 
-/// The step of this number told that, and granted so much.
+/// The step of this number told that, and granted this much.
 fn assert_step(
     rt: &impl Abort,
     steps: &Steps,

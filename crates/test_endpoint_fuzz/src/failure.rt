@@ -15,7 +15,7 @@ pub enum Failure {
 }
 
 impl Failure {
-    /// The same at a step.
+    /// Returns this failure, at a step of the list.
     pub fn at(self, step: usize) -> Failure {
         match self {
             Failure::Differs { what, .. } => Failure::Differs { step, what },

@@ -1,8 +1,9 @@
 //! Lists of calls and pieces, made on an endpoint and on a naive model beside it: each answer, each byte for the peer, the
 //! bytes held, windows, links and messages are the same, and what is held stays within its bound.
 //!
-//! With no words, as many lists as the gate runs are made. `test_endpoint_fuzz COUNT SEED` makes so many from a number of one's own;
-//! the lists of a seed are those of the numbers from it on, so `test_endpoint_fuzz 1 SEED` makes one of them again.
+//! With no words, as many lists as the gate runs are made. `test_endpoint_fuzz COUNT SEED` makes this many from a
+//! number of one's own; the lists of a seed are those of the numbers from it on, so `test_endpoint_fuzz 1 SEED`
+//! makes one of them again.
 #![tactic(auto)]
 
 mod came;

@@ -141,7 +141,7 @@ impl Model {
         Ok(Fed { used, outcome })
     }
 
-    /// How many bytes there are up to where it is next looked at what they are.
+    /// Returns how many bytes there are up to the place where it is next looked at what they are.
     fn wanted(&self) -> usize {
         let len = self.rest.len();
         let end = match (self.stage, len) {
@@ -152,7 +152,7 @@ impl Model {
         end.saturating_sub(len)
     }
 
-    /// What the bytes in the buffer are.
+    /// Returns what the bytes in the buffer are.
     fn unit(&self) -> Unit {
         let len = self.rest.len() as u64;
         if self.stage == Stage::Header {
@@ -244,7 +244,7 @@ impl Model {
         OUTPUT.saturating_sub(self.unsent.len() as u64) >= ROOM
     }
 
-    /// Moves out the first unsent bytes, at most so many.
+    /// Moves out the first unsent bytes, at most this many.
     pub fn output(&mut self, most: usize) -> Result<Vec<u8>, AllocError> {
         let count = most.min(self.unsent.len());
         let moved = Vec::from_slice(self.alloc, self.unsent.get(..count).unwrap_or(&[]))?;
@@ -281,7 +281,7 @@ impl Model {
         self.lives
     }
 
-    /// The session that has begun on a channel, live or not.
+    /// Returns the session that has begun on a channel, live or not.
     pub fn session(&self, channel: u16) -> Option<Session> {
         self.sessions
             .iter()
@@ -294,7 +294,7 @@ impl Model {
         self.links.iter().find(|link| link.life.session == session.life && link.handle == handle)
     }
 
-    /// The places that are left of a session's window.
+    /// Returns the places that are left of a session's window.
     pub fn window(&self, session: Session) -> u64 {
         self.history.window(session.life, self.settings.window)
     }
@@ -310,7 +310,7 @@ impl Model {
         Ok(open)
     }
 
-    /// How many bytes came of a link's last delivery.
+    /// Returns how many bytes came of a link's last delivery.
     pub fn unfinished_len(&self, life: Life) -> Result<u32, AllocError> {
         let deliveries = self.history.deliveries(self.alloc, life)?;
         Ok(match deliveries.last() {
@@ -319,7 +319,7 @@ impl Model {
         })
     }
 
-    /// How many deliveries of a live link are ready.
+    /// Returns how many deliveries of a live link are ready.
     pub fn ready(&self, life: Life) -> Result<u32, AllocError> {
         let mut ready = 0_u32;
         for delivery in self.history.deliveries(self.alloc, life)?.iter() {
@@ -328,7 +328,7 @@ impl Model {
         Ok(ready)
     }
 
-    /// How many are, on all live links of a session.
+    /// Returns how many are, on all live links of a session.
     fn ready_in(&self, session: u32) -> Result<u32, AllocError> {
         let mut ready = 0_u32;
         for link in self.links.iter() {
@@ -347,7 +347,7 @@ impl Model {
         Ok(ready)
     }
 
-    /// The bytes that count as held.
+    /// Returns the bytes that count as held.
     pub fn held(&self) -> Result<u64, AllocError> {
         let mut held = (self.rest.len() as u64).saturating_add(self.unsent.len() as u64);
         held = held.saturating_add((self.sessions.len() as u64).saturating_mul(64));
@@ -360,7 +360,7 @@ impl Model {
         Ok(held)
     }
 
-    /// What a live link holds besides its record.
+    /// Returns what a live link holds besides its record.
     fn held_by(&self, link: &Link) -> Result<u64, AllocError> {
         let mut held = (link.name.len() as u64)
             .saturating_add(link.source.len() as u64)
@@ -371,7 +371,7 @@ impl Model {
         Ok(held)
     }
 
-    /// The most bytes that may be held with the sessions and links that there are.
+    /// Returns the most bytes that may be held with the sessions and links that there are.
     pub fn bound(&self) -> u64 {
         let each = u64::from(self.settings.max_message).saturating_add(96);
         let link = u64::from(self.settings.allowed)
@@ -384,12 +384,12 @@ impl Model {
     }
 }
 
-/// A number below 2^32, which all are that are sent.
+/// Returns a number below 2^32, which all are that are sent.
 pub fn low(number: u64) -> u32 {
     (number % (1 << 32)) as u32
 }
 
-/// The big-endian number of so many bytes at a place.
+/// Returns the big-endian number of this many bytes at a place.
 fn number_at(bytes: &[u8], at: usize, count: usize) -> Option<u64> {
     let mut number = 0_u64;
     let field = bytes.get(at..at.saturating_add(count))?;

@@ -24,7 +24,7 @@ impl Numbers {
         next
     }
 
-    /// So many bytes.
+    /// Returns this many bytes.
     pub fn bytes(&mut self, alloc: Global, count: usize) -> Result<Vec<u8>, AllocError> {
         let mut bytes = Vec::with_capacity(alloc, count)?;
         for _ in 0..count {
@@ -34,7 +34,7 @@ impl Numbers {
         Ok(bytes)
     }
 
-    /// A number below `end`, which is not 0.
+    /// Returns a number below `end`, which is not 0.
     pub fn below(&mut self, end: u64) -> u64 {
         (self.next() >> 16).checked_rem(end).unwrap_or(0)
     }
@@ -77,23 +77,23 @@ impl<'a> Choices<'a> {
         }
     }
 
-    /// A number below `end`, which is at most 256; 0 where that is 0.
+    /// Returns a number below `end`, which is at most 256; 0 if that is 0.
     pub fn below(&mut self, end: u32) -> u32 {
         u32::from(self.byte()).checked_rem(end).unwrap_or(0)
     }
 
-    /// Whether one of so many falls out, at most 256.
+    /// Returns whether a draw of one in `count` succeeds, at most 256.
     pub fn is_one_of(&mut self, count: u32) -> bool {
         self.below(count) == 1
     }
 
-    /// One of these.
+    /// Returns one of these.
     pub fn of<T: Copy + Drop>(&mut self, all: &[T], other: T) -> T {
         let at = self.below((all.len() as u64).min(256) as u32);
         all.get(at as usize).copied().unwrap_or(other)
     }
 
-    /// A number of 32 bits, mostly one at which something turns.
+    /// Returns a number of 32 bits, mostly one at which something turns.
     pub fn number(&mut self) -> u32 {
         if self.is_one_of(4) {
             let bytes = [self.byte(), self.byte(), self.byte(), self.byte()];

@@ -35,7 +35,7 @@ pub enum Kind {
 /// More than a frame has beside its payload.
 const ROOM: usize = 1600;
 
-/// A message is kept in pieces of so many bytes.
+/// A message is kept in pieces of this many bytes.
 const PIECE: u32 = 4096;
 
 /// How many flows come at once: the answers to all of them are more than may wait to be sent.
@@ -74,7 +74,8 @@ impl Peer {
         }
     }
 
-    /// The bytes of a frame. One that can't come before others is preceded by none of them: it comes in its place.
+    /// Returns the bytes of a frame. One that can't come before others is preceded by none of them: it comes in
+    /// its place.
     pub fn frame(&mut self, model: &Model, choices: &mut Choices<'_>, kind: Kind) -> Made {
         let is_wild = choices.is_one_of(64);
         match model.stage {
@@ -85,7 +86,7 @@ impl Peer {
         }
     }
 
-    /// A frame behind the open, of another kind where that can't come.
+    /// Returns a frame after the open, of another kind where that can't come.
     fn frame_of(
         &mut self,
         model: &Model,
@@ -117,7 +118,7 @@ impl Peer {
         }
     }
 
-    /// A frame of a session that has begun.
+    /// Returns a frame of a session that has begun.
     fn on(
         &mut self,
         model: &Model,
@@ -150,7 +151,7 @@ impl Peer {
         }
     }
 
-    /// A frame of a link that is attached.
+    /// Returns a frame of a link that is attached.
     fn on_link(
         &mut self,
         model: &Model,
@@ -182,7 +183,7 @@ impl Peer {
         self.flow(choices, place.channel, Some(place.handle), count)
     }
 
-    /// A frame where it can't come.
+    /// Returns a frame where it can't come.
     fn wild(&mut self, choices: &mut Choices<'_>, channel: u16, kind: Kind) -> Made {
         match kind {
             Kind::Begin => self.begin(choices, channel),
@@ -193,7 +194,7 @@ impl Peer {
         }
     }
 
-    /// A frame of the longest size, or of one byte more, that says nothing.
+    /// Returns a frame of the longest size, or of one byte more, that says nothing.
     fn long(&mut self, model: &Model, choices: &mut Choices<'_>) -> Made {
         let more = u32::from(choices.is_one_of(4));
         let size = model.settings.max_frame.saturating_add(more);
@@ -364,7 +365,7 @@ impl Peer {
         )
     }
 
-    /// A transfer that begins a delivery, or goes on with one.
+    /// Returns a transfer that begins a delivery, or goes on with one.
     fn transfer(
         &mut self,
         model: &Model,
@@ -392,8 +393,8 @@ impl Peer {
         written(self.alloc, place.channel, &transfer, &payload)
     }
 
-    /// A payload for a message that has so many bytes: a short one, one that goes up to where a message may end or where a piece
-    /// of one ends, or a byte further.
+    /// Returns a payload for a message that has this many bytes: a short one, one that goes up to where a message
+    /// may end or where a piece of one ends, or a byte further.
     fn payload(&mut self, model: &Model, choices: &mut Choices<'_>, before: u32) -> Made {
         let most = model.settings.max_message.saturating_sub(before);
         let piece = PIECE - before % PIECE;
@@ -428,7 +429,7 @@ struct Shape {
 }
 
 impl Shape {
-    /// A transfer with this id, if it has one.
+    /// Returns a transfer with this id, if it has one.
     fn transfer(self, handle: u32, id: u32) -> Transfer<'static> {
         let flags = self.flags;
         Transfer {
@@ -499,7 +500,7 @@ fn name(is_strange: bool, shape: u8) -> &'static str {
     str::from_utf8(bytes.unwrap_or(&[])).unwrap_or("")
 }
 
-/// The source of an attach, sometimes a long one.
+/// Returns the source of an attach, sometimes a long one.
 fn termini(alloc: Global, is_strange: bool, shape: u8) -> Made {
     let len = match shape % 8 {
         5 if is_strange => 1024,
@@ -513,7 +514,8 @@ fn termini(alloc: Global, is_strange: bool, shape: u8) -> Made {
     Ok(source)
 }
 
-/// The delivery-count of a flow: none, or one that uses up no credit, some, all, or more than there is; or one that is behind.
+/// Returns the delivery-count of a flow: none, or one that uses up no credit, some, all, or more than there is; or
+/// one that is behind.
 fn count_of(choices: &mut Choices<'_>, count: u32, credit: u64) -> Option<u32> {
     let credit = low(credit);
     match choices.below(16) {
@@ -526,7 +528,7 @@ fn count_of(choices: &mut Choices<'_>, count: u32, credit: u64) -> Option<u32> {
     }
 }
 
-/// The id of an open delivery of a session, or one at which something turns.
+/// Returns the id of an open delivery of a session, or one at which something turns.
 pub fn some_id(
     model: &Model,
     choices: &mut Choices<'_>,
@@ -546,7 +548,7 @@ pub fn some_id(
     Ok(choices.number())
 }
 
-/// A frame, as its bytes.
+/// Returns a frame, as its bytes.
 fn written(alloc: Global, channel: u16, performative: &Performative<'_>, payload: &[u8]) -> Made {
     let room = payload.len().saturating_add(ROOM);
     let mut frame = Vec::from_elem(alloc, 0, room)?;

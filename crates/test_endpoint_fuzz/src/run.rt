@@ -27,7 +27,7 @@ pub struct Run<'c> {
 }
 
 impl<'c> Run<'c> {
-    /// A new endpoint, and a model with the same settings.
+    /// Returns a new endpoint, and a model with the same settings.
     pub fn new(
         alloc: Global,
         choices: &mut Choices<'_>,
@@ -119,7 +119,7 @@ impl<'c> Run<'c> {
         self.send(choices, kind)
     }
 
-    /// A frame of the peer, of which a byte may be damaged, behind what it sent before.
+    /// A frame of the peer, of which a byte may be damaged, after what it sent before.
     fn send(&mut self, choices: &mut Choices<'_>, kind: Kind) -> Result<(), Failure> {
         let mut frame = self.peer.frame(&self.model, choices, kind)?;
         if choices.is_one_of(64) {
@@ -161,7 +161,7 @@ impl<'c> Run<'c> {
         self.bounded()
     }
 
-    /// The channel and handle that a call names, mostly those of a link.
+    /// Returns the channel and handle that a call names, mostly those of a link.
     fn named(&self, choices: &mut Choices<'_>) -> (u16, u32) {
         let at = choices.byte();
         let count = self.model.links.len();
@@ -368,7 +368,7 @@ impl<'c> Run<'c> {
         }
     }
 
-    /// The credit of a link, its open deliveries, and the ready ones.
+    /// Returns the credit of a link, its open deliveries, and the ready ones.
     fn counts(&self, link: &Link) -> Result<(u32, u32, u32), Failure> {
         let credit = low(self.model.history.credit(link.life.link));
         let open = low(self.model.open_deliveries(link.life)?.len() as u64);

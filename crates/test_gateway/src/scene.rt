@@ -16,12 +16,12 @@ use std::test::Fail;
 pub const STREAM: &[u8] =
     b"\x41\x4d\x51\x50\x00\x01\x00\x00\x00\x00\x00\x11\x02\x00\x00\x00\x00\x53\x10\xc0\x04\x01\xa1\x01\x61\x00\x00\x00\x14\x02\x00\x00\x00\x00\x53\x11\xc0\x07\x04\x40\x43\x52\x64\x52\x64\x00\x00\x00\x20\x02\x00\x00\x00\x00\x53\x12\xc0\x13\x0a\xa1\x01\x6c\x43\x42\x40\x40\x00\x53\x28\x45\x00\x53\x29\x45\x40\x40\x43\x00\x00\x00\x14\x02\x00\x00\x00\x00\x53\x14\xc0\x06\x03\x43\x43\xa0\x01\x74\x78\x00\x00\x00\x15\x02\x00\x00\x00\x00\x53\x14\xc0\x07\x03\x43\x52\x01\xa0\x01\x74\x78\x00\x00\x00\x0c\x02\x00\x00\x00\x00\x53\x18\x45";
 
-/// How many of its bytes stand in front of the deliveries, and in front of the close.
+/// How many of its bytes stand before the deliveries, and before the close.
 pub const ATTACHED: usize = 77;
 
 pub const DELIVERED: usize = 118;
 
-/// And behind the first delivery.
+/// And after the first delivery.
 pub const FIRST: usize = 97;
 
 /// The records of both deliveries, as `recv` writes them.
@@ -54,7 +54,7 @@ impl Log {
         }
     }
 
-    /// How many lines end so.
+    /// Returns how many lines end so.
     pub fn count(&self, end: &str) -> usize {
         let Ok(text) = self.text.try_borrow() else {
             return 0;
@@ -201,7 +201,7 @@ pub struct Scene<'a> {
 }
 
 impl<'a> Scene<'a> {
-    /// One with so many peers at a time.
+    /// One with this many peers at a time.
     pub fn new(
         rt: &HostRuntime,
         store: &'a RefCell<Store>,
@@ -243,7 +243,7 @@ impl<'a> Scene<'a> {
         })
     }
 
-    /// A peer that has sent these bytes.
+    /// Returns a peer that has sent these bytes.
     pub fn peer(&self, rt: &HostRuntime, bytes: &[u8]) -> io::Result<TcpStream> {
         let mut stream = TcpStream::connect(rt, self.address)?;
         stream.set_nodelay(true)?;
@@ -251,7 +251,7 @@ impl<'a> Scene<'a> {
         Ok(stream)
     }
 
-    /// So many turns, each so many milliseconds behind the last one.
+    /// This many turns, each this many milliseconds after the last one.
     pub fn turns(&mut self, count: u32, millis: u64) -> Result<(), GatewayFault> {
         for _ in 0..count {
             self.now = self.now.saturating_add(millis);
@@ -262,7 +262,7 @@ impl<'a> Scene<'a> {
     }
 }
 
-/// How often these stand among some bytes.
+/// Returns how often these stand among some bytes.
 pub fn times(bytes: &[u8], these: &[u8]) -> usize {
     let mut times = 0usize;
     for piece in bytes.windows(these.len().max(1)) {
@@ -273,7 +273,7 @@ pub fn times(bytes: &[u8], these: &[u8]) -> usize {
     times
 }
 
-/// All that a peer is sent, up to the end.
+/// Returns all that a peer is sent, up to the end.
 pub fn received(alloc: Global, stream: &mut TcpStream) -> io::Result<Vec<u8>> {
     let mut bytes = Vec::new(alloc);
     stream.read_to_end(&mut bytes)?;

@@ -182,7 +182,7 @@ fn a_sink_that_fails_in(
     Ok(())
 }
 
-/// Behind the time of grace it ends also where its records are not taken, and no sender hears of one.
+/// After the time of grace it ends also where its records are not taken, and no sender hears of one.
 #[test]
 fn a_sink_that_takes_nothing_is_not_awaited_at_the_end(rt: HostRuntime) -> Result<(), Fail> {
     let store = RefCell::new(Store::new(rt.alloc()));
@@ -324,14 +324,14 @@ fn too_many_in(rt: &impl Abort, host: &HostRuntime, scene: &mut Scene<'_>) -> Re
     Ok(())
 }
 
-/// A store takes so many bytes more.
+/// A store takes this many bytes more.
 fn give_room(store: &RefCell<Store>, room: usize) {
     if let Ok(mut store) = store.try_borrow_mut() {
         store.room = room;
     }
 }
 
-/// A store fails behind so many writes and syncs.
+/// A store fails after this many writes and syncs.
 fn fail_behind(store: &RefCell<Store>, calls: usize) {
     if let Ok(mut store) = store.try_borrow_mut() {
         store.calls = calls;

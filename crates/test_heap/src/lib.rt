@@ -47,22 +47,22 @@ impl<B: Allocator> TestHeap<B> {
         self.counts.peak.set(self.counts.live.get());
     }
 
-    /// Whether a request is still to be refused.
+    /// Returns whether a request is still to be refused.
     pub fn is_waiting(&self) -> bool {
         self.counts.left.get() > 0
     }
 
-    /// The bytes of all requests that were granted so far.
+    /// Returns the bytes of all requests that were granted so far.
     pub fn requested(&self) -> u64 {
         self.counts.requested.get()
     }
 
-    /// The bytes that were granted and not given back.
+    /// Returns the bytes that were granted and not given back.
     pub fn live(&self) -> u64 {
         self.counts.live.get()
     }
 
-    /// The most of them at a time.
+    /// Returns the most of them at a time.
     pub fn peak(&self) -> u64 {
         self.counts.peak.get()
     }
@@ -78,7 +78,7 @@ impl<B: Allocator> Drop for TestHeap<B> {
 }
 
 impl Counts {
-    /// Counts a request, and answers whether it is the one to be refused.
+    /// Counts a request, and returns whether it is the one to be refused.
     fn note_request(&self) -> bool {
         let before = self.left.get();
         self.left.set(before.saturating_sub(1));

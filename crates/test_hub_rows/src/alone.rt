@@ -38,7 +38,7 @@ impl Life {
         }
     }
 
-    /// The bytes that are to come.
+    /// Returns the bytes that are to come.
     pub fn rest(&self) -> &[u8] {
         self.stream.get(self.taken..).unwrap_or(&[])
     }
@@ -63,7 +63,7 @@ impl Life {
         Ok(true)
     }
 
-    /// Why it is not what its own bytes give, if it isn't.
+    /// Returns why it is not what its own bytes give, if it isn't.
     pub fn difference(&self, alloc: Global) -> Result<Option<&'static str>, Miss> {
         let name = String::from_str(alloc, "r")?;
         let config = Config::checked(name, 512, 0, 1, 4, 100, 100).ok_or("no settings")?;

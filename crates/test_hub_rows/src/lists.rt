@@ -26,7 +26,8 @@ struct Bench<'a> {
     lives: Vec<Option<Life>>,
 }
 
-/// Makes the list of turns of a number, with a request for memory refused, and answers what differs first, if anything does.
+/// Makes the list of turns of a number, with a request for memory refused, and returns what differs first, if
+/// anything does.
 pub fn difference(
     alloc: Global,
     heap: Heap<'_>,
@@ -99,7 +100,7 @@ fn make<'a>(bench: &mut Bench<'a>, turn: &Turn<'_>) -> TurnAnswer<Heap<'a>> {
     bench.hub.make(&bench.config, RULE, turn)
 }
 
-/// Hears so many bytes at most of those that are to come.
+/// Hears this many bytes at most of those that are to come.
 fn hear<'a>(bench: &mut Bench<'a>, key: usize, most: usize) -> TurnAnswer<Heap<'a>> {
     let rest = match bench.lives.get(key) {
         Some(Some(life)) => life.rest(),
@@ -147,7 +148,8 @@ fn note(
     Ok(None)
 }
 
-/// What a connection was told and recorded beside what its own bytes give. All that waits for its peer is handed out before.
+/// Returns what a connection was told and recorded beside what its own bytes give. All that waits for its peer is
+/// handed out before.
 fn compared(
     alloc: Global,
     bench: &mut Bench<'_>,

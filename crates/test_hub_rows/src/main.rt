@@ -1,9 +1,10 @@
 //! Tests of a hub from outside.
 //!
-//! `test_hub_rows FILE COUNT SEED` makes the turns that are the rows of a file, whose format `test_row_files` has, replays a list, and makes then so many
-//! lists of turns that follow from numbers, from this one on. Behind each list what each connection was told and what was recorded of it is
-//! compared with what a server alone makes of its own bytes. In each fourth list a request for memory is refused; the first ten
-//! are made again with each of their requests refused in turn. The first list that differs ends the program.
+//! `test_hub_rows FILE COUNT SEED` makes the turns that are the rows of a file, whose format `test_row_files` has,
+//! replays a list, and makes then this many lists of turns that follow from numbers, from this one on. After each
+//! list what each connection was told and what was recorded of it is compared with what a server alone makes of
+//! its own bytes. In each fourth list a request for memory is refused; the first ten are made again with each of
+//! their requests refused in turn. The first list that differs ends the program.
 #![tactic(auto)]
 
 mod alone;

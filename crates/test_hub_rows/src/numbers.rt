@@ -12,7 +12,7 @@ impl Numbers {
         }
     }
 
-    /// A number below `end`; 0 where that is 0.
+    /// Returns a number below `end`; 0 if that is 0.
     pub fn below(&mut self, end: u32) -> u32 {
         let mut next = self.last;
         next ^= next << 13;
@@ -23,7 +23,7 @@ impl Numbers {
         (high as u32).checked_rem(end).unwrap_or(0)
     }
 
-    /// Whether one of so many falls out.
+    /// Returns whether a draw of one in `count` succeeds.
     pub fn is_one_of(&mut self, count: u32) -> bool {
         self.below(count) == 0
     }

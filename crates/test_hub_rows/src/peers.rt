@@ -21,7 +21,8 @@ const WRONG: &[u8] = b"\x00\x00\x00\x04\x02\x00\x00\x00";
 
 const OTHER: &[u8] = b"AMQP\x03\x01\x00\x00";
 
-/// The bytes of a peer that follow from numbers: deliveries with their ids, and what goes wrong.
+/// Returns the bytes of a peer that follow from numbers: deliveries with their ids, and what goes
+/// wrong.
 pub fn stream(alloc: Global, numbers: &mut Numbers) -> Result<Vec<u8>, Miss> {
     let mut bytes = Vec::new(alloc);
     if numbers.is_one_of(16) {

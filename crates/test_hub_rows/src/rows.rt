@@ -21,8 +21,8 @@ pub const RULE: Rule = Rule {
 /// How many connections there may be.
 pub const LIMIT: usize = 3;
 
-/// The settings of each: frames of 512 bytes, channel 0, the handles 0 and 1, four deliveries of 100 bytes for a link, and a window
-/// of 100 places.
+/// Returns the settings of each: frames of 512 bytes, channel 0, the handles 0 and 1, four deliveries of 100 bytes
+/// for a link, and a window of 100 places.
 pub fn settings(heap: Heap<'_>) -> Result<Config<Heap<'_>>, Miss> {
     let name = String::from_str(heap, "r")?;
     Ok(Config::checked(name, 512, 0, 1, 4, 100, 100).ok_or("no settings")?)
@@ -45,7 +45,7 @@ impl<'a> Rows<'a> {
         }
     }
 
-    /// Makes a turn, and answers it as it stands in a row.
+    /// Makes a turn, and returns it as it stands in a row.
     fn make(&mut self, alloc: Global, turn: &Turn<'_>) -> Result<String, Miss> {
         let answer = made(&mut self.hub, self.heap, turn)?;
         let text = text_of(alloc, &answer)?;

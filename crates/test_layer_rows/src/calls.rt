@@ -8,7 +8,7 @@ use std::alloc::Global;
 use test_row_files::words::{cut, name_of, number, two_numbers};
 use test_row_files::{Heap, Miss};
 
-/// The call that these words name, where a feed has these bytes.
+/// Returns the call that these words name, where a feed has these bytes.
 pub fn call_of<'b>(words: &str, piece: &'b [u8]) -> Result<Call<'b>, Miss> {
     let (name, rest) = name_of(words);
     match (name, rest) {
@@ -22,7 +22,7 @@ pub fn call_of<'b>(words: &str, piece: &'b [u8]) -> Result<Call<'b>, Miss> {
     }
 }
 
-/// The same of a call for a session.
+/// Returns the call for a session that these words name.
 fn session_call(name: &str, words: &str) -> Result<Call<'static>, Miss> {
     let (channel, rest) = channel_and(words)?;
     match name {
@@ -42,7 +42,7 @@ fn session_call(name: &str, words: &str) -> Result<Call<'static>, Miss> {
     }
 }
 
-/// The same of one with one number besides.
+/// Returns the call for a session that these words name, with one number besides the channel.
 fn link_call(name: &str, channel: u16, number: u32) -> Result<Call<'static>, Miss> {
     match name {
         "widen" => Ok(Call::Widen { channel, n: number }),
@@ -62,13 +62,13 @@ fn link_call(name: &str, channel: u16, number: u32) -> Result<Call<'static>, Mis
     }
 }
 
-/// A channel and a handle.
+/// Returns a channel and a handle.
 pub fn place_of(words: &str) -> Result<(u16, u32), Miss> {
     let (channel, handle) = channel_and(words)?;
     Ok((channel, number(handle)?))
 }
 
-/// A channel, and the words behind it.
+/// Returns a channel, and the words after it.
 fn channel_and(words: &str) -> Result<(u16, &str), Miss> {
     let (channel, rest) = cut(words, ' ')?;
     let channel = channel.parse::<u16>();
@@ -84,7 +84,7 @@ fn outcome_of(word: &str) -> Result<Outcome, Miss> {
     }
 }
 
-/// What a call answered.
+/// Returns what a call answered.
 pub fn told(alloc: Global, answer: &Answer<Heap<'_>>) -> Result<String, Miss> {
     match answer {
         Answer::Fed(fed) => told_fed(alloc, *fed),
@@ -98,7 +98,7 @@ pub fn told(alloc: Global, answer: &Answer<Heap<'_>>) -> Result<String, Miss> {
     }
 }
 
-/// The bytes that were moved out.
+/// Returns the bytes that were moved out.
 pub fn told_bytes(alloc: Global, bytes: &[u8]) -> Result<String, Miss> {
     if bytes.is_empty() {
         return Ok(String::from_str(alloc, "nothing")?);
@@ -106,7 +106,7 @@ pub fn told_bytes(alloc: Global, bytes: &[u8]) -> Result<String, Miss> {
     parts_of(alloc, bytes)
 }
 
-/// How many bytes were used, and the event, or what else came of it.
+/// Returns how many bytes were used, and the event, or what else came of it.
 pub fn told_fed(alloc: Global, fed: Fed) -> Result<String, Miss> {
     let used = fed.used;
     match fed.outcome {
@@ -115,7 +115,8 @@ pub fn told_fed(alloc: Global, fed: Fed) -> Result<String, Miss> {
     }
 }
 
-/// The id, the tag, the format and the message of a delivery, and whether its sender settled it.
+/// Returns the id, the tag, the format and the message of a delivery, and whether its sender
+/// settled it.
 pub fn told_taken(alloc: Global, taken: &Taken<Heap<'_>>) -> Result<String, Miss> {
     let tag = parts_of(alloc, taken.delivery_tag.as_bytes())?;
     let message = parts_of(alloc, &taken.message.to_vec(alloc)?)?;

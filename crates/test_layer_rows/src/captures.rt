@@ -8,7 +8,7 @@ use std::io::Read;
 use std::rt::Files;
 use test_row_files::Miss;
 
-/// What comes of a stream. It misses where a cutting changes messages or output.
+/// Returns the result of a stream. It misses where a cutting changes messages or output.
 pub fn received<R: Files + AllocGlobal>(rt: &R, name: &str) -> Result<Received, Miss> {
     let mut stream = Vec::new(rt.alloc());
     let mut file = fs::open(rt, name)?;

@@ -32,7 +32,7 @@ pub struct Receiving<'a> {
     heap: Heap<'a>,
     endpoint: Option<Endpoint<Heap<'a>>>,
     taken: Option<Taken<Heap<'a>>>,
-    /// So many bytes of a unit that waits for memory were fed.
+    /// This many bytes of a unit that waits for memory were fed.
     waiting: usize,
     watched: (u16, u32),
     settings: String,
@@ -172,14 +172,14 @@ impl<'a> Receiving<'a> {
         self.moved_out(alloc, room, bytes.get(..count).unwrap_or(&[]))
     }
 
-    /// Keeps an output and what it moved out, and answers how many bytes that was.
+    /// Keeps an output and what it moved out, and returns how many bytes that was.
     fn moved_out(&mut self, alloc: Global, room: &str, bytes: &[u8]) -> Result<String, Miss> {
         let words = format!(in alloc; "output {room}")?;
         self.noted(alloc, words.as_str(), told_bytes(alloc, bytes)?)?;
         Ok(format!(in alloc; "{}", bytes.len())?)
     }
 
-    /// Keeps a call and its answer, and answers that.
+    /// Keeps a call and its answer, and returns that.
     fn noted(&mut self, alloc: Global, words: &str, answer: String) -> Result<String, Miss> {
         let told = String::from_str(alloc, answer.as_str())?;
         let words = String::from_str(alloc, words)?;
@@ -207,7 +207,7 @@ impl<'a> Receiving<'a> {
         compared(alloc, &self.made, answers.as_slice())
     }
 
-    /// What each call feeds.
+    /// Returns what each call feeds.
     fn pieces(&self, alloc: Global) -> Result<Vec<Vec<u8>>, Miss> {
         let mut pieces = Vec::new(alloc);
         for made in self.made.iter() {
@@ -217,7 +217,7 @@ impl<'a> Receiving<'a> {
         Ok(pieces)
     }
 
-    /// The calls, with a feed of nothing behind each feed.
+    /// Returns the calls, with a feed of nothing after each feed.
     fn calls<'b>(&self, alloc: Global, pieces: &'b [Vec<u8>]) -> Result<Vec<Call<'b>>, Miss> {
         let mut calls = Vec::new(alloc);
         for (made, piece) in self.made.iter().zip(pieces.iter()) {
@@ -231,7 +231,8 @@ impl<'a> Receiving<'a> {
     }
 }
 
-/// Whether calls answered as they did, where one of a feed that was told of refused memory is that of the feed behind it.
+/// Returns whether calls answered as they did, if one of a feed that was told of refused memory is that of the
+/// feed after it.
 fn compared(alloc: Global, made: &[Made], answers: &[Answer<Heap<'_>>]) -> Result<String, Miss> {
     let mut answers = answers.iter();
     let mut is_refused = false;
@@ -255,7 +256,7 @@ fn compared(alloc: Global, made: &[Made], answers: &[Answer<Heap<'_>>]) -> Resul
     Ok(String::from_str(alloc, "the same")?)
 }
 
-/// What came of a feed, by the one of nothing behind it where it was refused memory.
+/// Returns the result of a feed, by the one of nothing after it if it was refused memory.
 fn joined(fed: Fed, again: &Answer<Heap<'_>>) -> Fed {
     match (fed.outcome, again) {
         (Outcome::NoMemory, Answer::Fed(again)) => Fed {
@@ -266,7 +267,7 @@ fn joined(fed: Fed, again: &Answer<Heap<'_>>) -> Fed {
     }
 }
 
-/// What a call answers that was refused memory.
+/// Returns what a call answers that was refused memory.
 fn refused(alloc: Global) -> Result<String, Miss> {
     Ok(String::from_str(alloc, "Err(NoMemory)")?)
 }

@@ -52,7 +52,7 @@ impl<'a> LinkRows<'a> {
         }
     }
 
-    /// The same of one that names a range of ids.
+    /// Makes a call that names a range of ids, and says what it answers.
     fn range_call(&mut self, alloc: Global, name: &str, words: &str) -> Result<String, Miss> {
         let (first, last) = two_numbers(words)?;
         match name {
@@ -64,7 +64,7 @@ impl<'a> LinkRows<'a> {
         }
     }
 
-    /// The same of one without an answer.
+    /// Makes a call that has no answer.
     fn quiet_call(&mut self, name: &str, words: &str) -> Result<(), Miss> {
         match name {
             "attach" => self.attach(words)?,
@@ -86,7 +86,7 @@ impl<'a> LinkRows<'a> {
         Ok(())
     }
 
-    /// A transfer with the fields in front of the `<` and the payload behind it.
+    /// Returns a transfer with the fields before the `<` and the payload after it.
     fn transfer(&mut self, alloc: Global, words: &str) -> Result<String, Miss> {
         let (fields, payload) = cut(words, '<')?;
         let payload = payload_of(alloc, payload)?;
@@ -127,8 +127,8 @@ impl<'a> LinkRows<'a> {
         )
     }
 
-    /// What the next transfer is, the id of the delivery that it goes on with, and whether the sender is asked to use
-    /// its credit up.
+    /// Returns what the next transfer is, the id of the delivery that it goes on with, and whether the sender is
+    /// asked to use its credit up.
     fn standing_of_it(&self, alloc: Global) -> Result<String, AllocError> {
         let next = if self.link.next_is_head() {
             "head"
@@ -144,7 +144,7 @@ impl<'a> LinkRows<'a> {
         format!(in alloc; "{next} unfinished={id:?} {drain}")
     }
 
-    /// The ids below 16 that are open.
+    /// Returns the ids below 16 that are open.
     fn open_ids(&self, alloc: Global) -> Result<String, AllocError> {
         let mut text = String::from_str(alloc, "open=")?;
         let mut mark = "";
@@ -185,7 +185,7 @@ impl Subject for LinkRows<'_> {
     }
 }
 
-/// None where a link can't have these bounds.
+/// None if a link can't have these bounds.
 fn terms(
     rcv_settle_mode: ReceiverSettleMode,
     allowed: u32,
@@ -203,7 +203,7 @@ fn least_terms() -> Option<Terms> {
     terms(ReceiverSettleMode::First, 1, 1, 0)
 }
 
-/// The bounds that were asked for, or `None` where a link can't have them.
+/// Returns the bounds that were requested, or `None` where a link can't have them.
 fn bounds(alloc: Global, allowed: u32, max_message_size: u32) -> Result<String, Miss> {
     match LinkBounds::new(allowed, max_message_size) {
         None => Ok(String::from_str(alloc, "None")?),

@@ -48,7 +48,7 @@ fn main(rt: HostRuntime) -> Result<(), Miss> {
     Ok(())
 }
 
-/// What comes of the rows of a file.
+/// Returns the result of the rows of a file.
 fn report_of(alloc: Global, heap: Heap<'_>, file: &RowFile<'_>) -> Result<String, Miss> {
     match file.subject() {
         "link" => file.run(alloc, heap, &mut LinkRows::new(heap)?),

@@ -9,7 +9,7 @@ use std::io::{self, ErrorKind};
 use test_row_files::words::{name_of, number};
 use test_row_files::{Heap, Miss};
 
-/// What was handed up: its id, tag, message-format, whether it was settled, its length and its message.
+/// Returns what was handed up: its id, tag, message-format, whether it was settled, its length and its message.
 pub fn shown_taken<A: Allocator + Copy>(alloc: Global, taken: &Taken<A>) -> Result<String, Miss> {
     let (id, format) = (taken.delivery_id, taken.message_format);
     let tag = str::from_utf8(taken.delivery_tag.as_bytes()).map_err(|_| Miss::Unread(
@@ -26,7 +26,7 @@ pub fn shown_taken<A: Allocator + Copy>(alloc: Global, taken: &Taken<A>) -> Resu
     Ok(format!(in alloc; "{id} {tag} {format} {settled} {len} {message}")?)
 }
 
-/// The bytes of a message, in a new vector of the heap.
+/// Returns the bytes of a message, in a new vector of the heap.
 pub fn copied<A: Allocator + Copy>(
     alloc: Global,
     heap: Heap<'_>,
@@ -38,7 +38,7 @@ pub fn copied<A: Allocator + Copy>(
     }
 }
 
-/// The bytes of a message from this place on, as far as they are one piece.
+/// Returns the bytes of a message from this place on, as far as they are one piece.
 pub fn piece<A: Allocator + Copy>(
     alloc: Global,
     message: &Message<A>,
@@ -48,7 +48,7 @@ pub fn piece<A: Allocator + Copy>(
     told(alloc, message.piece(at))
 }
 
-/// The pieces of a message, one behind the other, up to one that is empty.
+/// Returns the pieces of a message, one after the other, up to one that is empty.
 pub fn joined<A: Allocator + Copy>(alloc: Global, message: &Message<A>) -> Result<String, Miss> {
     let mut bytes = Vec::new(alloc);
     for _ in 0..message.len() {
@@ -61,7 +61,7 @@ pub fn joined<A: Allocator + Copy>(alloc: Global, message: &Message<A>) -> Resul
     told(alloc, bytes.as_slice())
 }
 
-/// How many bytes each piece of a message has, in their order; `none` where there is none.
+/// Returns how many bytes each piece of a message has, in their order; `none` if there is none.
 pub fn sizes<A: Allocator + Copy>(alloc: Global, message: &Message<A>) -> Result<String, Miss> {
     let mut text = String::new(alloc);
     let mut at = 0_usize;
@@ -80,8 +80,8 @@ pub fn sizes<A: Allocator + Copy>(alloc: Global, message: &Message<A>) -> Result
     Ok(text)
 }
 
-/// Writes a message to a vector for `whole`, and else in pieces of at most so many bytes, as `2`, to a writer that may
-/// fail at a call, as in `2 failing 3 Other`.
+/// Writes a message to a vector for `whole`, and else in pieces of at most this many bytes, as `2`, to a writer
+/// that may fail at a call, as in `2 failing 3 Other`.
 pub fn written<A: Allocator + Copy>(
     alloc: Global,
     message: &Message<A>,

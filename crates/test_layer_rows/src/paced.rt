@@ -3,7 +3,7 @@
 use std::alloc::Global;
 use std::io::{self, ErrorKind, Write};
 
-/// Keeps what it is given, at most so many bytes of a call, and may fail at one call.
+/// Keeps what it is given, at most this many bytes of a call, and may fail at one call.
 #[derive(Drop)]
 pub struct PacedWriter {
     bytes: Vec<u8>,
@@ -23,12 +23,12 @@ impl PacedWriter {
         }
     }
 
-    /// What it was given so far.
+    /// Returns what it was given so far.
     pub fn kept(&self) -> &[u8] {
         self.bytes.as_slice()
     }
 
-    /// How often it was called.
+    /// Returns how often it was called.
     pub fn calls(&self) -> u32 {
         self.calls
     }

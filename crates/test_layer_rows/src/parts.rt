@@ -1,4 +1,5 @@
-//! Bytes in parts: a hex text, `600*78` for so many of a byte, and `#7` for a number in four bytes. Texts of many letters.
+//! Bytes in parts: a hex text, `600*78` for this many of a byte, and `#7` for a number in four bytes. Texts of
+//! many letters.
 
 use std::alloc::Global;
 use test_row_files::Miss;
@@ -7,7 +8,7 @@ use test_row_files::words::{bytes_of, hex_of, number};
 /// More bytes than these that are the same are told as `600*78`.
 const MANY: usize = 16;
 
-/// The bytes of all parts, which are parted by spaces.
+/// Returns the bytes of all parts, which are parted by spaces.
 pub fn bytes_of_parts(alloc: Global, words: &str) -> Result<Vec<u8>, Miss> {
     let mut bytes = Vec::new(alloc);
     for part in words.split_whitespace() {
@@ -30,7 +31,8 @@ fn bytes_of_part(alloc: Global, part: &str) -> Result<Vec<u8>, Miss> {
     Ok(Vec::from_elem(alloc, *byte, number(count)? as usize)?)
 }
 
-/// Bytes in parts: as `600*78` where so many follow each other that are the same, and as hex text between.
+/// Returns bytes in parts: as `600*78` where this many follow each other that are the same, and as hex text
+/// between.
 pub fn parts_of(alloc: Global, bytes: &[u8]) -> Result<String, Miss> {
     let mut text = String::new(alloc);
     let mut rest = bytes;
@@ -45,7 +47,7 @@ pub fn parts_of(alloc: Global, bytes: &[u8]) -> Result<String, Miss> {
     Ok(String::from_str(alloc, text.trim_end())?)
 }
 
-/// How many bytes at the front are this one.
+/// Returns how many bytes at the front are this one.
 fn run_of(byte: u8, bytes: &[u8]) -> usize {
     let other = bytes.iter().position(|other| *other != byte);
     other.unwrap_or(bytes.len())
@@ -68,7 +70,7 @@ fn put_run(alloc: Global, run: &[u8], text: &mut String) -> Result<(), Miss> {
     Ok(())
 }
 
-/// A text, or one of so many times the same: `255*r`.
+/// Returns a text, or one of this many times the same: `255*r`.
 pub fn text_of(alloc: Global, word: &str) -> Result<String, Miss> {
     let Some((count, part)) = word.split_once('*') else {
         return Ok(String::from_str(alloc, word)?);

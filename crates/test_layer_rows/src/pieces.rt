@@ -3,7 +3,7 @@
 use std::alloc::{AllocError, Global};
 use test_row_files::Miss;
 
-/// A script and its answers, where each feed that uses up its bytes comes in pieces of so many.
+/// A script and its answers, where each feed that uses up its bytes comes in pieces of this many.
 pub fn cut(
     alloc: Global,
     script: &str,
@@ -30,12 +30,12 @@ pub fn cut(
     Ok((cut_script, cut_answers))
 }
 
-/// A line that has no answer.
+/// Returns a line that has no answer.
 fn is_setting(line: &str) -> bool {
     line.starts_with("config ") || line.starts_with("limit ")
 }
 
-/// The hex text of a feed that uses up its bytes, and its outcome.
+/// Returns the hex text of a feed that uses up its bytes, and its outcome.
 fn whole_feed<'t>(line: &'t str, answer: &'t str) -> Option<(&'t str, &'t str)> {
     let hex = line.strip_prefix("feed ")?;
     let (used, outcome) = answer.strip_prefix("used=")?.split_once(' ')?;

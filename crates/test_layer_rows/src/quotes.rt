@@ -3,7 +3,8 @@
 use std::alloc::Global;
 use test_row_files::Miss;
 
-/// The bytes that stand between quotes, in which `\n`, `\r`, `\t` and `\xff` are one byte each.
+/// Returns the bytes that stand between quotes, in which `\n`, `\r`, `\t` and `\xff` are one byte
+/// each.
 pub fn bytes_in_quotes(alloc: Global, text: &str) -> Result<Vec<u8>, Miss> {
     let inner = text
         .strip_prefix('"')
@@ -19,7 +20,7 @@ pub fn bytes_in_quotes(alloc: Global, text: &str) -> Result<Vec<u8>, Miss> {
     Ok(bytes)
 }
 
-/// The byte that is spelled behind a backslash, and what follows it.
+/// Returns the byte that is spelled after a backslash, and what follows it.
 fn escaped(text: &str) -> Result<(u8, &str), Miss> {
     let (name, behind) = text.split_at_checked(1).ok_or("no escape")?;
     let byte = match name {
@@ -38,7 +39,7 @@ fn hex_byte(text: &str) -> Result<(u8, &str), Miss> {
     Ok((byte, behind))
 }
 
-/// A text in quotes, with `\n` for the end of each line.
+/// Returns a text in quotes, with `\n` for the end of each line.
 pub fn in_quotes(alloc: Global, text: &str) -> Result<String, Miss> {
     let inner = text.replace(alloc, "\n", "\\n")?;
     Ok(format!(in alloc; "\"{inner}\"")?)

@@ -1,14 +1,14 @@
 //! Scripts of `amqp replay`.
 //!
-//! A call is one line of a script or more, parted by ` / `, and answers what they add to the script's answers, parted in
-//! the same way: `replay_script` runs the whole script anew at each call. `config ..` begins another script. Of a bad line
-//! the answer is its number, and the script stays as it was. Besides there are:
+//! A call is one line of a script or more, parted by ` / `, and returns what they add to the script's answers,
+//! parted in the same way: `replay_script` runs the whole script anew at each call. `config ..` begins another
+//! script. Of a bad line the answer is its number, and the script stays as it was. Besides there are:
 //!
-//! - `50 times LINE`: so many lines, and what each of them answers, where it is the same.
-//! - `in pieces of 1 2 3 7`: runs the script again with the bytes of each feed that uses them up in pieces of so many, for
+//! - `50 times LINE`: this many lines, and what each of them answers, if it is the same.
+//! - `in pieces of 1 2 3 7`: runs the script again with the bytes of each feed that uses them up in pieces of this many, for
 //!   each of the numbers. It answers `the same` where all other answers stay as they are.
 //! - `script "TEXT"`: a whole script, and all that it answers, in quotes too.
-//! - `third "TEXT"`: a script that has this as its third line, with good lines in front of it and a bad one behind it.
+//! - `third "TEXT"`: a script that has this as its third line, with good lines before it and a bad one after it.
 
 use crate::pieces::cut;
 use crate::quotes::{bytes_in_quotes, in_quotes};
@@ -80,7 +80,7 @@ impl Script {
         Ok(told)
     }
 
-    /// Adds a line so many times, and tells what each of them answers, where it is the same.
+    /// Adds a line this many times, and tells what each of them answers, if it is the same.
     fn go_on_with_one(&mut self, alloc: Global, count: u32, line: &str) -> Result<String, Miss> {
         let mut lines = String::from_str(alloc, line)?;
         for _ in 1..count {
@@ -107,7 +107,7 @@ impl Script {
     }
 }
 
-/// What a whole script answers.
+/// Returns what a whole script answers.
 fn answers(alloc: Global, script: &[u8]) -> Result<Vec<u8>, ScriptFault> {
     let mut answers = Vec::new(alloc);
     let mut script = script;
@@ -119,7 +119,7 @@ fn answers(alloc: Global, script: &[u8]) -> Result<Vec<u8>, ScriptFault> {
     Ok(answers)
 }
 
-/// What a whole script answers, in quotes, or the fault that ends it.
+/// Returns what a whole script answers, in quotes, or the fault that ends it.
 fn quoted_answer(alloc: Global, script: &[u8]) -> Result<String, Miss> {
     match answers(alloc, script) {
         Ok(answers) => in_quotes(alloc, str::from_utf8(&answers).or(Err("no text"))?),
@@ -127,7 +127,7 @@ fn quoted_answer(alloc: Global, script: &[u8]) -> Result<String, Miss> {
     }
 }
 
-/// A script with this third line.
+/// Returns a script with this third line.
 fn with_third(alloc: Global, line: &[u8]) -> Result<Vec<u8>, Miss> {
     let mut script = Vec::from_slice(alloc, b"config r 512 0 1 4 10 100\nfeed 00\n")?;
     script.extend_from_slice(line)?;

@@ -5,7 +5,7 @@
 //! - `offer HEX`, `offer N of HEX`: a message, or one of N times these bytes. One that is refused comes back.
 //! - `output`: all that waits to be sent, or `nothing`; `output length` how many bytes that is, and `output count HEX` how
 //!   many of them are this one. `bytes M N` are those from M to N of the last output.
-//! - `close`: closes the connection, and answers whether it may be closed.
+//! - `close`: closes the connection, and returns whether it may be closed.
 
 use crate::parts::text_of;
 use amqp_send::{News, SendConfig, Sender};
@@ -139,7 +139,7 @@ impl<'a> Sending<'a> {
     }
 }
 
-/// What a call answers that was refused memory.
+/// Returns what a call answers that was refused memory.
 fn refused(alloc: Global) -> Result<String, Miss> {
     Ok(String::from_str(alloc, "Err(NoMemory)")?)
 }
@@ -155,7 +155,7 @@ fn config_of<'a>(
     })
 }
 
-/// Feeds a piece whole, and answers the last of what it brought.
+/// Feeds a piece whole, and returns the last of what it brought.
 fn fed(sender: &mut Sender<Heap<'_>>, piece: &[u8]) -> Option<News> {
     let mut last = None;
     let mut rest = piece;
@@ -167,7 +167,7 @@ fn fed(sender: &mut Sender<Heap<'_>>, piece: &[u8]) -> Option<News> {
     last
 }
 
-/// The message that a call names, in the memory of the heap; an error where that is refused.
+/// Returns the message that a call names, in the memory of the heap; an error if that is refused.
 fn message_of<'a>(
     alloc: Global,
     heap: Heap<'a>,

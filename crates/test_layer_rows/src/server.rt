@@ -1,8 +1,8 @@
 //! Whole connections, served over readers and writers in memory.
 //!
-//! `serve HEX by N` serves a peer that sends these bytes, at most N of them at a time into a buffer, and answers how it ended. It shows
-//! what was written to the peer, and what was recorded. `serve HEX and M of MORE by N` has M bytes of some more besides;
-//! `nothing` may stand for no bytes.
+//! `serve HEX by N` serves a peer that sends these bytes, at most N of them at a time into a buffer, and returns
+//! how it ended. It shows what was written to the peer, and what was recorded. `serve HEX and M of MORE by N` has
+//! M bytes of some more besides; `nothing` may stand for no bytes.
 
 use amqp_endpoint::{Config, End, Endpoint};
 use amqp_frame::{Device, Direct};
@@ -13,7 +13,7 @@ use std::io::{self, BufReader, Read};
 use test_row_files::words::{bytes_of, hex_of, number};
 use test_row_files::{Heap, Miss, Subject};
 
-/// What came of the last connection.
+/// The result of the last connection.
 #[derive(Drop)]
 pub struct Server<'a> {
     heap: Heap<'a>,
@@ -83,7 +83,7 @@ impl<'a> Server<'a> {
     }
 }
 
-/// The bytes that a call names.
+/// Returns the bytes that a call names.
 fn stream_of(alloc: Global, words: &str) -> Result<Vec<u8>, Miss> {
     let Some((whole, part)) = words.split_once(" and ") else {
         return named_bytes(alloc, words);
@@ -103,7 +103,7 @@ fn named_bytes(alloc: Global, word: &str) -> Result<Vec<u8>, Miss> {
     }
 }
 
-/// Gives at most so many bytes at a time.
+/// Gives at most this many bytes at a time.
 #[derive(Drop)]
 struct Source<'s> {
     rest: &'s [u8],

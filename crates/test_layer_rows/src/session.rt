@@ -1,9 +1,9 @@
 //! A session on the bench: it is fed the bytes of frames, and what it says is written as frames.
 //!
-//! `begin 100 4` is a new session: the places of its window, and how many deliveries of ten bytes a link allows. It has
-//! the handles 0 and 1. A third number is the peer's largest frame, a fourth how many bytes of a delivery a link allows
-//! in place of ten. `said` is what the last call or frame gave to say; `sizes` takes a delivery too, and answers how
-//! long its pieces are.
+//! `begin 100 4` is a new session: the places of its window, and how many deliveries of ten bytes a link allows.
+//! It has the handles 0 and 1. A third number is the peer's largest frame, a fourth how many bytes of a delivery a
+//! link allows in place of ten. `said` is what the last call or frame gave to say; `sizes` takes a delivery too,
+//! and returns how long its pieces are.
 
 use crate::messages::sizes;
 use amqp_link::LinkBounds;
@@ -128,13 +128,13 @@ impl<'a> SessionRows<'a> {
         self.say_flow(flow)
     }
 
-    /// Hands a delivery up, and answers its id and its length.
+    /// Hands a delivery up, and returns its id and its length.
     fn take(&mut self, handle: u32) -> Result<(u32, usize), CallFault> {
         let taken = self.session.take(handle)?;
         Ok((taken.delivery_id, taken.message.len()))
     }
 
-    /// Hands a delivery up, and answers the lengths of its pieces.
+    /// Hands a delivery up, and returns the lengths of its pieces.
     fn take_sizes(&mut self, alloc: Global, handle: u32) -> Result<String, Miss> {
         match self.session.take(handle) {
             Err(fault) => Ok(format!(in alloc; "Err({fault:?})")?),
@@ -149,7 +149,7 @@ impl<'a> SessionRows<'a> {
         Ok(())
     }
 
-    /// Settles the deliveries with these ids, and answers how many they are.
+    /// Settles the deliveries with these ids, and returns how many they are.
     fn settle_range(&mut self, first: u32, last: u32, outcome: Outcome) -> Result<u32, CallFault> {
         self.written = 0;
         let (disposition, named) = self.session.settle_range(first, last, outcome)?;
@@ -233,8 +233,8 @@ impl Subject for SessionRows<'_> {
         }
     }
 
-    /// Its window, its next-incoming-id, what it holds, and the credit, open and ready deliveries of the link at the
-    /// handle 0.
+    /// Returns its window, its next-incoming-id, what it holds, and the credit, open and ready deliveries of the
+    /// link at the handle 0.
     fn shown(&self, alloc: Global) -> Result<String, Miss> {
         let (window, next) = (self.session.window(), self.session.next_incoming_id());
         let held = self.session.held();
@@ -246,7 +246,7 @@ impl Subject for SessionRows<'_> {
     }
 }
 
-/// The number, or this one where the word is away.
+/// Returns the number, or this one where the word is away.
 fn number_or(word: &str, absent: u32) -> Result<u32, Miss> {
     if word.is_empty() {
         return Ok(absent);

@@ -9,8 +9,8 @@ use test_row_files::{Heap, Miss};
 /// The numbers of the settings, in the order of `Config::checked`.
 type Numbers = [u32; 6];
 
-/// What these settings are: the name and the numbers, and behind `idle` the idle-time-out, where one is announced. An error within
-/// where memory for the name is refused.
+/// Returns what these settings are: the name and the numbers, and after `idle` the idle-time-out, if one is
+/// announced. An error within where memory for the name is refused.
 pub fn config_of<'a>(
     alloc: Global,
     heap: Heap<'a>,
@@ -27,7 +27,7 @@ pub fn config_of<'a>(
     Ok(Ok(config.with_idle_time_out(number(time_out)?)))
 }
 
-/// A new endpoint with a copy of these settings; an error within where memory is refused.
+/// Returns a new endpoint with a copy of these settings; an error within if memory is refused.
 pub fn endpoint_of<'a>(
     alloc: Global,
     heap: Heap<'a>,

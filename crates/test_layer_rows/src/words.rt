@@ -16,7 +16,7 @@ pub fn mode_of(word: &str) -> Result<ReceiverSettleMode, Miss> {
     }
 }
 
-/// A transfer whose fields these words state: `id=0 tag=t more`, say. It leaves the others away.
+/// Returns a transfer whose fields these words state: `id=0 tag=t more`, say. It leaves the others away.
 pub fn transfer_of(words: &str) -> Result<Transfer<'_>, Miss> {
     let mut transfer = Transfer {
         handle: 0,
@@ -63,8 +63,8 @@ fn flag(transfer: &mut Transfer<'_>, name: &str) -> Result<(), Miss> {
     Ok(())
 }
 
-/// The bytes of a payload: those of the text; behind a `*` so many zeros; or those of a pattern, as `%7..9`, where the
-/// byte at `i` is the rest of `i` by 251.
+/// Returns the bytes of a payload: those of the text; after a `*` this many zeros; or those of a pattern, as
+/// `%7..9`, where the byte at `i` is the rest of `i` by 251.
 pub fn payload_of(alloc: Global, text: &str) -> Result<Vec<u8>, Miss> {
     if let Some(count) = text.strip_prefix('*') {
         return Ok(Vec::from_elem(alloc, 0, number(count)? as usize)?);
@@ -84,7 +84,8 @@ fn pattern(alloc: Global, first: u32, end: u32) -> Result<Vec<u8>, Miss> {
     Ok(bytes)
 }
 
-/// Bytes as a word: their text, `empty` where there are none, and `%0..LEN` where they are many and follow the pattern.
+/// Returns bytes as a word: their text, `empty` if there are none, and `%0..LEN` if they are many and follow the
+/// pattern.
 pub fn told(alloc: Global, bytes: &[u8]) -> Result<String, Miss> {
     let len = bytes.len();
     if len == 0 {
@@ -107,7 +108,7 @@ fn is_pattern(bytes: &[u8]) -> bool {
         .all(|(i, byte)| *byte == (i % 251) as u8)
 }
 
-/// The two words of a pair, and what stands behind them.
+/// Returns the two words of a pair, and what stands after them.
 pub fn two_words(words: &str) -> Result<(&str, &str, &str), Miss> {
     let (first, behind) = cut(words, ' ')?;
     match behind.split_once(' ') {

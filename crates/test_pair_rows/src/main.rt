@@ -44,7 +44,7 @@ fn main(rt: HostRuntime) -> Result<(), Miss> {
     Ok(())
 }
 
-/// The bytes of which messages are cut: 0 to 250, and again.
+/// Returns the bytes of which messages are cut: 0 to 250, and again.
 fn pattern(alloc: Global) -> Result<Vec<u8>, Miss> {
     let mut bytes = Vec::new(alloc);
     for i in 0..31_000_u32 {

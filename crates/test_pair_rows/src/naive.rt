@@ -136,22 +136,22 @@ impl<'a> Naive<'a> {
         }
     }
 
-    /// Whether the session's window has no place.
+    /// Returns whether the session's window has no place.
     pub fn has_no_place(&self) -> bool {
         self.endpoint.has_no_place()
     }
 
-    /// How many messages came whole that are as long as they may be.
+    /// Returns how many messages came whole that are as long as they may be.
     pub fn longest(&self) -> u64 {
         self.endpoint.longest
     }
 
-    /// How often a frame waited at the sender, since that had too little room.
+    /// Returns how often a frame waited at the sender, since that had too little room.
     pub fn times_blocked(&self) -> u64 {
         self.sender.times_blocked
     }
 
-    /// How often the pipe to the endpoint was full when it was fed, and that to the sender.
+    /// Returns how often the pipe to the endpoint was full when it was fed, and that to the sender.
     pub fn times_full(&self) -> (u64, u64) {
         (self.to_endpoint.times_full, self.to_sender.times_full)
     }

@@ -19,7 +19,7 @@ impl Numbers {
         }
     }
 
-    /// A number below `end`; 0 where that is 0.
+    /// Returns a number below `end`; 0 if that is 0.
     fn below(&mut self, end: u32) -> u32 {
         let mut next = self.last;
         next ^= next << 13;
@@ -30,12 +30,12 @@ impl Numbers {
         (high as u32).checked_rem(end).unwrap_or(0)
     }
 
-    /// Whether one of so many falls out.
+    /// Returns whether a draw of one in `count` succeeds.
     fn is_one_of(&mut self, count: u32) -> bool {
         self.below(count) == 0
     }
 
-    /// One of these; 0 of none.
+    /// Returns one of these; 0 of none.
     fn of_these(&mut self, all: &[u32]) -> u32 {
         let at = self.below((all.len() as u64).min(100) as u32);
         all.get(at as usize).copied().unwrap_or(0)
@@ -60,7 +60,7 @@ struct Maker<'a> {
     offers: u32,
 }
 
-/// The schedule of a number. Most are short; in a few pipes get full.
+/// Returns the schedule of a number. Most are short; in a few pipes get full.
 pub fn schedule<'a>(alloc: Global, bytes: &'a [u8], seed: u64) -> Result<Schedule<'a>, Miss> {
     let mut numbers = Numbers::of(seed);
     let is_long = numbers.is_one_of(32);
@@ -145,7 +145,7 @@ impl<'a> Maker<'a> {
         self.push(turn)
     }
 
-    /// How many bytes a turn moves: half of the time all that there are.
+    /// Returns how many bytes a turn moves: half of the time all that there are.
     fn count(&mut self) -> usize {
         if self.numbers.is_one_of(2) {
             return 8192;
@@ -176,7 +176,7 @@ impl<'a> Maker<'a> {
         Turn::Settle { id, outcome }
     }
 
-    /// The same turn many times; mostly bytes go to one end behind it.
+    /// Makes the same turn many times, mostly with bytes for one end after it.
     fn repeat(&mut self) -> Result<(), Miss> {
         let turn = match self.numbers.below(5) {
             0 => Turn::Grant(0),

@@ -1,4 +1,4 @@
-//! What came of schedules.
+//! The result of schedules.
 
 use crate::naive::Naive;
 use crate::schedule::Schedule;
@@ -9,8 +9,8 @@ use std::alloc::Global;
 use std::fmt::{self, Display, Formatter};
 use test_row_files::Miss;
 
-/// A line about a schedule: how many messages were taken of those taken over, whether they are the first of them, how many bytes
-/// each end took, and how often the endpoint failed or the sender had ended.
+/// Returns a line about a schedule: how many messages were taken of those taken over, whether they are the first
+/// of them, how many bytes each end took, and how often the endpoint failed or the sender had ended.
 pub fn line(alloc: Global, schedule: &Schedule<'_>, joined: &Joined) -> Result<String, Miss> {
     let mut offered = Vec::new(alloc);
     let mut used: usize = 0;
@@ -47,7 +47,7 @@ pub fn line(alloc: Global, schedule: &Schedule<'_>, joined: &Joined) -> Result<S
     )?)
 }
 
-/// Where the naive model has another answer than the pair, or another message; and counts what came.
+/// Returns where the naive model has another answer than the pair, or another message, and counts what came.
 pub fn difference(
     alloc: Global,
     schedule: &Schedule<'_>,
@@ -72,7 +72,7 @@ pub fn difference(
     taken_differ(alloc, joined, &naive)
 }
 
-/// Where another message was taken than that of the naive model.
+/// Returns where another message was taken than that of the naive model.
 fn taken_differ(alloc: Global, joined: &Joined, naive: &Naive<'_>) -> Result<Option<String>, Miss> {
     let (found, wanted) = (joined.pair.taken.len(), naive.taken.len());
     if found != wanted {
@@ -134,7 +134,7 @@ pub struct Came {
 }
 
 impl Came {
-    /// A turn was answered so, and behind it the window has a place or none.
+    /// A turn was answered so, and after it the window has a place or none.
     fn turn(&mut self, answer: TurnAnswer, has_no_place: bool) {
         count(&mut self.turns_of_schedule, true);
         count(&mut self.without_place, has_no_place);

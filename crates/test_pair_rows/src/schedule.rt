@@ -1,10 +1,11 @@
 //! Schedules of a sender and an endpoint, joined by two pipes, as lines of text.
 //!
-//! A line has the places of the window, and words. `o:700` offers a message of so many bytes, `e:8` and `s:8` move so many bytes
-//! to the endpoint and to the sender, `g:1` grants, `w:1` widens, `d:0` drains, and `t:0` takes. `a:7` settles the delivery with
-//! this id as accepted, and so do `j:7` as rejected, `l:7` as released, and `m:7` as modified. Before them may stand other settings:
-//! `frame:4096` is the largest frame of the endpoint, 512 where it is left out, `allowed:1` the deliveries of its link, four
-//! without it, and `longest:600` the longest message, 2000 without it.
+//! A line has the places of the window, and words. `o:700` offers a message of this many bytes, `e:8` and `s:8`
+//! move this many bytes to the endpoint and to the sender, `g:1` grants, `w:1` widens, `d:0` drains, and `t:0`
+//! takes. `a:7` settles the delivery with this id as accepted, and so do `j:7` as rejected, `l:7` as released, and
+//! `m:7` as modified. Before them may stand other settings: `frame:4096` is the largest frame of the endpoint, 512
+//! if it is left out, `allowed:1` the deliveries of its link, four without it, and `longest:600` the longest
+//! message, 2000 without it.
 
 use amqp_endpoint::Config;
 use amqp_pair::{Joined, Turn, joined};
@@ -32,7 +33,7 @@ pub struct Schedule<'a> {
 }
 
 impl<'a> Schedule<'a> {
-    /// No turns yet.
+    /// Makes a schedule without turns.
     pub fn new(alloc: Global, settings: Settings) -> Schedule<'a> {
         Schedule {
             settings,
@@ -40,7 +41,7 @@ impl<'a> Schedule<'a> {
         }
     }
 
-    /// That of a line. Messages are cut of these bytes.
+    /// Returns the schedule of a line. Messages are cut of these bytes.
     pub fn read(alloc: Global, bytes: &'a [u8], line: &str) -> Result<Schedule<'a>, Miss> {
         let (window, words) = cut(line, ' ')?;
         let settings = Settings {
@@ -73,7 +74,8 @@ impl<'a> Schedule<'a> {
         Ok(())
     }
 
-    /// The bytes that a message of such a length has, if it is offered next: they are not those of the one before it.
+    /// Returns the bytes that a message of such a length has, if it is offered next: they are not those of the one
+    /// before it.
     pub fn message(&self, bytes: &'a [u8], len: u32) -> Option<&'a [u8]> {
         let place = self.turns.len() % 251;
         bytes.get(place..place.saturating_add(len as usize))
@@ -99,7 +101,7 @@ impl<'a> Schedule<'a> {
     }
 }
 
-/// A turn that is no offer.
+/// Returns a turn that is no offer.
 fn turn_of<'a>(kind: &str, n: u32) -> Result<Turn<'a>, Miss> {
     let outcome = match kind {
         "e" => return Ok(Turn::ToEndpoint(n as usize)),

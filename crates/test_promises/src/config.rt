@@ -1,4 +1,4 @@
-//! What `amqp_endpoint` promises of settings.
+//! What `amqp_endpoint` promises for settings.
 
 ghost use Rattle.std.specs.Prelude.{◌≡◌, ◌↔◌, [], None, ◌+◌, ◌≤◌, ◌^◌, ◌<◌, length, IfOk, OnOk, IfErr, IsSome, IfSome};
 ghost use Rattle.std.specs.String.{string_bytes};
@@ -11,7 +11,7 @@ use amqp_perform::Outcome as Settlement;
 use amqp_session::LinkView;
 use std::alloc::{AllocError, Allocator};
 
-/// These settings.
+/// Makes a configuration of these settings; `None` if one is outside its range.
 pub fn checked<A: Allocator + Copy>(
     container_id: String<A>,
     max_frame: u32,
@@ -35,7 +35,8 @@ pub fn checked<A: Allocator + Copy>(
     )
 }
 
-/// These settings with this table of limits, at most 16 rows of different prefixes, in place of one that they had.
+/// Returns these settings with this table of limits, in place of one that they had. The table has at most 16
+/// rows with different prefixes.
 pub fn with_limits<A: Allocator + Copy>(
     config: Config<A>,
     limits: Vec<LinkLimit<A>, A>,
@@ -49,21 +50,21 @@ pub fn with_limits<A: Allocator + Copy>(
     config.with_limits(limits)
 }
 
-/// These settings with this idle-time-out, in milliseconds; 0 is none.
+/// Returns these settings with this idle-time-out, in milliseconds; 0 is none.
 pub fn with_idle_time_out<A: Allocator + Copy>(config: Config<A>, milliseconds: u32) -> Config<A>
     ensures { result ≡ record config { idle_time_out = time_out milliseconds } }
 {
     config.with_idle_time_out(milliseconds)
 }
 
-/// A law: its settings are within their ranges.
+/// A law: the settings are within their ranges.
 pub fn is_within<A: Allocator + Copy>(config: &Config<A>)
     ensures { IsConfigured config.now.container_id config.now.max_frame config.now.window }
 {
     config.is_within();
 }
 
-/// The container-id of this side [2.7.1].
+/// Returns the container-id of this side [2.7.1].
 pub fn container_id<A: Allocator + Copy>(config: &Config<A>) -> &str
     ensures name { result.now ≡ config.now.container_id }
     ensures some { 1 ≤ length result.now }
@@ -72,7 +73,7 @@ pub fn container_id<A: Allocator + Copy>(config: &Config<A>) -> &str
     config.container_id()
 }
 
-/// The longest frame that is accepted, in bytes.
+/// Returns the length of the longest frame that is accepted, in bytes.
 pub fn max_frame<A: Allocator + Copy>(config: &Config<A>) -> u32
     ensures value { result ≡ config.now.max_frame }
     ensures least { 512 ≤ result }
@@ -81,7 +82,7 @@ pub fn max_frame<A: Allocator + Copy>(config: &Config<A>) -> u32
     config.max_frame()
 }
 
-/// The highest channel that is offered.
+/// Returns the highest channel that is offered.
 pub fn channel_max<A: Allocator + Copy>(config: &Config<A>) -> u8
     ensures value { result ≡ config.now.channel_max }
     ensures most { result < 256 }
@@ -89,28 +90,28 @@ pub fn channel_max<A: Allocator + Copy>(config: &Config<A>) -> u8
     config.channel_max()
 }
 
-/// The highest handle that is offered [2.7.2].
+/// Returns the highest handle that is offered [2.7.2].
 pub fn handle_max<A: Allocator + Copy>(config: &Config<A>) -> u8
     ensures { result ≡ config.now.handle_max }
 {
     config.handle_max()
 }
 
-/// What each link may keep whose name begins with no prefix of the limits.
+/// Returns what a link may hold whose name begins with no prefix of the limits.
 pub fn bounds<A: Allocator + Copy>(config: &Config<A>) -> LinkBounds
     ensures { result ≡ config.now.bounds }
 {
     config.bounds()
 }
 
-/// What a link of this name may keep.
+/// Returns what a link of this name may hold.
 pub fn bounds_for<A: Allocator + Copy>(config: &Config<A>, name: &[u8]) -> LinkBounds
     ensures { result ≡ bounds_for config.now name.now }
 {
     config.bounds_for(name)
 }
 
-/// The places of a session's window at its begin [2.5.6].
+/// Returns how many places a session's window has at its begin [2.5.6].
 pub fn window<A: Allocator + Copy>(config: &Config<A>) -> u32
     ensures value { result ≡ config.now.window }
     ensures most { result < 2 ^ 31 }
@@ -118,14 +119,14 @@ pub fn window<A: Allocator + Copy>(config: &Config<A>) -> u32
     config.window()
 }
 
-/// The idle-time-out that the open announces, in milliseconds, if one is.
+/// Returns the idle-time-out that the open announces, in milliseconds; `None` if it announces none.
 pub fn idle_time_out<A: Allocator + Copy>(config: &Config<A>) -> Option<u32>
     ensures { result ≡ config.now.idle_time_out }
 {
     config.idle_time_out()
 }
 
-/// An equal one; an error where memory for the container-id or the limits is refused.
+/// Returns an equal configuration. It is an error if memory for the container-id or the limits is refused.
 pub fn copy<A: Allocator + Copy>(config: &Config<A>, alloc: A) -> Result<Config<A>, AllocError>
     ensures { IfOk result (λ c. c ≡ config.now) }
 {

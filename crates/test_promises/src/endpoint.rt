@@ -22,7 +22,7 @@ use amqp_perform::Outcome as Settlement;
 use amqp_session::LinkView;
 use std::alloc::{AllocError, Allocator};
 
-/// An endpoint before the peer's header [2.2].
+/// Makes an endpoint as it is before the peer's header [2.2].
 pub fn new<A: Allocator + Copy>(alloc: A, config: Config<A>) -> Result<Endpoint<A>, AllocError>
     ensures { IfOk result (λ endpoint. IsStart config endpoint) }
 {
@@ -36,7 +36,7 @@ pub fn feed<A: Allocator + Copy>(endpoint: &mut Endpoint<A>, piece: &[u8]) -> Fe
     endpoint.feed(piece)
 }
 
-/// Lends the room that the next bytes of the peer are read into, so that a reader fills it [2.2, 2.3.1].
+/// Lends the room into which a reader may read the peer's next bytes [2.2, 2.3.1].
 pub fn spare<A: Allocator + Copy>(endpoint: &mut Endpoint<A>) -> &mut [u8]
     ensures* writes_back { sem 𝓛 (LendsRoom A.row A.Allocator endpoint.entry result) }
     ensures asks { AsksFor endpoint.old (length result.now) }
@@ -46,8 +46,8 @@ pub fn spare<A: Allocator + Copy>(endpoint: &mut Endpoint<A>) -> &mut [u8]
     endpoint.spare()
 }
 
-/// Takes the first `n` bytes of the room that [`Endpoint::spare`] lends, and acts upon the unit that is then whole, as
-/// [`Endpoint::feed`] does with a piece of them.
+/// Takes the first `n` bytes of the room that [`Endpoint::spare`] lends, and acts upon the unit that is then
+/// whole, as [`Endpoint::feed`] does with a piece of them.
 pub fn filled<A: Allocator + Copy>(endpoint: &mut Endpoint<A>, n: usize) -> Fed
     requires { MayRead endpoint.old n }
     ensures used { result.used ≡ n }
@@ -63,28 +63,28 @@ pub fn holds_a_header<A: Allocator + Copy>(endpoint: &Endpoint<A>)
     endpoint.holds_a_header();
 }
 
-/// A law: no two open deliveries of the session on a channel have one id [2.6.12].
+/// A law: no two open deliveries of the session on a channel have the same id [2.6.12].
 pub fn ids_are_apart<A: Allocator + Copy>(endpoint: &Endpoint<A>, channel: u16)
     ensures { IfSome (live_in (slot_at endpoint.now.connection channel)) IsApart }
 {
     endpoint.ids_are_apart(channel);
 }
 
-/// A law: what stands in the room that is lent are bytes.
+/// A law: the room that is lent consists of bytes.
 pub fn spare_is_bytes<A: Allocator + Copy>(endpoint: &Endpoint<A>)
     ensures { (i : ℕ) → slice_index endpoint.now.input.spare i < 256 }
 {
     endpoint.spare_is_bytes();
 }
 
-/// Whether no bytes wait to be sent.
+/// Returns whether no bytes wait to be sent.
 pub fn is_all_sent<A: Allocator + Copy>(endpoint: &Endpoint<A>) -> bool
     ensures { IsTrue result ↔ (endpoint.now.unsent ≡ []) }
 {
     endpoint.is_all_sent()
 }
 
-/// The first bytes that wait to be sent, as many as lie in one piece.
+/// Returns the first bytes that wait to be sent, as many as lie in one piece.
 pub fn unsent_front<A: Allocator + Copy>(endpoint: &Endpoint<A>) -> &[u8]
     ensures front { (behind : List ℕ) × (endpoint.now.unsent ≡ result.now ++ behind) }
     ensures some { 0 < length endpoint.now.unsent → 0 < length result.now }
@@ -92,7 +92,7 @@ pub fn unsent_front<A: Allocator + Copy>(endpoint: &Endpoint<A>) -> &[u8]
     endpoint.unsent_front()
 }
 
-/// Drops the first `n` bytes that wait to be sent, which were written.
+/// Drops the first `n` bytes that wait to be sent, which the caller has written.
 pub fn sent<A: Allocator + Copy>(endpoint: &mut Endpoint<A>, n: usize)
     requires { n ≤ length endpoint.old.unsent }
     ensures new { endpoint.new ≡ record endpoint.old { unsent = drop n endpoint.old.unsent } }
@@ -101,7 +101,7 @@ pub fn sent<A: Allocator + Copy>(endpoint: &mut Endpoint<A>, n: usize)
     endpoint.sent(n);
 }
 
-/// Moves the first bytes that wait to be sent into `out`, as many as it holds, and answers how many.
+/// Moves the first bytes that wait to be sent into `out`, as many as it holds, and returns how many.
 pub fn output<A: Allocator + Copy>(endpoint: &mut Endpoint<A>, out: &mut [u8]) -> usize
     ensures count { result ≡ min (length out.old) (length endpoint.old.unsent) }
     ensures read { out.new ≡ take result endpoint.old.unsent ++ drop result out.old }
@@ -111,14 +111,14 @@ pub fn output<A: Allocator + Copy>(endpoint: &mut Endpoint<A>, out: &mut [u8]) -
     endpoint.output(out)
 }
 
-/// What it was set up with.
+/// Returns what the endpoint was set up with.
 pub fn config<A: Allocator + Copy>(endpoint: &Endpoint<A>) -> &Config<A>
     ensures { result.now ≡ endpoint.now.connection.config }
 {
     endpoint.config()
 }
 
-/// Whether the connection is over.
+/// Returns whether the connection is over.
 pub fn is_over<A: Allocator + Copy>(endpoint: &Endpoint<A>) -> bool
     ensures value { result ≡ is_dead endpoint.now.connection.phase }
     ensures stage { IsOver endpoint.now.input.stage → result ≡ true }
@@ -126,28 +126,28 @@ pub fn is_over<A: Allocator + Copy>(endpoint: &Endpoint<A>) -> bool
     endpoint.is_over()
 }
 
-/// Whether no byte waits in the buffer.
+/// Returns whether no byte waits in the buffer.
 pub fn is_between<A: Allocator + Copy>(endpoint: &Endpoint<A>) -> bool
     ensures { IsTrue result ↔ (endpoint.now.input.filled ≡ []) }
 {
     endpoint.is_between()
 }
 
-/// The bytes that count as held.
+/// Returns the bytes held.
 pub fn held<A: Allocator + Copy>(endpoint: &Endpoint<A>) -> u64
     ensures { result ≡ held endpoint.now }
 {
     endpoint.held()
 }
 
-/// The places that are left of the incoming window of the session on a channel [2.5.6].
+/// Returns how many places of the incoming window are left in the session on a channel [2.5.6].
 pub fn window<A: Allocator + Copy>(endpoint: &Endpoint<A>, channel: u16) -> Option<u32>
     ensures { result ≡ option_map (λ s. s.window) (live_in (slot_at endpoint.now.connection channel)) }
 {
     endpoint.window(channel)
 }
 
-/// The live link at a handle of the session on a channel [2.6.2].
+/// Returns a view of the live link at a handle of the session on a channel [2.6.2]; `None` if none is live.
 pub fn link<A: Allocator + Copy>(
     endpoint: &Endpoint<A>,
     channel: u16,
@@ -158,8 +158,8 @@ pub fn link<A: Allocator + Copy>(
     endpoint.link(channel, handle)
 }
 
-/// The first handle from one on, of the session on a channel, whose link has less credit than that, and is allowed more beside its
-/// credit and its open deliveries [2.6.7].
+/// Returns the first handle, from `from` on, whose link in the session on a channel has less credit than
+/// `credit` and can be granted more [2.6.7].
 pub fn first_lacking<A: Allocator + Copy>(
     endpoint: &Endpoint<A>,
     channel: u16,
@@ -171,7 +171,7 @@ pub fn first_lacking<A: Allocator + Copy>(
     endpoint.first_lacking(channel, from, credit)
 }
 
-/// Gives the link at a handle `n` places of credit more, and writes the flow that says so [2.6.7].
+/// Grants the link at a handle `n` more places of credit, and writes the flow that says so [2.6.7].
 pub fn grant<A: Allocator + Copy>(
     endpoint: &mut Endpoint<A>,
     channel: u16,
@@ -194,7 +194,7 @@ pub fn widen<A: Allocator + Copy>(
     endpoint.widen(channel, n)
 }
 
-/// Asks the sender on the link at a handle to use its credit up, by the flow that it writes [2.6.7].
+/// Asks the sender on the link at a handle to use its credit up, by a flow that it writes [2.6.7].
 pub fn drain<A: Allocator + Copy>(
     endpoint: &mut Endpoint<A>,
     channel: u16,
@@ -216,7 +216,8 @@ pub fn take<A: Allocator + Copy>(
     endpoint.take(channel, handle)
 }
 
-/// Tells the sender what became of the delivery of a session with this id, by the disposition that it writes [2.6.12].
+/// Tells the sender what became of the delivery of a session with this id, by a disposition that it writes
+/// [2.6.12].
 pub fn settle<A: Allocator + Copy>(
     endpoint: &mut Endpoint<A>,
     channel: u16,
@@ -228,8 +229,8 @@ pub fn settle<A: Allocator + Copy>(
     endpoint.settle(channel, id, outcome)
 }
 
-/// Tells the sender what became of the open deliveries of a session whose ids the range from `first` to `last` covers [2.7.6,
-/// 2.8.10], by the one disposition that it writes, and answers how many it named.
+/// Tells the sender what became of the open deliveries of a session with ids from `first` to `last`, by one
+/// disposition that it writes [2.7.6, 2.8.10]. Returns how many deliveries that names.
 pub fn settle_range<A: Allocator + Copy>(
     endpoint: &mut Endpoint<A>,
     channel: u16,
@@ -242,8 +243,8 @@ pub fn settle_range<A: Allocator + Copy>(
     endpoint.settle_range(channel, first, last, outcome)
 }
 
-/// Ends the link at a handle, by the detach with closed true that it writes [2.6.6], and answers how many ready deliveries are
-/// dropped.
+/// Ends the link at a handle, by a detach with closed true that it writes [2.6.6]. Returns how many ready
+/// deliveries were dropped.
 pub fn detach<A: Allocator + Copy>(
     endpoint: &mut Endpoint<A>,
     channel: u16,
@@ -254,7 +255,7 @@ pub fn detach<A: Allocator + Copy>(
     endpoint.detach(channel, handle)
 }
 
-/// Closes the connection, by the close that it writes [2.4.3], and answers how many ready deliveries are dropped.
+/// Closes the connection, by a close that it writes [2.4.3]. Returns how many ready deliveries were dropped.
 pub fn close<A: Allocator + Copy>(endpoint: &mut Endpoint<A>) -> Result<u32, CallFault>
     ensures { CloseDone endpoint.old endpoint.new (dropped_by result) }
 {
@@ -268,7 +269,7 @@ pub fn heartbeat<A: Allocator + Copy>(endpoint: &mut Endpoint<A>) -> Result<(), 
     endpoint.heartbeat()
 }
 
-/// The input has ended.
+/// Ends the input, and returns how the connection stood.
 pub fn finish<A: Allocator + Copy>(endpoint: &mut Endpoint<A>) -> End
     ensures finished { IsFinished endpoint.old endpoint.new }
     ensures end { result ≡ end_of endpoint.old }
@@ -276,7 +277,7 @@ pub fn finish<A: Allocator + Copy>(endpoint: &mut Endpoint<A>) -> End
     endpoint.finish()
 }
 
-/// Makes these calls on a new endpoint, in order, and gives the endpoint and their answers.
+/// Makes these calls on a new endpoint, in order, and returns the endpoint and the answers.
 pub fn replay<A: Allocator + Copy>(
     alloc: A,
     config: Config<A>,
@@ -288,7 +289,7 @@ pub fn replay<A: Allocator + Copy>(
     amqp_endpoint::replay(alloc, config, calls)
 }
 
-/// Makes one call.
+/// Makes one call, and returns its answer.
 pub fn call<A: Allocator + Copy>(
     endpoint: &mut Endpoint<A>,
     alloc: A,

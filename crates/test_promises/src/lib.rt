@@ -1,4 +1,7 @@
-//! What each layer promises to callers: public calls under the clauses that they have there, handed on.
+//! What each layer promises to its callers. Each function passes a public call on, with the clauses
+//! that the call has in its crate.
+//!
+//! Each module is named after the crate, or the part of it, whose calls it has. Begin with `link.rt`.
 #![tactic(auto)]
 
 pub mod config;

@@ -17,70 +17,71 @@ use amqp_perform::Transfer;
 use std::alloc::{AllocError, Allocator};
 use std::io::{self, Write};
 
-/// A link at its attach [2.6.3].
+/// Makes a link as it is at its attach [2.6.3].
 pub fn attach<A: Allocator + Copy>(alloc: A, terms: Terms) -> Link<A>
     ensures { result ≡ link_begins terms }
 {
     Link::attach(alloc, terms)
 }
 
-/// How many deliveries and how long messages it allows.
+/// Returns how many deliveries the link allows, and how long a message may be.
 pub fn bounds<A: Allocator + Copy>(link: &Link<A>) -> LinkBounds
     ensures { result ≡ link.now.terms.bounds }
 {
     link.bounds()
 }
 
-/// The credit that is left [2.6.7].
+/// Returns the credit that is left [2.6.7].
 pub fn credit<A: Allocator + Copy>(link: &Link<A>) -> u32
     ensures { result ≡ link.now.credit }
 {
     link.credit()
 }
 
-/// The delivery-count [2.6.7].
+/// Returns the delivery-count [2.6.7].
 pub fn delivery_count<A: Allocator + Copy>(link: &Link<A>) -> u32
     ensures { result ≡ link.now.delivery_count }
 {
     link.delivery_count()
 }
 
-/// Whether the sender was asked to use its credit up, and since then no credit was granted and no flow of it left none [2.6.7].
+/// Returns whether the sender was asked to use its credit up, and since then there was no grant and no flow of
+/// the sender that left no credit [2.6.7].
 pub fn is_draining<A: Allocator + Copy>(link: &Link<A>) -> bool
     ensures { result ≡ link.now.draining }
 {
     link.is_draining()
 }
 
-/// Whether the next transfer begins a delivery.
+/// Returns whether the next transfer begins a delivery.
 pub fn next_is_head<A: Allocator + Copy>(link: &Link<A>) -> bool
     ensures { result ≡ is_none link.now.unfinished }
 {
     link.next_is_head()
 }
 
-/// The delivery-id of the delivery whose last transfer has not come.
+/// Returns the delivery-id of the delivery whose last transfer has not come; `None` if there is none.
 pub fn unfinished_id<A: Allocator + Copy>(link: &Link<A>) -> Option<u32>
     ensures { result ≡ option_map (λ d. d.delivery_id) link.now.unfinished }
 {
     link.unfinished_id()
 }
 
-/// The delivery-ids of its open deliveries, in the order in which these began [2.6.12].
+/// Returns the delivery-ids of the open deliveries, in the order in which these began [2.6.12].
 pub fn open_ids<A: Allocator + Copy>(link: &Link<A>) -> OpenIds<'_, A>
     ensures { result ≡ map (λ d. d.delivery_id) (deliveries link.now) }
 {
     link.open_ids()
 }
 
-/// How many deliveries are open [2.6.12].
+/// Returns how many deliveries are open [2.6.12].
 pub fn opened<A: Allocator + Copy>(link: &Link<A>) -> u32
     ensures { result ≡ open_count link.now }
 {
     link.opened()
 }
 
-/// How many are ready to be handed up.
+/// Returns how many deliveries are ready to be handed up.
 pub fn ready<A: Allocator + Copy>(link: &Link<A>) -> u32
     ensures value { result ≡ length link.now.ready }
     ensures most { result ≤ link.now.terms.bounds.allowed }
@@ -88,21 +89,21 @@ pub fn ready<A: Allocator + Copy>(link: &Link<A>) -> u32
     link.ready()
 }
 
-/// How much credit can be granted.
+/// Returns how much credit can be granted.
 pub fn room<A: Allocator + Copy>(link: &Link<A>) -> u32
     ensures { link.now.credit + open_count link.now + result ≡ link.now.terms.bounds.allowed }
 {
     link.room()
 }
 
-/// Whether an open delivery has this id [2.6.12].
+/// Returns whether an open delivery has this id [2.6.12].
 pub fn has_open<A: Allocator + Copy>(link: &Link<A>, id: u32) -> bool
     ensures { result ≡ list_any (has_id id) (deliveries link.now) }
 {
     link.has_open(id)
 }
 
-/// The bytes that count as kept.
+/// Returns the bytes held.
 pub fn held<A: Allocator + Copy>(link: &Link<A>) -> u64
     ensures value { result ≡ link_bytes link.now }
     ensures most { result ≤ link.now.terms.bounds.allowed * (link.now.terms.bounds.max_message_size + 96) }
@@ -110,7 +111,7 @@ pub fn held<A: Allocator + Copy>(link: &Link<A>) -> u64
     link.held()
 }
 
-/// Asks the sender to use its credit up [2.6.7], also where it has none.
+/// Asks the sender to use its credit up [2.6.7], even if it has none.
 pub fn drain<A: Allocator + Copy>(link: &mut Link<A>)
     ensures { link.new ≡ link_after link.old DrainAsked }
 {
@@ -127,8 +128,8 @@ pub fn grant<A: Allocator + Copy>(link: &mut Link<A>, n: u32) -> Result<(), TooM
     link.grant(n)
 }
 
-/// Follows the delivery-count that a flow of the sender states [2.6.7], and answers whether the sender has used its credit up as it
-/// was asked to, which it then is no longer.
+/// Follows the delivery-count that a flow of the sender states [2.6.7]. Returns whether the sender has used its
+/// credit up as it was asked to. If so, it is no longer asked to.
 pub fn sender_count<A: Allocator + Copy>(link: &mut Link<A>, stated: u32) -> Result<bool, LinkFault>
     ensures may { OnOk result (LinkMay link.old (FlowStated (Some stated))) }
     ensures new { OnOk result (link.new ≡ link_after link.old (FlowStated (Some stated))) }
@@ -147,14 +148,14 @@ pub fn take<A: Allocator + Copy>(link: &mut Link<A>) -> Option<Taken<A>>
     link.take()
 }
 
-/// How the delivery with this id stands, as to its settlement by the receiver.
+/// Returns how the delivery with this id stands as to its settlement by the receiver.
 pub fn standing<A: Allocator + Copy>(link: &Link<A>, id: u32) -> Standing
     ensures { result ≡ standing_of id (open_set link.now) }
 {
     link.standing(id)
 }
 
-/// Why the receiver can't settle the ids from `first` to `last`.
+/// Returns why the receiver can't settle the ids from `first` to `last`; `None` if it can.
 pub fn settle_fault<A: Allocator + Copy>(
     link: &Link<A>,
     first: u32,
@@ -165,7 +166,7 @@ pub fn settle_fault<A: Allocator + Copy>(
     link.settle_fault(first, last)
 }
 
-/// The receiver settles the ids from `first` to `last` [2.6.12, 2.8.3].
+/// Settles the ids from `first` to `last` for the receiver [2.6.12, 2.8.3].
 pub fn settle<A: Allocator + Copy>(
     link: &mut Link<A>,
     first: u32,
@@ -180,7 +181,8 @@ pub fn settle<A: Allocator + Copy>(
     link.settle(first, last)
 }
 
-/// The same of ids that are known to have no such fault.
+/// Settles the ids from `first` to `last` as [`Link::settle`] does, if [`Link::settle_fault`] finds no fault in
+/// them.
 pub fn settle_faultless<A: Allocator + Copy>(link: &mut Link<A>, first: u32, last: u32) -> u32
     requires { settle_fault first last (open_set link.old) ≡ None }
     ensures may { LinkMay link.old (ReceiverSettled first last) }
@@ -190,8 +192,8 @@ pub fn settle_faultless<A: Allocator + Copy>(link: &mut Link<A>, first: u32, las
     link.settle_faultless(first, last)
 }
 
-/// The sender settles the ids from `first` to `last` [2.6.12, 2.7.6], also those of deliveries that were not handed up, which stay
-/// open until they are.
+/// Settles the ids from `first` to `last` for the sender [2.6.12, 2.7.6]. Deliveries that were not handed up
+/// are settled too, and stay open until they are handed up.
 pub fn peer_settled<A: Allocator + Copy>(link: &mut Link<A>, first: u32, last: u32) -> u32
     ensures new { link.new ≡ link_after link.old (SenderSettled first last) }
     ensures count { result ≡ newly_settled first last (open_set link.old) }
@@ -200,7 +202,7 @@ pub fn peer_settled<A: Allocator + Copy>(link: &mut Link<A>, first: u32, last: u
     link.peer_settled(first, last)
 }
 
-/// [`Link::standing`] of the delivery with this id, which may be kept under this key.
+/// Returns how the delivery with this id stands, looking under this key first. See [`Link::standing`].
 pub fn standing_at<A: Allocator + Copy>(link: &Link<A>, key: usize, id: u32) -> Standing
     requires { IsOnce id id (open_set link.now) }
     ensures { result ≡ standing_of id (open_set link.now) }
@@ -208,7 +210,8 @@ pub fn standing_at<A: Allocator + Copy>(link: &Link<A>, key: usize, id: u32) -> 
     link.standing_at(key, id)
 }
 
-/// [`Link::settle`] of the delivery with this id, which may be kept under this key, if it awaits that.
+/// Settles the delivery with this id for the receiver if it awaits that, looking under this key first. See
+/// [`Link::settle`].
 pub fn settle_at<A: Allocator + Copy>(link: &mut Link<A>, key: usize, id: u32) -> Standing
     requires once { IsOnce id id (open_set link.old) }
     requires faultless { IsAwaiting (standing_of id (open_set link.old)) → settle_fault id id (open_set link.old) ≡ None }
@@ -220,7 +223,7 @@ pub fn settle_at<A: Allocator + Copy>(link: &mut Link<A>, key: usize, id: u32) -
     link.settle_at(key, id)
 }
 
-/// [`Link::peer_settled`] of the delivery with this id, which may be kept under this key.
+/// Settles the delivery with this id for the sender, looking under this key first. See [`Link::peer_settled`].
 pub fn peer_settled_at<A: Allocator + Copy>(link: &mut Link<A>, key: usize, id: u32) -> u32
     requires { IsOnce id id (open_set link.old) }
     ensures new { link.new ≡ link_after link.old (SenderSettled id id) }
@@ -245,7 +248,8 @@ pub fn transfer<A: Allocator + Copy>(
     link.transfer(transfer, payload)
 }
 
-/// [`Link::transfer`] of a transfer in which [`Link::judge`] finds no fault now, and which is not judged again.
+/// Takes a transfer in which [`Link::judge`] finds no fault now, without judging it again. See
+/// [`Link::transfer`].
 pub fn transfer_judged<A: Allocator + Copy>(
     link: &mut Link<A>,
     transfer: &Transfer<'_>,
@@ -261,7 +265,8 @@ pub fn transfer_judged<A: Allocator + Copy>(
     link.transfer_judged(transfer, payload)
 }
 
-/// The fault with which [`Link::transfer`] would refuse a transfer and its payload now, but for want of memory.
+/// Returns the fault with which [`Link::transfer`] would refuse a transfer and its payload now; `None` if it
+/// would find none. It never returns `NoMemory`.
 pub fn judge<A: Allocator + Copy>(
     link: &Link<A>,
     transfer: &Transfer<'_>,
@@ -272,8 +277,8 @@ pub fn judge<A: Allocator + Copy>(
     link.judge(transfer, payload)
 }
 
-/// What a transfer and its payload come to now [2.6.14], but for want of memory, where `known` says whether an open delivery of the
-/// session has the id that the transfer states.
+/// Returns what a transfer and its payload result in now [2.6.14], if memory is not refused. `known` says
+/// whether an open delivery of the session has the id that the transfer states.
 pub fn verdict<A: Allocator + Copy>(
     link: &Link<A>,
     known: bool,
@@ -285,28 +290,28 @@ pub fn verdict<A: Allocator + Copy>(
     link.verdict(known, transfer, payload)
 }
 
-/// Drops the link with its open deliveries, and answers how many were ready and not handed up.
+/// Drops the link with its open deliveries, and returns how many were ready and not handed up.
 pub fn drop_all<A: Allocator + Copy>(link: Link<A>) -> u32
     ensures { result ≡ length link.ready }
 {
     link.drop_all()
 }
 
-/// How many bytes it has.
+/// Returns the length of the message, in bytes.
 pub fn len<A: Allocator + Copy>(message: &Message<A>) -> usize
     ensures { result ≡ length message.now }
 {
     message.len()
 }
 
-/// Whether it has none.
+/// Returns whether the message is empty.
 pub fn is_empty<A: Allocator + Copy>(message: &Message<A>) -> bool
     ensures { IsTrue result ↔ (message.now ≡ []) }
 {
     message.is_empty()
 }
 
-/// Its bytes from `at` on, as many as lie in one piece.
+/// Returns the message's bytes from `at` on, as many as lie in one piece.
 pub fn piece<A: Allocator + Copy>(message: &Message<A>, at: usize) -> &[u8]
     ensures front { (behind : List ℕ) × (drop at message.now ≡ result.now ++ behind) }
     ensures some { at < length message.now → 0 < length result.now }
@@ -314,7 +319,7 @@ pub fn piece<A: Allocator + Copy>(message: &Message<A>, at: usize) -> &[u8]
     message.piece(at)
 }
 
-/// Its bytes in a new vector.
+/// Returns the message's bytes in a new vector.
 pub fn to_vec<A: Allocator + Copy, B: Allocator>(
     message: &Message<A>,
     alloc: B,
@@ -324,7 +329,7 @@ pub fn to_vec<A: Allocator + Copy, B: Allocator>(
     message.to_vec(alloc)
 }
 
-/// Writes its bytes.
+/// Writes the message's bytes to the device.
 pub fn write_to<A: Allocator + Copy, W: Write>(
     message: &Message<A>,
     writer: &mut Device<W>,
@@ -341,7 +346,7 @@ pub fn write_to<A: Allocator + Copy, W: Write>(
     message.write_to(writer)
 }
 
-/// The tag's bytes.
+/// Returns the tag's bytes.
 pub fn as_bytes(tag: &Tag) -> &[u8]
     ensures value { result.now ≡ tag.now }
     ensures within { length tag.now ≤ 32 }
@@ -349,7 +354,7 @@ pub fn as_bytes(tag: &Tag) -> &[u8]
     tag.as_bytes()
 }
 
-/// These bounds.
+/// Makes bounds of these numbers; `None` if one is outside its range.
 pub fn new(allowed: u32, max_message_size: u32) -> Option<LinkBounds>
     ensures some { IsSome result ↔ IsBounded allowed max_message_size }
     ensures is { IfSome result (λ bounds. bounds ≡ record { allowed = allowed; max_message_size = max_message_size }) }
@@ -357,7 +362,7 @@ pub fn new(allowed: u32, max_message_size: u32) -> Option<LinkBounds>
     LinkBounds::new(allowed, max_message_size)
 }
 
-/// How many deliveries are allowed, credit and open ones together.
+/// Returns how many deliveries are allowed, credit and open ones together.
 pub fn allowed(linkbounds: LinkBounds) -> u32
     ensures value { result ≡ linkbounds.allowed }
     ensures within { IsBounded linkbounds.allowed linkbounds.max_message_size }
@@ -365,7 +370,7 @@ pub fn allowed(linkbounds: LinkBounds) -> u32
     linkbounds.allowed()
 }
 
-/// How long a message may be, in bytes [2.7.3].
+/// Returns how long a message may be, in bytes [2.7.3].
 pub fn max_message_size(linkbounds: LinkBounds) -> u32
     ensures { result ≡ linkbounds.max_message_size }
 {

@@ -13,8 +13,8 @@ ghost use Rattle.amqp_perform.specs.Said.{said, said_frame};
 
 use amqp_perform::{BodyFault, Disposition, Flow, LinkFlow, Outcome, Performative, Transfer};
 
-/// Reads the transfer that a frame's body begins with into `transfer`, and answers how many bytes it takes, as [`read_body`] reads it
-/// [2.7.5].
+/// Reads the transfer that a frame's body begins with into `transfer`, as [`read_body`] reads it, and returns
+/// how many bytes it takes; `None` if the body begins with no transfer [2.7.5].
 pub fn read_transfer_into<'a>(bytes: &'a [u8], transfer: &mut Transfer<'a>) -> Option<usize>
     ensures within { IfSome result (λ n. n ≤ length bytes.now) }
     ensures exact { IfSome result (λ n. IsRead bytes.now (Ok (performative.Transfer transfer.new, n))) }
@@ -23,7 +23,8 @@ pub fn read_transfer_into<'a>(bytes: &'a [u8], transfer: &mut Transfer<'a>) -> O
     amqp_perform::read_transfer_into(bytes, transfer)
 }
 
-/// The transfer that a frame's body begins with, and how many bytes it takes, as [`read_body`] reads it [2.7.5].
+/// Returns the transfer that a frame's body begins with, as [`read_body`] reads it, and how many bytes it
+/// takes; `None` if the body begins with no transfer [2.7.5].
 pub fn read_transfer_body(bytes: &[u8]) -> Option<(Transfer<'_>, usize)>
     ensures within { IfSome result (λ r. r.1 ≤ length bytes.now) }
     ensures exact { IfSome result (λ r. IsRead bytes.now (Ok (performative.Transfer r.0, r.1))) }
@@ -32,7 +33,7 @@ pub fn read_transfer_body(bytes: &[u8]) -> Option<(Transfer<'_>, usize)>
     amqp_perform::read_transfer_body(bytes)
 }
 
-/// The performative that a frame's body begins with, and how many bytes it takes [2.7].
+/// Returns the performative that a frame's body begins with, and how many bytes it takes [2.7].
 pub fn read_body(bytes: &[u8]) -> Result<(Performative<'_>, usize), BodyFault>
     ensures within { IfOk result (λ r. r.1 ≤ length bytes.now) }
     // What is read is what the body says.
@@ -47,7 +48,8 @@ pub fn read_body(bytes: &[u8]) -> Result<(Performative<'_>, usize), BodyFault>
     amqp_perform::read_body(bytes)
 }
 
-/// Whether a frame's body, which begins with a value of at most 32 levels, begins with a performative, as [`read_body`] reads it [2.7].
+/// Returns whether a frame's body begins with a performative, as [`read_body`] reads it. The body has to begin
+/// with a value of at most 32 levels [2.7].
 pub fn is_performative(body: &[u8]) -> bool
     requires { BeginsWithin 32 body.now }
     ensures { result ≡ is_some (body_at body.now) }
@@ -55,7 +57,7 @@ pub fn is_performative(body: &[u8]) -> bool
     amqp_perform::is_performative(body)
 }
 
-/// Writes a frame at the front of `out`.
+/// Writes a frame at the front of `out`, and returns its length in bytes; `None` if it does not fit.
 pub fn write_frame(
     channel: u16,
     performative: &Performative<'_>,
@@ -89,7 +91,7 @@ pub fn write_disposition(
     amqp_perform::write_disposition(channel, p, payload, out)
 }
 
-/// The flow of a link as a performative.
+/// Makes a performative of the flow of a link.
 pub fn flow(flow: LinkFlow) -> Flow<'static>
     ensures { said (performative.Flow result) ≡ stated_said flow }
 {
@@ -103,8 +105,8 @@ pub fn write_link_flow(channel: u16, flow: LinkFlow, out: &mut [u8]) -> Option<u
     amqp_perform::write_link_flow(channel, flow, out)
 }
 
-/// Writes the frame of the disposition with which a receiver tells what became of the deliveries with the ids from `first` to
-/// `last` [2.7.6], as [`write_frame`] does.
+/// Writes the frame of the disposition by which a receiver tells what became of the deliveries with the ids
+/// from `first` to `last` [2.7.6], as [`write_frame`] does.
 pub fn write_settlement(
     channel: u16,
     first: u32,

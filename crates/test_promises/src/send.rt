@@ -9,7 +9,7 @@ ghost use Rattle.amqp_send.specs.Sendings.{SendEvent, send_after, offer_fault, m
 use amqp_send::{News, OfferFault, SendConfig, Sender};
 use std::alloc::{AllocError, Allocator};
 
-/// A sender that has written the protocol header [2.2].
+/// Makes a sender that has written the protocol header [2.2].
 pub fn new<A: Allocator + Copy>(alloc: A, config: SendConfig<A>) -> Result<Sender<A>, AllocError>
     requires container_id { length (string_bytes config.container_id) ≤ 255 }
     requires name { length (string_bytes config.name) ≤ 255 }
@@ -18,7 +18,7 @@ pub fn new<A: Allocator + Copy>(alloc: A, config: SendConfig<A>) -> Result<Sende
     Sender::new(alloc, config)
 }
 
-/// Takes a message over, which is sent as the receiver allows.
+/// Takes over a message, which is sent as the receiver allows.
 pub fn offer<A: Allocator + Copy>(
     sender: &mut Sender<A>,
     message: Vec<u8, A>,
@@ -32,8 +32,8 @@ pub fn offer<A: Allocator + Copy>(
     sender.offer(message)
 }
 
-/// Takes bytes of the receiver up to the end of its header, of one frame, or to the byte that shows that there is none, and answers
-/// how many, with what they brought.
+/// Takes bytes of the receiver up to the end of its header or of one frame, or up to the byte that shows that
+/// there is no frame. Returns how many it took, and what they resulted in.
 pub fn feed<A: Allocator + Copy>(sender: &mut Sender<A>, piece: &[u8]) -> (usize, Option<News>)
     ensures bound { result.0 ≤ length piece.now }
     ensures does { IsFed sender.old sender.new piece.now result.0 result.1 }
@@ -42,7 +42,7 @@ pub fn feed<A: Allocator + Copy>(sender: &mut Sender<A>, piece: &[u8]) -> (usize
     sender.feed(piece)
 }
 
-/// Moves the first bytes that wait to be sent into `out`, as many as it holds, and answers how many.
+/// Moves the first bytes that wait to be sent into `out`, as many as it holds, and returns how many.
 pub fn output<A: Allocator + Copy>(sender: &mut Sender<A>, out: &mut [u8]) -> usize
     ensures count { result ≡ min (length out.old) (length sender.old.sending.unsent) }
     ensures read { out.new ≡ take result sender.old.sending.unsent ++ drop result out.old }
@@ -50,13 +50,13 @@ pub fn output<A: Allocator + Copy>(sender: &mut Sender<A>, out: &mut [u8]) -> us
     ensures does { Does sender.old sender.new (Output (length out.old)) (MovedOut (take result out.new)) }
     ensures written { can_write sender.new.sending ≡ false }
 
-    // So a loop that moves all out ends.
+    // So a loop that moves all bytes out ends.
     ensures less { 0 < result → left_to_send sender.new.sending < left_to_send sender.old.sending }
 {
     sender.output(out)
 }
 
-/// Closes the connection [2.4.3].
+/// Closes the connection [2.4.3]. Returns whether it could.
 pub fn close<A: Allocator + Copy>(sender: &mut Sender<A>) -> bool
     ensures may { result ≡ may_close sender.old.sending }
     ensures closed { IsTrue result → sender.new ≡ record sender.old { sending = send_after sender.old.sending SendEvent.CloseWritten } }

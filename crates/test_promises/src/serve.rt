@@ -20,7 +20,7 @@ use amqp_serve::{Course, Policy, ServeFault, Server, Stepped};
 use std::alloc::Allocator;
 use std::io::Write;
 
-/// Serves an endpoint, a new one or one that `NoMemory` left.
+/// Serves an endpoint: a new one, or one that `NoMemory` left.
 pub fn serve<A: Allocator + Copy, R: AtHand + Drop, W: Write + HoldsBack + Drop, S: Write + Drop>(
     endpoint: &mut Endpoint<A>,
     reader: &mut Device<R>,
@@ -32,7 +32,7 @@ pub fn serve<A: Allocator + Copy, R: AtHand + Drop, W: Write + HoldsBack + Drop,
     requires writer { ¬ (IsTrue (has_failed writer.old)) }
     requires sink { ¬ (IsTrue (has_failed sink.old)) }
 
-    // A sink that failed is named before a writer, and that before a reader.
+    // A failed sink is named before a failed writer, and a failed writer before a failed reader.
     ensures sink { (result ≡ Err ServeFault.Sink) ↔ IsTrue (has_failed sink.new) }
     ensures write { (result ≡ Err ServeFault.Write) ↔ (IsTrue (has_failed writer.new) × ¬ (IsTrue (has_failed sink.new))) }
     ensures read { (result ≡ Err ServeFault.Read) ↔ (IsTrue (has_failed reader.new) × ¬ (IsTrue (has_failed writer.new)) × ¬ (IsTrue (has_failed sink.new))) }
@@ -40,15 +40,16 @@ pub fn serve<A: Allocator + Copy, R: AtHand + Drop, W: Write + HoldsBack + Drop,
     // Nothing waits to be written while it reads, and it reads only until the connection is over.
     ensures waited { result ≡ Err ServeFault.Read → (endpoint.new.unsent ≡ []) × (is_dead endpoint.new.connection.phase ≡ false) }
 
-    // Where memory was refused the unit that wants it waits in the endpoint, and no message is ready there, unless one was at entry.
+    // If memory was refused, the unit that needs it waits in the endpoint. No message is ready there then,
+    // unless one was at entry.
     ensures starved { result ≡ Err ServeFault.NoMemory → IsStarved endpoint.new }
     ensures taken { HasAllTaken endpoint.old.connection → result ≡ Err ServeFault.NoMemory → HasAllTaken endpoint.new.connection }
 
-    // What was recorded is flushed, and what was written, unless these devices failed.
+    // What was recorded is flushed, and so is what was written, unless these devices failed.
     ensures recorded { ¬ (IsTrue (has_failed sink.new)) → is_flushed sink.new ≡ true }
     ensures flushed { ¬ (IsTrue (has_failed writer.new)) → ¬ (IsTrue (has_failed sink.new)) → is_flushed writer.new ≡ true }
 
-    // What was fed is what was read, and what was written and recorded is what the run over it moved out and took.
+    // What was fed is what was read. What was written and recorded is what the run over it moved out and took.
     ensures served { IfOk result (λ end. (bytes : List ℕ) × Consumes (R.remaining (device_inner reader.old)) (R.remaining (device_inner reader.new)) bytes
         × IsServed policy end bytes (has_ended reader.new) endpoint.old endpoint.new (W.contents (device_inner writer.old)) (W.contents (device_inner writer.new))
         (S.contents (device_inner sink.old)) (S.contents (device_inner sink.new))) }
@@ -95,14 +96,14 @@ pub fn serve_read<A: Allocator + Copy, W: Write + HoldsBack + Drop, S: Write + D
     ensures rule { course.new.rule ≡ course.old.rule }
     ensures course { IsRight course.new endpoint.new.connection }
 
-    // It is so from before they were read, since what stands in that room says nothing.
+    // This holds for the endpoint as it was before they were read, since what is in that room means nothing.
     ensures stepped { (s : EndpointState) → IsKept s endpoint.old → IsStepped course.old.rule (take n endpoint.old.input.spare) result.told result.done s endpoint.new
         (ends W.contents S.contents writer.old sink.old) (ends W.contents S.contents writer.new sink.new) }
 {
     amqp_serve::serve_read(endpoint, course, n, writer, sink)
 }
 
-/// A server serves a piece of what the peer sent, unless its writer or its sink has failed.
+/// Serves a piece of what the peer sent, unless the server's writer or sink has failed.
 pub fn step<A: Allocator + Copy, W: Write + HoldsBack + Drop, S: Write + Drop>(
     server: &mut Server<A>,
     piece: &[u8],
@@ -120,7 +121,8 @@ pub fn step<A: Allocator + Copy, W: Write + HoldsBack + Drop, S: Write + Drop>(
     server.step(piece, writer, sink)
 }
 
-/// A law: by a policy a link lacks all that it is short of the policy's credit, within what it is allowed.
+/// A law: under a policy, a link lacks as much as its credit is below the policy's, but at most what it is
+/// allowed beside its credit and its open deliveries.
 pub fn a_policy_keeps_each_link_at_its_credit()
     ensures { (p : Policy) (l : LiveLink) → credit_lack (rule_of p) (Live l) ≡ min (p.credit - l.link.credit) (l.link.terms.bounds.allowed - l.link.credit - open_count l.link) }
 {

@@ -24,42 +24,42 @@ use amqp_perform::{
 use amqp_session::{CallFault, Done, LinkView, Named, Report, Session, SessionFault, SessionTerms};
 use std::alloc::Allocator;
 
-/// A session at its begin, with no link [2.5.1].
+/// Makes a session as it is at its begin, with no link [2.5.1].
 pub fn begin<A: Allocator + Copy>(alloc: A, terms: SessionTerms) -> Session<A>
     ensures { result ≡ session_begins terms }
 {
     Session::begin(alloc, terms)
 }
 
-/// What the session began with.
+/// Returns what the session began with.
 pub fn terms<A: Allocator + Copy>(session: &Session<A>) -> &SessionTerms
     ensures { result.now ≡ session.now.terms }
 {
     session.terms()
 }
 
-/// A law: no two open deliveries have one id [2.6.12].
+/// A law: no two open deliveries have the same id [2.6.12].
 pub fn ids_are_apart<A: Allocator + Copy>(session: &Session<A>)
     ensures { IsApart session.now }
 {
     session.ids_are_apart();
 }
 
-/// The places of the incoming window that are left [2.5.6].
+/// Returns how many places of the incoming window are left [2.5.6].
 pub fn window<A: Allocator + Copy>(session: &Session<A>) -> u32
     ensures { result ≡ session.now.window }
 {
     session.window()
 }
 
-/// The next-incoming-id [2.5.6].
+/// Returns the next-incoming-id [2.5.6].
 pub fn next_incoming_id<A: Allocator + Copy>(session: &Session<A>) -> u32
     ensures { result ≡ session.now.next_incoming_id }
 {
     session.next_incoming_id()
 }
 
-/// The bytes that count as kept.
+/// Returns the bytes held.
 pub fn held<A: Allocator + Copy>(session: &Session<A>) -> u64
     ensures value { result ≡ session_bytes session.now }
     ensures most { result < 2 ^ 52 }
@@ -67,15 +67,15 @@ pub fn held<A: Allocator + Copy>(session: &Session<A>) -> u64
     session.held()
 }
 
-/// The live link at a handle.
+/// Returns a view of the live link at a handle; `None` if none is live.
 pub fn link<A: Allocator + Copy>(session: &Session<A>, handle: u32) -> Option<LinkView<'_>>
     ensures { IsViewAt (slot_at session.now handle) result }
 {
     session.link(handle)
 }
 
-/// The first handle from one on whose link has less credit than that, and is allowed more beside its credit and its open deliveries
-/// [2.6.7].
+/// Returns the first handle, from `from` on, whose link has less credit than `credit` and can be granted more
+/// [2.6.7]; `None` if there is none.
 pub fn first_lacking<A: Allocator + Copy>(
     session: &Session<A>,
     from: u32,
@@ -86,7 +86,7 @@ pub fn first_lacking<A: Allocator + Copy>(
     session.first_lacking(from, credit)
 }
 
-/// How many deliveries are ready to be handed up, on all links.
+/// Returns how many deliveries are ready to be handed up, on all links.
 pub fn ready<A: Allocator + Copy>(session: &Session<A>) -> u32
     ensures value { result ≡ session_ready session.now }
     ensures most { result ≤ 2 ^ 18 }
@@ -94,14 +94,14 @@ pub fn ready<A: Allocator + Copy>(session: &Session<A>) -> u32
     session.ready()
 }
 
-/// Drops the session with its links, and answers how many deliveries were ready and not handed up.
+/// Drops the session with its links, and returns how many deliveries were ready and not handed up.
 pub fn drop_all<A: Allocator + Copy>(session: Session<A>) -> u32
     ensures { result ≡ session_ready session }
 {
     session.drop_all()
 }
 
-/// Takes an attach of the peer [2.6.3], whose handle is at most handle-max.
+/// Takes an attach of the peer [2.6.3]. Its handle must be at most handle-max.
 pub fn attach<A: Allocator + Copy>(
     session: &mut Session<A>,
     attach: &Attach<'_>,
@@ -182,7 +182,7 @@ pub fn detached<A: Allocator + Copy>(
     session.detached(detach)
 }
 
-/// Takes any frame of the session with its payload, as the call for its performative does.
+/// Takes any frame of the session with its payload, by the call for its performative.
 pub fn frame<A: Allocator + Copy>(
     session: &mut Session<A>,
     performative: &Performative<'_>,
@@ -197,14 +197,14 @@ pub fn frame<A: Allocator + Copy>(
     session.frame(performative, payload, bounds)
 }
 
-/// Why [`Session::widen`] would be refused now.
+/// Returns why [`Session::widen`] would be refused now; `None` if it would be accepted.
 pub fn widen_fault<A: Allocator + Copy>(session: &Session<A>, n: u32) -> Option<CallFault>
     ensures { result ≡ call_fault session.now (Widen n) }
 {
     session.widen_fault(n)
 }
 
-/// Why [`Session::grant`] would be refused now.
+/// Returns why [`Session::grant`] would be refused now; `None` if it would be accepted.
 pub fn grant_fault<A: Allocator + Copy>(
     session: &Session<A>,
     handle: u32,
@@ -215,7 +215,8 @@ pub fn grant_fault<A: Allocator + Copy>(
     session.grant_fault(handle, n)
 }
 
-/// Why [`Session::drain`] and [`Session::detach`] would be refused now.
+/// Returns why [`Session::drain`] and [`Session::detach`] would be refused now; `None` if they would be
+/// accepted.
 pub fn link_fault<A: Allocator + Copy>(session: &Session<A>, handle: u32) -> Option<CallFault>
     ensures drain { result ≡ call_fault session.now (Drain handle) }
     ensures detach { result ≡ call_fault session.now (DetachCall handle) }
@@ -223,14 +224,15 @@ pub fn link_fault<A: Allocator + Copy>(session: &Session<A>, handle: u32) -> Opt
     session.link_fault(handle)
 }
 
-/// Why [`Session::settle`] would be refused now, with any outcome.
+/// Returns why [`Session::settle`] would be refused now, with any outcome; `None` if it would be accepted.
 pub fn settle_fault<A: Allocator + Copy>(session: &Session<A>, id: u32) -> Option<CallFault>
     ensures { (outcome : Outcome) → result ≡ call_fault session.now (Settle id outcome) }
 {
     session.settle_fault(id)
 }
 
-/// Why [`Session::settle_range`] would be refused now, with any outcome.
+/// Returns why [`Session::settle_range`] would be refused now, with any outcome; `None` if it would be
+/// accepted.
 pub fn settle_range_fault<A: Allocator + Copy>(
     session: &Session<A>,
     first: u32,
@@ -241,7 +243,7 @@ pub fn settle_range_fault<A: Allocator + Copy>(
     session.settle_range_fault(first, last)
 }
 
-/// Widens the incoming window by `n` places, and answers the flow that says so [2.5.6].
+/// Widens the incoming window by `n` places, and returns the flow that says so [2.5.6].
 pub fn widen<A: Allocator + Copy>(
     session: &mut Session<A>,
     n: u32,
@@ -256,7 +258,7 @@ pub fn widen<A: Allocator + Copy>(
     session.widen(n)
 }
 
-/// Grants the link at a handle `n` places of credit, and answers the flow that says so [2.6.7].
+/// Grants the link at a handle `n` places of credit, and returns the flow that says so [2.6.7].
 pub fn grant<A: Allocator + Copy>(
     session: &mut Session<A>,
     handle: u32,
@@ -272,7 +274,8 @@ pub fn grant<A: Allocator + Copy>(
     session.grant(handle, n)
 }
 
-/// Grants the link at a handle `n` places of credit, and answers what the flow states, which the caller writes [2.6.7].
+/// Grants the link at a handle `n` places of credit, and returns what the flow states [2.6.7]. The caller has
+/// to write that flow.
 pub fn grant_stated<A: Allocator + Copy>(
     session: &mut Session<A>,
     handle: u32,
@@ -288,7 +291,7 @@ pub fn grant_stated<A: Allocator + Copy>(
     session.grant_stated(handle, n)
 }
 
-/// Asks the sender on the link at a handle to use its credit up, and answers the flow that says so [2.6.7].
+/// Asks the sender on the link at a handle to use its credit up, and returns the flow that says so [2.6.7].
 pub fn drain<A: Allocator + Copy>(
     session: &mut Session<A>,
     handle: u32,
@@ -318,7 +321,7 @@ pub fn take<A: Allocator + Copy>(
     session.take(handle)
 }
 
-/// Settles the delivery with this id, which was handed up [2.6.12], and answers the disposition that says so.
+/// Settles the delivery with this id, which was handed up [2.6.12], and returns the disposition that says so.
 pub fn settle<A: Allocator + Copy>(
     session: &mut Session<A>,
     id: u32,
@@ -334,8 +337,8 @@ pub fn settle<A: Allocator + Copy>(
     session.settle(id, outcome)
 }
 
-/// Settles the open deliveries of all links whose ids stand in the range from `first` to `last`, as [`Session::settle`] does each,
-/// and answers the disposition that says so, and how many it names [2.7.6].
+/// Settles the open deliveries of all links with ids from `first` to `last`, each as [`Session::settle`] does.
+/// Returns the disposition that says so, and how many deliveries it names [2.7.6].
 pub fn settle_range<A: Allocator + Copy>(
     session: &mut Session<A>,
     first: u32,
@@ -353,8 +356,8 @@ pub fn settle_range<A: Allocator + Copy>(
     session.settle_range(first, last, outcome)
 }
 
-/// Settles the open deliveries whose ids stand in the range from `first` to `last`, and answers what the disposition has to say,
-/// which the caller writes [2.7.6].
+/// Settles the open deliveries with ids from `first` to `last`, and returns what the disposition has to say
+/// [2.7.6]. The caller has to write it.
 pub fn settle_named<A: Allocator + Copy>(
     session: &mut Session<A>,
     first: u32,
@@ -371,7 +374,8 @@ pub fn settle_named<A: Allocator + Copy>(
     session.settle_named(first, last)
 }
 
-/// Ends the link at a handle [2.6.6].
+/// Ends the link at a handle [2.6.6]. Returns the detach that says so, and how many ready deliveries were
+/// dropped.
 pub fn detach<A: Allocator + Copy>(
     session: &mut Session<A>,
     handle: u32,
@@ -387,15 +391,15 @@ pub fn detach<A: Allocator + Copy>(
     session.detach(handle)
 }
 
-/// The detach with which this side ends a link with an error [2.6.5].
+/// Makes the detach with which this side ends a link with an error [2.6.5].
 pub fn failure(handle: u32, condition: Condition) -> Detach<'static>
     ensures { said (performative.Detach result) ≡ failure_said handle condition }
 {
     amqp_session::failure(handle, condition)
 }
 
-/// Writes the frame that answers an attach that was accepted at the front of `out`, with the longest message that its link accepts
-/// [2.6.3, 2.7.3].
+/// Writes the frame that answers an accepted attach at the front of `out`, with the longest message that its
+/// link accepts [2.6.3, 2.7.3].
 pub fn write_attach_reply(
     channel: u16,
     attach: &Attach<'_>,
@@ -407,7 +411,7 @@ pub fn write_attach_reply(
     amqp_session::write_attach_reply(channel, attach, bounds, out)
 }
 
-/// The attach of a link that is refused [2.6.3, 2.7.3].
+/// Makes the answer to the attach of a link that is refused [2.6.3, 2.7.3].
 pub fn refusal_reply<'a>(attach: &Attach<'a>) -> Attach<'a>
     ensures { (b : Bounds) → said (performative.Attach result) ≡ refusal_said (attaching attach.now b) }
 {

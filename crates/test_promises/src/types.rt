@@ -20,28 +20,29 @@ ghost use Rattle.std.specs.Str.{IsAscii};
 use amqp_types::{Constructor, Form, Kind, Limits, Peek, ReadFault, Symbol, Value, WriteFault};
 use std::alloc::Global;
 
-/// The length of the value that the bytes begin with, in bytes, where it is lawful and within the limits [1.2].
+/// Returns the length in bytes of the value that the bytes begin with, if that is lawful and within the limits
+/// [1.2].
 pub fn check(alloc: Global, bytes: &[u8], limits: Limits) -> Result<usize, ReadFault>
     ensures within { IfOk result (λ n. n ≤ length bytes.now) }
     ensures exact { Gives (λ n. drop n bytes.now) result (rest_of (decoded limits.depth limits.nodes bytes.now)) }
-    // A fault stands within the bytes.
+    // The place of a fault is within the bytes.
     ensures placed { IfErr result (λ e. place_of e ≤ length bytes.now) }
 {
     amqp_types::check(alloc, bytes, limits)
 }
 
-/// The value that the bytes begin with, and its length in bytes [1.2].
+/// Returns the value that the bytes begin with, and its length in bytes [1.2].
 pub fn decode(alloc: Global, bytes: &[u8], limits: Limits) -> Result<(Value, usize), ReadFault>
     ensures within { IfOk result (λ x. x.1 ≤ length bytes.now) }
-    // What is found is spelled there, lawful and within the limits.
+    // What is returned is spelled there, lawful and within the limits.
     ensures found { IfOk result (λ x. Spells (view x.0) (take x.1 bytes.now) × IsLawful (view x.0) × (depth_of (view x.0) ≤ limits.depth) × (nodes_of (view x.0) ≤ limits.nodes)) }
-    // Each lawful value within the limits that is spelled there is found, if its memory is there.
+    // Each lawful value within the limits that is spelled there is returned, unless memory is refused.
     ensures only { (t : Tree) (text rest : List ℕ) → Spells t text → IsLawful t → depth_of t ≤ limits.depth → nodes_of t ≤ limits.nodes
         → bytes.now ≡ text ++ rest → Gives {Y = Tree × ℕ} (λ x. (view x.0, x.1)) result (Ok (t, length text)) }
     // A fault is one that the bytes have, and it is the first.
     ensures misread { IfErr result (λ e. (e ≡ ReadFault.NoMemory) ⊎ Misread (AValue 1) limits.depth (outermost bytes.now) (Some limits.nodes) bytes.now e) }
     ensures exact { Gives (λ x. (view x.0, drop x.1 bytes.now)) result (decoded limits.depth limits.nodes bytes.now) }
-    // A fault stands within the bytes.
+    // The place of a fault is within the bytes.
     ensures placed { IfErr result (λ e. place_of e ≤ length bytes.now) }
 {
     amqp_types::decode(alloc, bytes, limits)
@@ -60,7 +61,7 @@ pub fn encode(value: &Value, out: &mut Vec<u8>) -> Result<(), WriteFault>
     amqp_types::encode(value, out)
 }
 
-/// The outermost case of the value that the bytes begin with, which its caller knows to stand there [1.2].
+/// Returns the outermost case of the value that the bytes begin with. They have to begin with one [1.2].
 pub fn peek(bytes: &[u8]) -> Peek<'_>
     requires { BeginsWithValue bytes.now }
     ensures { (t : Tree) (text rest : List ℕ) → Spells t text → bytes.now ≡ text ++ rest → IsOutermost t text result }
@@ -68,7 +69,8 @@ pub fn peek(bytes: &[u8]) -> Peek<'_>
     amqp_types::peek(bytes)
 }
 
-/// Writes the canonical spelling of a scalar at the front of `out`, and answers its length in bytes [1.2; 1.6].
+/// Writes the canonical spelling of a scalar at the front of `out`, and returns its length in bytes; `None` if
+/// it does not fit [1.2; 1.6].
 pub fn put(value: &Peek<'_>, out: &mut [u8]) -> Option<usize>
     // What is written is the canonical spelling, and it spells the value.
     ensures some { IfSome result (λ n. (t : Tree) × IsScalarOf t value.now × Spells t (canonical t)
@@ -79,7 +81,7 @@ pub fn put(value: &Peek<'_>, out: &mut [u8]) -> Option<usize>
     amqp_types::put(value, out)
 }
 
-/// The length of the value that the bytes begin with, in bytes, within a depth [1.2].
+/// Returns the length in bytes of the value that the bytes begin with, if that is within a depth [1.2].
 pub fn skip(bytes: &[u8], depth: usize) -> Result<usize, ReadFault>
     ensures within { IfOk result (λ n. n ≤ length bytes.now) }
     // What is found is spelled there.
@@ -89,14 +91,14 @@ pub fn skip(bytes: &[u8], depth: usize) -> Result<usize, ReadFault>
     // A fault is one that the bytes have, and it is the first.
     ensures misread { IfErr result (λ e. Misread (AValue 1) depth (outermost bytes.now) None bytes.now e) }
     ensures exact { Is (λ n. drop n bytes.now) result (after (value_of depth None bytes.now)) }
-    // A fault stands within the bytes, and is of them alone.
+    // The place of a fault is within the bytes, and the fault is of the bytes only.
     ensures placed { IfErr result (λ e. place_of e ≤ length bytes.now) }
     ensures plain { IfErr result (λ e. IsPlain e) }
 {
     amqp_types::skip(bytes, depth)
 }
 
-/// The symbol of these bytes, where each is below 0x80.
+/// Makes the symbol of these bytes; `None` unless each is below 0x80.
 pub fn new(octets: Vec<u8>) -> Option<Symbol>
     ensures made { IfSome result (λ s. s ≡ octets.items) }
     ensures ascii { IsSome result ↔ IsAscii octets.items }
@@ -104,7 +106,7 @@ pub fn new(octets: Vec<u8>) -> Option<Symbol>
     Symbol::new(octets)
 }
 
-/// The bytes of the symbol, each below 0x80.
+/// Returns the bytes of the symbol, each below 0x80.
 pub fn as_bytes(symbol: &Symbol) -> &[u8]
     ensures octets { result.now ≡ symbol.now }
     ensures ascii { IsAscii symbol.now }
@@ -112,21 +114,21 @@ pub fn as_bytes(symbol: &Symbol) -> &[u8]
     symbol.as_bytes()
 }
 
-/// The bytes of the symbol, given back.
+/// Gives back the bytes of the symbol.
 pub fn into_bytes(symbol: Symbol) -> Vec<u8>
     ensures { result.items ≡ symbol }
 {
     symbol.into_bytes()
 }
 
-/// The constructor of a code, where it has one [1.2, 1.6].
+/// Returns the constructor of a code; `None` if it has none [1.2, 1.6].
 pub fn find_code(code: u8) -> Option<Constructor>
     ensures { result ≡ find_code code }
 {
     amqp_types::find_code(code)
 }
 
-/// How many bytes stand behind a constructor of fixed width [1.2].
+/// Returns how many bytes follow a constructor of fixed width [1.2].
 pub fn form_len(kind: Kind, form: Form) -> usize
     ensures { result ≡ form_len form (width kind) }
 {

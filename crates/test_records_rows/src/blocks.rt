@@ -8,7 +8,7 @@ use std::str;
 use test_row_files::Miss;
 use test_row_files::words::name_of;
 
-/// How far a file is whole.
+/// Returns how far a file is whole.
 pub fn whole(alloc: Global, words: &str) -> Result<String, Miss> {
     let (max, words) = name_of(words);
     let max = max.parse::<u32>().ok().ok_or("no number")?;
@@ -22,7 +22,7 @@ pub fn whole(alloc: Global, words: &str) -> Result<String, Miss> {
     )
 }
 
-/// What is written of a file, and how it ends.
+/// Returns what is written of a file, and how it ends.
 pub fn printed(alloc: Global, words: &str) -> Result<String, Miss> {
     let (form, words) = name_of(words);
     let (max, words) = name_of(words);
@@ -73,7 +73,8 @@ fn ended(
     })
 }
 
-/// The blocks that records come to which are put one after the other: `7:RECORDS` is those of connection 7, `7*N:RECORDS` N times.
+/// Returns the blocks that records come to which are put one after the other: `7:RECORDS` is those of connection
+/// 7, `7*N:RECORDS` N times.
 pub fn put(alloc: Global, words: &str) -> Result<String, Miss> {
     let mut blocks = Blocks::new(alloc);
     for word in words.split_whitespace() {
@@ -96,7 +97,7 @@ pub fn put(alloc: Global, words: &str) -> Result<String, Miss> {
     hex::encode(alloc, bytes).map_err(|_| Miss::Unread("no hex"))
 }
 
-/// The heads of blocks that are long.
+/// Returns the heads of blocks that are long.
 fn heads(alloc: Global, bytes: &[u8]) -> Result<String, Miss> {
     let mut text = String::new(alloc);
     let mut rest = bytes;

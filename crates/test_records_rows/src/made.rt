@@ -16,7 +16,7 @@ const HEADER: &[u8; 8] = b"AMQP\0\x01\0\0";
 
 const FRAME: &[u8; 4] = b"\x02\0\0\0";
 
-/// How many bytes a frame has in front of its body.
+/// How many bytes a frame has before its body.
 const FRAME_HEAD: usize = 8;
 
 /// How the lines of a dump begin that tells of a section, with their descriptors, and the names of these.
@@ -56,14 +56,15 @@ const DESCRIPTORS: [(&str, &str, &str); 9] = [
     ("@ulong:120(", "@symbol:\"amqp:footer:map\"(", "footer"),
 ];
 
-/// The digest of the JSON lines of the hundred records behind the first so many.
+/// Returns the digest of the JSON lines of the hundred records after this many others.
 pub fn digest(alloc: Global, file: &[u8], words: &str) -> Result<String, Miss> {
     let hundred = hundred_behind(file, words)?;
     let (written, _) = printed(alloc, hundred, Output::Json, MAX_MESSAGE)?;
     Ok(hex::encode(alloc, Sha256::digest(&written).as_slice())?)
 }
 
-/// How many of the lines of the hundred records behind the first so many show each section of the message as it stands in a dump.
+/// Returns how many of the lines of the hundred records after this many others show each section of the
+/// message as it stands in a dump.
 pub fn as_dumped(alloc: Global, file: &[u8], words: &str) -> Result<String, Miss> {
     let mut rest = hundred_behind(file, words)?;
     let (written, _) = printed(alloc, rest, Output::Text, MAX_MESSAGE)?;
@@ -78,7 +79,7 @@ pub fn as_dumped(alloc: Global, file: &[u8], words: &str) -> Result<String, Miss
     Ok(format!(in alloc; "{count} lines")?)
 }
 
-/// The hundred records behind the first so many, which the words say.
+/// Returns the hundred records after this many others, which the words say.
 fn hundred_behind<'a>(file: &'a [u8], words: &str) -> Result<&'a [u8], Miss> {
     let count = words.parse::<u32>().ok().ok_or("no number")?;
     let mut rest = file;
@@ -94,7 +95,7 @@ fn hundred_behind<'a>(file: &'a [u8], words: &str) -> Result<&'a [u8], Miss> {
         .ok_or(Miss::Unread("no hundred"))
 }
 
-/// The message of the record at the front, and what is behind it.
+/// Returns the message of the record at the front, and what is after it.
 fn message_of(file: &[u8]) -> Result<(&[u8], &[u8]), Miss> {
     let Some((head, rest)) = file.split_first_chunk::<18>() else {
         return Err(Miss::Unread("no record"));
@@ -103,7 +104,7 @@ fn message_of(file: &[u8]) -> Result<(&[u8], &[u8]), Miss> {
     rest.split_at_checked(len).ok_or(Miss::Unread("cut"))
 }
 
-/// Whether a line shows each section of its message as a dump does that has the message for its body.
+/// Returns whether a line shows each section of its message as a dump does that has the message for its body.
 fn is_as_dumped(alloc: Global, message: &[u8], line: &str) -> Result<bool, Miss> {
     let Some((_, mut shown)) = line.split_once(" size=") else {
         return Ok(false);
@@ -132,7 +133,8 @@ fn is_as_dumped(alloc: Global, message: &[u8], line: &str) -> Result<bool, Miss>
     Ok(rest.is_empty() && shown.is_empty())
 }
 
-/// What a line shows behind a section of this name and text. Data stand there as text, and are passed over.
+/// Returns what a line shows after a section of this name and text. Data stand there as text, and are passed
+/// over.
 fn behind_section<'a>(shown: &'a str, name: &str, text: &str) -> Option<&'a str> {
     let value = shown
         .strip_prefix(' ')?
@@ -147,7 +149,7 @@ fn behind_section<'a>(shown: &'a str, name: &str, text: &str) -> Option<&'a str>
     }
 }
 
-/// The name and the text of the section that a line of a dump tells of, and how many bytes are behind it.
+/// The name and the text of the section that a line of a dump tells of, and how many bytes are after it.
 fn section_in(line: &str) -> Option<(&'static str, &str, usize)> {
     let (_, value) = line.split_once(" value ")?;
     let (value, payload) = value.rsplit_once(" payload=")?;
@@ -163,7 +165,7 @@ fn section_in(line: &str) -> Option<(&'static str, &str, usize)> {
     None
 }
 
-/// The line of a dump for a frame with this body.
+/// Returns the line of a dump for a frame with this body.
 fn dumped(alloc: Global, body: &[u8]) -> Result<String, Miss> {
     let size = u32::try_from(FRAME_HEAD.saturating_add(body.len()))
         .ok()
@@ -185,7 +187,7 @@ fn dumped(alloc: Global, body: &[u8]) -> Result<String, Miss> {
     Ok(String::from_str(alloc, line)?)
 }
 
-/// What was written, as text.
+/// Returns what was written, as text.
 fn text_of(written: &[u8]) -> Result<&str, Miss> {
     str::from_utf8(written).ok().ok_or(Miss::Unread("no text"))
 }

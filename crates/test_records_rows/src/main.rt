@@ -1,12 +1,13 @@
 //! Tests `amqp_records` by the rows of `data/`: what is written of files of records, for people and for tools.
 //!
-//! Bytes are hex. `file TEXT|JSON|N MAX BYTES` answers the lines of a file of records, parted by ` / `, or the bytes of the Nth message, and
-//! behind them how many records there are, or the fault. `message BYTES` answers the sections of a message in the text for people, and `json
-//! BYTES` the JSON object of a record of that message; `value BYTES` the text of a value that is the body of a message.
-//! `blocks TEXT|JSON|N MAX BYTES` is `file` for a file of blocks, `whole MAX BYTES` answers how far one is whole, and `put 7:BYTES 8*3:BYTES` the
-//! blocks of the records that were put, the last ones three times; of more than 200 bytes their heads alone, the sizes as decimals.
-//! `made N` answers the SHA-256 of the JSON lines of the hundred records behind the first N of the file that is the first argument,
-//! `as-dumped N` how many of their lines show each section as a dump does ([`made`]).
+//! Bytes are hex. `file TEXT|JSON|N MAX BYTES` answers the lines of a file of records, parted by ` / `, or the
+//! bytes of the Nth message, and after them how many records there are, or the fault. `message BYTES` answers the
+//! sections of a message in the text for people, and `json BYTES` the JSON object of a record of that message;
+//! `value BYTES` the text of a value that is the body of a message. `blocks TEXT|JSON|N MAX BYTES` is `file` for a
+//! file of blocks, `whole MAX BYTES` answers how far one is whole, and `put 7:BYTES 8*3:BYTES` the blocks of the
+//! records that were put, the last ones three times; of more than 200 bytes their heads alone, the sizes as
+//! decimals. `made N` answers the SHA-256 of the JSON lines of the hundred records after the first N of the file
+//! that is the first argument, `as-dumped N` how many of their lines show each section as a dump does ([`made`]).
 #![tactic(auto)]
 
 mod blocks;
@@ -57,7 +58,7 @@ impl Subject for Records {
     }
 }
 
-/// What is written of a file of records, and how it ends.
+/// Returns what is written of a file of records, and how it ends.
 fn file(alloc: Global, words: &str) -> Result<String, Miss> {
     let (form, words) = name_of(words);
     let (max, words) = name_of(words);
@@ -86,7 +87,7 @@ fn file(alloc: Global, words: &str) -> Result<String, Miss> {
     Ok(lines)
 }
 
-/// The sections of a message.
+/// Returns the sections of a message.
 fn message(alloc: Global, words: &str) -> Result<String, Miss> {
     let bytes = bytes_of(alloc, words)?;
     let line = line_of(alloc, &bytes, Output::Text)?;
@@ -96,12 +97,12 @@ fn message(alloc: Global, words: &str) -> Result<String, Miss> {
     Ok(String::from_str(alloc, sections.trim_start())?)
 }
 
-/// The object of a record.
+/// Returns the object of a record.
 fn object(alloc: Global, words: &str) -> Result<String, Miss> {
     line_of(alloc, &bytes_of(alloc, words)?, Output::Json)
 }
 
-/// The text of a value, behind the name of its section.
+/// The text of a value, after the name of its section.
 fn value(alloc: Global, words: &str) -> Result<String, Miss> {
     let mut section = Vec::from_slice(alloc, &[0, 0x53, 0x77])?;
     section.extend_from_slice(&bytes_of(alloc, words)?)?;
@@ -112,7 +113,7 @@ fn value(alloc: Global, words: &str) -> Result<String, Miss> {
     Ok(String::from_str(alloc, text)?)
 }
 
-/// The one line of a record of this message.
+/// Returns the one line of a record of this message.
 fn line_of(alloc: Global, message: &[u8], output: Output) -> Result<String, Miss> {
     let len = u32::try_from(message.len()).ok().ok_or("too long")?;
     let mut record = Vec::from_slice(alloc, &HEAD)?;
@@ -127,7 +128,7 @@ fn line_of(alloc: Global, message: &[u8], output: Output) -> Result<String, Miss
     Ok(String::from_str(alloc, line)?)
 }
 
-/// What is written of a file of records, and how it ends.
+/// Returns what is written of a file of records, and how it ends.
 fn printed(
     alloc: Global,
     file: &[u8],
@@ -150,7 +151,7 @@ fn printed(
     Ok((written, end))
 }
 
-/// Bytes in hex.
+/// Returns bytes in hex.
 pub fn bytes_of(alloc: Global, words: &str) -> Result<Vec<u8>, Miss> {
     hex::decode(alloc, words).ok().ok_or(Miss::Unread("no hex"))
 }

@@ -51,7 +51,7 @@ impl<'t> RowFile<'t> {
         Ok(file)
     }
 
-    /// What the rows are about; empty where the file doesn't say it.
+    /// Returns what the rows are about; empty where the file doesn't say it.
     pub fn subject(&self) -> &'t str {
         self.subject
     }
@@ -151,7 +151,7 @@ impl<'t> Title<'t> {
 }
 
 impl<'t> Repeat<'t> {
-    /// That of the words `50 from 7 by 2`.
+    /// Returns the repeat of the words `50 from 7 by 2`.
     fn of(alloc: Global, words: &str) -> Result<Repeat<'t>, Miss> {
         let (count, range) = words.split_once(" from ").ok_or("no from")?;
         let (first, step) = range.split_once(" by ").ok_or("no by")?;

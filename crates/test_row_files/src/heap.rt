@@ -1,8 +1,9 @@
 //! Calls that ask for the bytes of the heap.
 //!
-//! `heap live = 0` asks whether so many bytes live, and answers `true` or `false`; so do `<`, `<=` and `>=`, and
-//! `heap peak` of the most that lived at a time, and `heap requested` of the bytes that were granted, since the run began. In place of the number may stand `mark` or
-//! `mark+N`: a call `heap mark` keeps what there is, the most of it where there are several in a run.
+//! `heap live = 0` asks whether this many bytes live, and answers `true` or `false`; so do `<`, `<=` and `>=`, and
+//! `heap peak` of the most that lived at a time, and `heap requested` of the bytes that were granted, since the
+//! run began. In place of the number may stand `mark` or `mark+N`: a call `heap mark` keeps what there is, the
+//! most of it if there are several in a run.
 
 use crate::words::{cut, name_of, number};
 use crate::{Heap, Miss};
@@ -40,7 +41,7 @@ impl Mark {
     }
 }
 
-/// Whether a number of bytes is what these words say.
+/// Returns whether a number of bytes is what these words say.
 fn compared(bytes: u64, words: &str, mark: u64) -> Result<bool, Miss> {
     let (sign, wanted) = cut(words, ' ')?;
     let wanted = wanted_of(wanted, mark)?;

@@ -33,7 +33,7 @@
 //! }
 //! ```
 //!
-//! A line of a file is a comment (`# ..`), or one of these. The first two stand in front of the first title.
+//! A line of a file is a comment (`# ..`), or one of these. The first two stand before the first title.
 //!
 //! - `@NAME = hex`: in rows `@NAME` is this hex text. A name is capital letters and `_`; an `@` before others stays.
 //! - `subject WORD`: what the rows are about, for a program that has several subjects ([`RowFile::subject`]).
@@ -73,7 +73,7 @@ pub trait Subject: Drop {
     /// Makes a call, and says what it answers.
     fn call(&mut self, alloc: Global, words: &str) -> Result<String, Miss>;
 
-    /// All that it shows of itself, as words.
+    /// Returns all that it shows of itself, as words.
     fn shown(&self, alloc: Global) -> Result<String, Miss>;
 }
 

@@ -13,7 +13,7 @@ pub struct Row<'t> {
     pub n: u32,
 }
 
-/// What came of the rows of a run.
+/// The result of the rows of a run.
 #[derive(Drop)]
 pub struct Tally {
     /// How many rows held.
@@ -34,7 +34,7 @@ impl Tally {
     }
 }
 
-/// What rows run on, and what came of them.
+/// What rows run on, and the result of them.
 #[derive(Drop)]
 pub struct Run<'r, 't, S> {
     pub alloc: Global,
@@ -66,7 +66,7 @@ impl<S: Subject> Run<'_, '_, S> {
         Ok(())
     }
 
-    /// Runs a row, and answers what was found where it did not hold.
+    /// Runs a row, and returns what was found if it did not hold.
     fn missed(&mut self, row: Row<'_>) -> Result<Option<String>, Miss> {
         let text = spelled(self.alloc, self.names, row.n, row.text)?;
         let (call, wanted) = cut(text.as_str(), '|')?;
@@ -82,7 +82,8 @@ impl<S: Subject> Run<'_, '_, S> {
         Ok(Some(self.found("shows", after.as_str())?))
     }
 
-    /// Makes a call, and once more where it may be refused memory and was. Answers what was found in place of the answer.
+    /// Makes a call, and once more where it may be refused memory and was. Returns what was found in place of the
+    /// answer.
     fn answered(&mut self, call: &str, wanted: &str, before: &str) -> Result<Option<String>, Miss> {
         let marked = call.strip_prefix("+ ");
         let call = marked.unwrap_or(call).trim();
@@ -119,7 +120,7 @@ impl<S: Subject> Run<'_, '_, S> {
     }
 }
 
-/// Whether what is shown behind a call has these words.
+/// Returns whether what is shown after a call has these words.
 fn shows(after: &str, before: &str, words: &str) -> bool {
     words.split_whitespace().all(|word| match word {
         "same" => after == before,

@@ -7,7 +7,7 @@ use crate::{Miss, Subject};
 use std::mem;
 
 impl<S: Subject> Run<'_, '_, S> {
-    /// Runs a title in ample memory, and with each request refused that it names. Answers its lines of the report.
+    /// Runs a title in ample memory, and with each request refused that it names. Returns its lines of the report.
     pub fn title(&mut self, title: &Title<'_>) -> Result<String, Miss> {
         let ample = self.once(title, 0)?;
         let (alloc, name, held) = (self.alloc, title.title, ample.held);
@@ -27,8 +27,8 @@ impl<S: Subject> Run<'_, '_, S> {
         Ok(report)
     }
 
-    /// Runs a title with each of its requests refused in turn, and with two numbers behind them. Answers how many were
-    /// met by one call, in runs where as many rows held.
+    /// Runs a title with each of its requests refused in turn, and with two numbers after them. Returns how many
+    /// were met by one call, in runs where as many rows held.
     fn refused(&mut self, title: &Title<'_>, held: u32) -> Result<Tally, Miss> {
         let mut all = Tally::new(self.alloc);
         for number in 1..title.refusals.saturating_add(3) {

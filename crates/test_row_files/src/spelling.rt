@@ -7,7 +7,7 @@ use std::alloc::Global;
 /// A name, and the hex text that it stands for.
 pub type Name<'t> = (&'t str, &'t str);
 
-/// A row with what its names and numbers stand for.
+/// Returns a row with what its names and numbers stand for.
 pub fn spelled(alloc: Global, names: &[Name<'_>], n: u32, row: &str) -> Result<String, Miss> {
     let counted = with_numbers(alloc, n, row)?;
     with_names(alloc, names, counted.as_str())
@@ -54,7 +54,7 @@ fn with_numbers(alloc: Global, n: u32, row: &str) -> Result<String, Miss> {
     Ok(text)
 }
 
-/// The number at such a distance from `n`: none, `+1`, `-1` and so on.
+/// Returns the number at such a distance from `n`: none, `+1`, `-1` and so on.
 fn moved(n: u32, distance: &str) -> Result<u32, Miss> {
     if distance.is_empty() {
         return Ok(n);

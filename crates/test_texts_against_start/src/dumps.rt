@@ -9,7 +9,7 @@ use amqp_dump::dump;
 use amqp_frame::Device;
 use std::alloc::{AllocError, Global};
 
-/// What came of the streams.
+/// The result of the streams.
 #[derive(Clone, Copy)]
 struct Came {
     whole: u64,
@@ -17,8 +17,8 @@ struct Came {
     bytes: u64,
 }
 
-/// Compares the dumps of so many streams that are made from the numbers from one on, and of those that don't follow from numbers,
-/// and prints how many there were.
+/// Compares the dumps of this many streams that are made from the numbers from one on, and of those that don't
+/// follow from numbers, and prints how many there were.
 pub fn compare(rt: &HostRuntime, count: u64, seed: u64) -> Result<(), Failure> {
     let mut came = Came {
         whole: 0,
@@ -58,7 +58,7 @@ fn compare_stream(alloc: Global, number: u64, came: &mut Came) -> Result<(), Fai
     Ok(())
 }
 
-/// Whether a stream is whole, and its dump.
+/// Returns whether a stream is whole, and its dump.
 fn dump_now(alloc: Global, stream: &[u8]) -> Result<(bool, Vec<u8>), Failure> {
     let mut printed = Vec::new(alloc);
     let mut reader = Device::new(stream);
@@ -82,7 +82,7 @@ fn compare_edges(alloc: Global) -> Result<u64, Failure> {
     Ok(count)
 }
 
-/// The first line that was another one before, or the last one.
+/// Returns the first line that was another one before, or the last one.
 fn first_other(alloc: Global, now: &[u8], then: &[u8]) -> Result<String, AllocError> {
     let mut last: &[u8] = &[];
     let lines = now.split(|byte| *byte == b'\n');

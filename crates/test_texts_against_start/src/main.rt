@@ -1,5 +1,6 @@
-//! Made scripts and streams, by the code of today and by that of the start: what is answered, written, refused and printed is the same.
-//! `test_texts_against_start COUNT SEED` makes so many from a number of one's own, beside those that don't follow from numbers.
+//! Made scripts and streams, by the code of today and by that of the start: what is answered, written, refused and
+//! printed is the same. `test_texts_against_start COUNT SEED` makes this many from a number of one's own, beside
+//! those that don't follow from numbers.
 #![tactic(auto)]
 
 mod dumps;

@@ -12,7 +12,7 @@ use amqp_script::{ScriptFault, read_limits, replay_script};
 use made::{Kind, NO_DIGITS, Sample, Script, TELLING, Table};
 use std::alloc::{AllocError, Global};
 
-/// What came of the scripts.
+/// The result of the scripts.
 #[derive(Clone, Copy)]
 struct Came {
     whole: u64,
@@ -21,8 +21,8 @@ struct Came {
     tables: u64,
 }
 
-/// Compares so many scripts and tables that are made from the numbers from one on, and those that don't follow from numbers, and
-/// prints how many there were.
+/// Compares this many scripts and tables that are made from the numbers from one on, and those that don't follow
+/// from numbers, and prints how many there were.
 pub fn compare(rt: &HostRuntime, count: u64, seed: u64) -> Result<(), Failure> {
     let mut came = Came {
         whole: 0,
@@ -64,7 +64,7 @@ fn compare_scripts(alloc: Global, number: u64, came: &mut Came) -> Result<(), Fa
     Ok(())
 }
 
-/// What comes of a script, and the answers. None where it differs from what came of it before.
+/// Returns the result of a script, and the answers. None if it differs from the result of it before.
 fn run(
     alloc: Global,
     script: &[u8],
@@ -108,7 +108,7 @@ fn compare_tables(alloc: Global, number: u64, came: &mut Came) -> Result<(), Fai
     Ok(())
 }
 
-/// What comes of a table. None where it differs from what came of it before, or sets other limits.
+/// Returns the result of a table. None if it differs from the result of it before, or sets other limits.
 fn read(alloc: Global, table: &[u8]) -> Result<Option<Result<(), ScriptFault>>, Failure> {
     let now = read_limits(alloc, config(alloc)?, &mut Device::new(table));
     let then = at_start::read_limits(alloc, config(alloc)?, &mut Device::new(table));
@@ -132,7 +132,7 @@ fn same_fault(now: ScriptFault, then: Option<ScriptFault>) -> Option<Result<(), 
     }
 }
 
-/// Whether links of some names have the same bounds.
+/// Returns whether links of some names have the same bounds.
 fn sets_the_same(now: &Config, then: &Config) -> bool {
     let names: [&[u8]; 10] = [
         b"a", b"ab", b"abc", b"b", b"x", b"7", b"p0", b"p9", b"p15", b"",

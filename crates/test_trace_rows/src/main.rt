@@ -1,11 +1,12 @@
-//! Tests what is told of connections that are served, by the rows of `data/`.
+//! Tests what hears of connections that are served, by the rows of `data/`.
 //!
-//! `trace PIECE ..` serves a peer that sends these pieces, each by a read of its own, and then leaves; `events` tells less. The answer is
-//! the lines behind the last piece but one, parted by ` / `: all that came before was told when the last was waited for. A piece is
-//! hex digits, and `41*300` for bytes so many times, parted by `+`. Each read takes five milliseconds. `broken` and `deaf` in front of
-//! the pieces are a socket that fails behind them, or takes nothing. `window N` is the window of the sessions that follow.
-//! `brief` is a trace in which of a line of more than 100 bytes its first 70, its length and its last 15 stand; `lost` one whose
-//! writer takes 300 bytes. Behind a call `held` is the most that was held of a peer, and `longest` is how long the longest line is.
+//! `trace PIECE ..` serves a peer that sends these pieces, each by a read of its own, and then leaves; `events`
+//! tells less. The answer is the lines after the last piece but one, parted by ` / `: all that came before was
+//! told when the last was waited for. A piece is hex digits, and `41*300` for bytes this many times, parted by
+//! `+`. Each read takes five milliseconds. `broken` and `deaf` before the pieces are a socket that fails after
+//! them, or takes nothing. `window N` is the window of the sessions that follow. `brief` is a trace in which of a
+//! line of more than 100 bytes its first 70, its length and its last 15 stand; `lost` one whose writer takes 300
+//! bytes. After a call `held` is the most that was held of a peer, and `longest` is how long the longest line is.
 #![tactic(auto)]
 
 mod peer;

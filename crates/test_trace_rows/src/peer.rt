@@ -4,7 +4,7 @@ use amqp_trace::{Host, Trace, TraceFault, View};
 use std::cell::{Cell, RefCell};
 use std::io::{self, ErrorKind, Read, Write};
 
-/// Where lines are written, up to so many bytes.
+/// Where lines are written, up to this many bytes.
 #[derive(Drop)]
 pub struct Paper {
     pub lines: RefCell<Vec<u8>>,
@@ -12,7 +12,7 @@ pub struct Paper {
 }
 
 impl Paper {
-    /// How many bytes were written.
+    /// Returns how many bytes were written.
     pub fn len(&self) -> usize {
         match self.lines.try_borrow() {
             Ok(lines) => lines.len(),
@@ -67,9 +67,9 @@ pub type Traced<'a> = Trace<&'a Paper, &'a Desk>;
 /// How a socket behaves.
 #[derive(Clone, Copy, PartialEq, Eq, Drop)]
 pub enum Manner {
-    /// It ends behind the pieces.
+    /// It ends after the pieces.
     Leaves,
-    /// It fails behind them.
+    /// It fails after them.
     Breaks,
     /// It takes nothing.
     IsDeaf,

@@ -13,7 +13,7 @@ use std::fmt::Write;
 use std::io::{BufReader, BufWriter};
 use test_row_files::Miss;
 
-/// What is asked for.
+/// What is requested.
 #[derive(Clone, Copy, PartialEq, Eq)]
 pub enum Kind {
     Trace,
@@ -124,7 +124,7 @@ fn serve(alloc: Global, window: u32, peer: Peer<'_, '_>) -> Result<(), Miss> {
     Ok(())
 }
 
-/// The lines behind the mark, parted by ` / `.
+/// Returns the lines after the mark, parted by ` / `.
 fn lines_of(alloc: Global, paper: &Paper, mark: usize, is_brief: bool) -> Result<String, Miss> {
     let Ok(lines) = paper.lines.try_borrow() else {
         return Err(Miss::Unread("the lines are lent"));
@@ -152,7 +152,7 @@ fn put_line(parted: &mut String, line: &str, is_brief: bool) -> Result<(), Miss>
     Ok(())
 }
 
-/// How long the longest line is.
+/// Returns how long the longest line is.
 fn longest_in(paper: &Paper) -> usize {
     match paper.lines.try_borrow() {
         Ok(lines) => lines

@@ -4,7 +4,8 @@ use std::alloc::Global;
 use test_row_files::Miss;
 use test_row_files::words::number;
 
-/// The bytes that a word stands for: hex digits, and `41*300` for what stands in front of the star so many times, parted by `+`.
+/// Returns the bytes that a word stands for: hex digits, and `41*300` for what stands before the star this many
+/// times, parted by `+`.
 pub fn bytes_of(alloc: Global, word: &str) -> Result<Vec<u8>, Miss> {
     let mut bytes = Vec::new(alloc);
     for part in word.split('+') {

@@ -7,7 +7,7 @@ use std::io::{self, Write};
 /// An odd number with many bits, which each step multiplies by.
 const FACTOR: u64 = 0x9fb2_1c65_1e98_df25;
 
-/// So many bytes are added at once, whatever the pieces are in which they come.
+/// This many bytes are added at once, whatever the pieces are in which they come.
 const BLOCK: usize = 65536;
 
 /// A digest of all bytes that were added, in their order.
@@ -28,12 +28,12 @@ impl Digest {
         })
     }
 
-    /// How many bytes were added.
+    /// Returns how many bytes were added.
     pub fn bytes(&self) -> u64 {
         self.bytes
     }
 
-    /// The digest of all.
+    /// Returns the digest of all.
     pub fn value(&mut self) -> u64 {
         self.add_block();
         let [a, b, c, d] = self.lanes;

@@ -83,7 +83,7 @@ impl Sending {
         Ok(())
     }
 
-    /// Sends a document of so many bytes.
+    /// Sends a document of this many bytes.
     fn send(&mut self, desk: &mut Desk, bytes: u32) -> Result<(), Failure> {
         let document = desk.peer.document(desk.alloc, &mut desk.numbers, bytes)?;
         if self.sender.offer(document).is_err() {

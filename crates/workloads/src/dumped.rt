@@ -76,7 +76,7 @@ fn flow(numbers: &mut Numbers, handle: u8) -> Performative<'static> {
     })
 }
 
-/// A map of symbols to strings, numbers and times.
+/// Returns a map of symbols to strings, numbers and times.
 pub fn map(alloc: Global, numbers: &mut Numbers, keys: u32) -> Result<Vec<u8>, Failure> {
     let mut items = Vec::new(alloc);
     for number in 0..keys {
@@ -125,7 +125,7 @@ pub fn dump_bytes(alloc: Global, bytes: &[u8], printed: &mut Digest) -> Result<(
     }
 }
 
-/// The same of bytes with a fault.
+/// Dumps these bytes, which must have a fault, and adds what was printed.
 pub fn dump_faulty(alloc: Global, bytes: &[u8], printed: &mut Digest) -> Result<(), Failure> {
     match dump_bytes(alloc, bytes, printed) {
         Err(Failure::Fault) => Ok(()),

@@ -52,7 +52,7 @@ struct Gateway {
     endpoint: Endpoint,
     room: Vec<u8>,
     waiting: Vec<Waiting>,
-    /// It settles once so many wait.
+    /// It settles once this many wait.
     depth: u32,
     way: Way,
 }
@@ -105,7 +105,7 @@ pub fn run(desk: &mut Desk) -> Result<(), Failure> {
     )
 }
 
-/// The peer opens, and begins so many sessions of so many links.
+/// The peer opens, and begins this many sessions of this many links.
 fn open(
     peer: &mut Peer,
     sessions: u32,
@@ -123,7 +123,7 @@ fn open(
     Ok(())
 }
 
-/// What is sent on so many sessions, at first.
+/// Returns what is sent on this many sessions, at first.
 fn new_sessions(desk: &mut Desk, sessions: u32) -> Result<Vec<Sent>, Failure> {
     let mut sent = Vec::new(desk.alloc);
     for _ in 0..sessions {
@@ -137,7 +137,7 @@ fn new_sessions(desk: &mut Desk, sessions: u32) -> Result<Vec<Sent>, Failure> {
     Ok(sent)
 }
 
-/// The peer sends a message on one of its links. Those of mode second it settles once it was told of so many.
+/// The peer sends a message on one of its links. Those of mode second it settles once it was told of this many.
 fn send(
     peer: &mut Peer,
     numbers: &mut Numbers,
@@ -248,7 +248,7 @@ impl Gateway {
         Ok(())
     }
 
-    /// Takes a message, settles those that wait where they are many, and tops up.
+    /// Takes a message, settles those that wait if they are many, and tops up.
     fn take(
         &mut self,
         channel: u16,
@@ -334,14 +334,14 @@ impl Gateway {
     }
 }
 
-/// An endpoint with ample bounds, whose links may have so many deliveries open.
+/// Returns an endpoint with ample bounds, whose links may have this many deliveries open.
 pub fn new_endpoint(alloc: Global, allowed: u32) -> Result<Endpoint, Failure> {
     let name = String::from_str(alloc, "gateway")?;
     let checked = Config::checked(name, 65536, 255, 255, allowed, 1 << 20, WINDOW);
     Ok(Endpoint::new(alloc, checked.ok_or(Failure::Settings)?)?)
 }
 
-/// An error where the peer has not closed the connection.
+/// An error if the peer has not closed the connection.
 pub fn is_closed(endpoint: &mut Endpoint) -> Result<(), Failure> {
     match endpoint.finish() {
         End::Closed => Ok(()),

@@ -37,7 +37,7 @@ pub fn run(desk: &mut Desk) -> Result<(), Failure> {
     receiver.serve(desk)
 }
 
-/// Appends a message of so many bytes, in frames that have at most so many of them.
+/// Appends a message of this many bytes, in frames that have at most this many of them.
 fn send(
     peer: &mut Peer,
     numbers: &mut Numbers,

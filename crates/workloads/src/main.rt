@@ -1,8 +1,9 @@
 //! The jobs that a user of this repository waits for, on inputs that they make themselves, for `bench/run`.
 //!
-//! `workloads NAME SEED ROUNDS` does a job so many times, each time on another input that follows from the seed, and prints a
-//! digest of all that came of it. With no words each job is done once on a small input, so that the same is printed each time.
-//! `workloads texts SEED ROUNDS PART [LENGTH]` makes the capture of one part of that job once, and dumps it so many times.
+//! `workloads NAME SEED ROUNDS` does a job this many times, each time on another input that follows from the seed,
+//! and prints a digest of all that came of it. With no words each job is done once on a small input, so that the
+//! same is printed each time. `workloads texts SEED ROUNDS PART [LENGTH]` makes the capture of one part of that
+//! job once, and dumps it this many times.
 #![tactic(auto)]
 
 mod awkward;
@@ -37,7 +38,7 @@ pub enum Size {
 }
 
 impl Size {
-    /// So many, or so many where it is small.
+    /// Returns `full`, or `small` for a small job.
     pub fn of(self, full: u32, small: u32) -> u32 {
         match self {
             Size::Full => full,
@@ -92,7 +93,7 @@ impl Job {
         }
     }
 
-    /// Does it so many times.
+    /// Does it this many times.
     fn run(self, alloc: Global, seed: u64, rounds: u32, size: Size) -> Result<Desk, Failure> {
         let mut desk = Desk::new(alloc, seed, size)?;
         for _ in 0..rounds {
@@ -134,14 +135,14 @@ fn main(rt: HostRuntime) -> Result<(), Failure> {
     }
 }
 
-/// A seed and how many rounds.
+/// Returns a seed and how many rounds.
 fn numbers_of(seed: &String, rounds: &String) -> Result<(u64, u32), Failure> {
     let seed = seed.parse::<u64>().ok().ok_or(Failure::NoSuchJob)?;
     let rounds = rounds.parse::<u32>().ok().ok_or(Failure::NoSuchJob)?;
     Ok((seed, rounds))
 }
 
-/// Does a part of the texts so many times, and prints what came of it.
+/// Does a part of the texts this many times, and prints the result of it.
 fn show_part(
     rt: &impl Print,
     alloc: Global,
@@ -171,7 +172,7 @@ fn run_all(rt: &impl Print, alloc: Global) -> Result<(), Failure> {
     Ok(())
 }
 
-/// Prints what came of a job.
+/// Prints the result of a job.
 fn show(rt: &impl Print, job: Job, mut desk: Desk) -> Result<(), Failure> {
     let name = job.name();
     let (answered, answers) = (desk.answers.bytes(), desk.answers.value());

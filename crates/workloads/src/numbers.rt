@@ -15,7 +15,7 @@ impl Numbers {
         }
     }
 
-    /// The next one.
+    /// Returns the next one.
     pub fn next(&mut self) -> u64 {
         let mut next = self.last;
         next ^= next << 13;
@@ -25,29 +25,29 @@ impl Numbers {
         next
     }
 
-    /// A number of 32 bits.
+    /// Returns a number of 32 bits.
     pub fn word(&mut self) -> u32 {
         ((self.next() >> 16) & 0xffff_ffff) as u32
     }
 
-    /// A number below `end`, or 0 where that is 0.
+    /// Returns a number below `end`, or 0 if that is 0.
     pub fn below(&mut self, end: u32) -> u32 {
         let wide = (self.word() as u64).wrapping_mul(end as u64);
         (wide >> 32 & 0xffff_ffff) as u32
     }
 
-    /// A number from `low` to `high`.
+    /// Returns a number from `low` to `high`.
     pub fn between(&mut self, low: u32, high: u32) -> u32 {
         let count = high.wrapping_sub(low).wrapping_add(1);
         low.wrapping_add(self.below(count))
     }
 
-    /// Whether one of so many falls out.
+    /// Returns whether a draw of one in `count` succeeds.
     pub fn is_one_of(&mut self, count: u32) -> bool {
         self.below(count) == 0
     }
 
-    /// One of these.
+    /// Returns one of these.
     pub fn of_these(&mut self, all: &[u32]) -> u32 {
         let count = (all.len() as u64 & 0xffff) as u32;
         all.get(self.below(count) as usize).copied().unwrap_or(0)

@@ -12,7 +12,7 @@ use std::alloc::Global;
 /// The longest frame that a sender's open names.
 const MAX_FRAME: u32 = 65536;
 
-/// Bytes of payloads: as many as the longest one has, and so many places where one may begin.
+/// Bytes of payloads: as many as the longest one has, and this many places where one may begin.
 const LONGEST: u32 = 32768;
 
 const STARTS: u32 = 32768;
@@ -58,7 +58,7 @@ impl Peer {
         self.put_long(channel, performative, 0)
     }
 
-    /// The same with so many bytes of properties.
+    /// Appends a frame with `properties` bytes of room for properties, and without a payload.
     fn put_long(
         &mut self,
         channel: u16,
@@ -102,7 +102,7 @@ impl Peer {
         self.put_long(0, &open, properties.len())
     }
 
-    /// Appends a frame of a performative with so many fields, which are written already.
+    /// Appends a frame of a performative with this many fields, which are written already.
     pub fn list(
         &mut self,
         channel: u16,
@@ -168,7 +168,7 @@ impl Peer {
         self.put(0, &Performative::Close(Close { error: &[] }))
     }
 
-    /// Appends the first transfer of a delivery, with so many bytes of a payload.
+    /// Appends the first transfer of a delivery, with this many bytes of a payload.
     pub fn transfer(
         &mut self,
         head: Head,
@@ -256,7 +256,7 @@ impl Peer {
         Ok(())
     }
 
-    /// A document of so many bytes, of pages that begin somewhere.
+    /// Returns a document of this many bytes, of pages that begin somewhere.
     pub fn document(
         &self,
         alloc: Global,
@@ -275,7 +275,7 @@ impl Peer {
         Ok(document)
     }
 
-    /// Appends so many bytes of a payload.
+    /// Appends this many bytes of a payload.
     fn payload(&mut self, numbers: &mut Numbers, count: u32) -> Result<(), Failure> {
         let mut left = count;
         for _ in 0..count.div_ceil(LONGEST).max(1) {
@@ -290,7 +290,7 @@ impl Peer {
     }
 }
 
-/// The code of a boolean.
+/// Returns the code of a boolean.
 fn bit(value: bool) -> u8 {
     if value { 0x41 } else { 0x42 }
 }

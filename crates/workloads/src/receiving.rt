@@ -11,20 +11,20 @@ use std::io::{self, BufReader, BufWriter, Read};
 /// How many bytes of answers and of records are written at once.
 const BUFFER: usize = 65536;
 
-/// The bytes of a record in front of its message.
+/// The bytes of a record before its message.
 pub const RECORD_HEAD: u64 = 18;
 
 /// What a read brings.
 #[derive(Clone, Copy)]
 pub enum Reads {
-    /// So many bytes at most.
+    /// This many bytes at most.
     AtMost(u32),
     /// The header, or one frame, which is no longer than the buffer.
     OneFrame,
 }
 
 impl Reads {
-    /// The bytes that are buffered at most.
+    /// Returns the bytes that are buffered at most.
     fn buffer(self) -> usize {
         match self {
             Reads::AtMost(bytes) => bytes as usize,
@@ -32,7 +32,7 @@ impl Reads {
         }
     }
 
-    /// How many bytes a read brings at most, of these that are left.
+    /// Returns how many bytes a read brings at most, of these that are left.
     fn at_once(self, rest: &[u8]) -> usize {
         match self {
             Reads::AtMost(bytes) => bytes as usize,
@@ -41,7 +41,7 @@ impl Reads {
     }
 }
 
-/// How long the header is at the front of these bytes, or the frame.
+/// Returns how long the header is at the front of these bytes, or the frame.
 fn first_unit(bytes: &[u8]) -> usize {
     if bytes.starts_with(&HEADER) {
         return HEADER.len();

@@ -14,10 +14,10 @@ const TEXTS: u32 = 8;
 /// How long the texts are.
 const LENGTHS: [u32; 6] = [1, 8, 16, 64, 255, 4096];
 
-/// So many keys has a map.
+/// This many keys has a map.
 const KEYS: u8 = 24;
 
-/// So many lists stand in each other below the map, the list of the open's fields and its descriptor.
+/// This many lists stand in each other below the map, the list of the open's fields and its descriptor.
 const LEVELS: u32 = 29;
 
 /// The descriptors of an open and an attach.
@@ -25,7 +25,7 @@ const OPEN: u8 = 0x10;
 
 const ATTACH: u8 = 0x12;
 
-/// The open in front of its capabilities: container, hostname, frame size, channels, and nothing of four fields.
+/// The open before its capabilities: container, hostname, frame size, channels, and nothing of four fields.
 const OPEN_FRONT: &[u8] = b"\xa1\x06sender\x40\x70\x00\x01\x00\x00\x60\x00\xff\x40\x40\x40";
 
 /// What a text is of.
@@ -69,7 +69,7 @@ impl Writing {
         }
     }
 
-    /// What follows in turn.
+    /// Returns what follows in turn.
     fn words(self) -> &'static [&'static str] {
         match self {
             Writing::Plain => &["A pump ", "of a plant ", "ran for ", "two hours. "],
@@ -177,7 +177,7 @@ pub fn run(desk: &mut Desk) -> Result<(), Failure> {
     Ok(())
 }
 
-/// Dumps a capture of one part so many times.
+/// Dumps a capture of one part this many times.
 pub fn run_part(desk: &mut Desk, part: Part, times: u32) -> Result<(), Failure> {
     let alloc = desk.alloc;
     desk.peer.bytes.clear();
@@ -206,7 +206,7 @@ pub fn run_part(desk: &mut Desk, part: Part, times: u32) -> Result<(), Failure> 
     Ok(())
 }
 
-/// So many frames with texts of this length make a capture.
+/// Returns how many frames with texts of this length make a capture.
 fn frames_of(length: u32) -> u32 {
     match length {
         0..64 => 24,
@@ -215,7 +215,7 @@ fn frames_of(length: u32) -> u32 {
     }
 }
 
-/// So many frames with such values do.
+/// Returns how many frames with such values make a capture.
 fn frames_with(values: Values) -> u32 {
     match values {
         // The first one ends the dump.
@@ -224,7 +224,7 @@ fn frames_with(values: Values) -> u32 {
     }
 }
 
-/// A map of some texts.
+/// Returns a map of some texts.
 fn texts(
     alloc: Global,
     numbers: &mut Numbers,
@@ -266,12 +266,12 @@ fn put_text(
     Ok(())
 }
 
-/// A map of so many keys and values.
+/// Returns a map of this many keys and values.
 fn map_of(alloc: Global, keys: u32, items: &[u8]) -> Result<Vec<u8>, AllocError> {
     sized(alloc, 0xd1, keys.wrapping_mul(2), items)
 }
 
-/// A list, a map or an array of 32 bits with these bytes behind its count.
+/// Returns a list, a map or an array of 32 bits with these bytes after its count.
 fn sized(alloc: Global, code: u8, count: u32, items: &[u8]) -> Result<Vec<u8>, AllocError> {
     let size = ((items.len() as u64).wrapping_add(4) & 0xffff_ffff) as u32;
     let mut value = Vec::from_slice(alloc, &[code])?;
@@ -361,7 +361,7 @@ fn put_values(
     }
 }
 
-/// An array of symbols.
+/// Returns an array of symbols.
 fn symbols(alloc: Global, texts: &[&str]) -> Result<Vec<u8>, AllocError> {
     let mut items = Vec::from_slice(alloc, &[0xa3])?;
     for text in texts {
@@ -371,7 +371,7 @@ fn symbols(alloc: Global, texts: &[&str]) -> Result<Vec<u8>, AllocError> {
     sized(alloc, 0xf0, (texts.len() & 0xff) as u32, &items)
 }
 
-/// A map of one key to this value.
+/// Returns a map of one key to this value.
 fn property(alloc: Global, value: &[u8]) -> Result<Vec<u8>, AllocError> {
     let mut items = Vec::from_slice(alloc, b"\xa3\x05value")?;
     items.extend_from_slice(value)?;

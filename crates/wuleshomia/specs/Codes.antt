@@ -1,4 +1,4 @@
--- What the numbers that cross stand for.
+-- What the numbers that C and the library exchange stand for.
 use Rattle.std.specs.Prelude.{◌≡◌, ◌<◌, ◌⊎◌, ℕ, true, false, nat_eq, if◌then◌else◌, Option, None, Some, Result, Ok, Err}
 use Rattle.amqp_perform.specs.declared.condition.Condition.{Condition}
 use Rattle.amqp_perform.specs.declared.condition.Condition.TheVariants as condition
@@ -46,7 +46,7 @@ fault_at n =
     else if nat_eq n 11 then fault.WindowTooWide
     else fault.Full
 
--- and the code of a fault
+-- the code of a fault
 abbrev pub fault_code : CallFault → ℕ
 fault_code fault.Dead = 1
 fault_code fault.NotOpen = 2
@@ -61,7 +61,7 @@ fault_code fault.TooMuchCredit = 10
 fault_code fault.WindowTooWide = 11
 fault_code fault.Full = 12
 
--- what a call of the endpoint answers: OK, a fault's code, or that there is none
+-- the codes of a call of the endpoint: OK, a fault's code, or that there is no endpoint
 abbrev pub IsCallCode : ℕ → Type 0
 IsCallCode code = (code < 13) ⊎ (code ≡ 20)
 
@@ -69,19 +69,19 @@ IsCallCode code = (code < 13) ⊎ (code ≡ 20)
 abbrev pub accepted_at : ℕ → Answer
 accepted_at code = if nat_eq code 0 then Accepted else Refused (fault_at code)
 
--- of one that gives a count
+-- the answer that the code of a call that gives a count stands for
 abbrev pub dropped_at : ℕ → ℕ → Answer
 dropped_at code count = if nat_eq code 0 then Dropped count else Refused (fault_at code)
 
 abbrev pub named_at : ℕ → ℕ → Answer
 named_at code count = if nat_eq code 0 then Named count else Refused (fault_at code)
 
--- a look-up: what was found is told; where nothing was, this code, and the place for it is left as it was
+-- a look-up: what was found is stored; if nothing was, the code is this one, and the place for it is unchanged
 abbrev pub Found : Option ℕ → ℕ → ℕ → ℕ → ℕ → Type 0
 Found (Some n) none code old new = (code ≡ 0) × (new ≡ n)
 Found None none code old new = (code ≡ none) × (new ≡ old)
 
--- the same as one value
+-- the result of a look-up as one value
 abbrev pub found_at : ℕ → ℕ → Option ℕ
 found_at code number = if nat_eq code 0 then Some number else None
 
@@ -95,7 +95,7 @@ open_fault_at code row =
     else if nat_eq code 25 then refused.Limits (limit.BadRow row)
     else refused.Limits (limit.SamePrefix row)
 
--- what a number says became of a message
+-- the outcome that a number stands for
 abbrev pub settlement_at : ℕ → Option Settlement
 settlement_at n =
     if nat_eq n 0 then Some settlement.Accepted
@@ -115,7 +115,7 @@ end_at code inside =
     else if nat_eq code 3 then end.Inside inside
     else end.Between
 
--- What bytes came to. -------------------------------------------------------------------------------------------------
+-- What bytes resulted in. ----------------------------------------------------------------------------------------------
 
 abbrev pub condition_at : ℕ → Condition
 condition_at n =
@@ -210,11 +210,11 @@ report_of outcome.Blocked = plain_report 3
 report_of outcome.NoMemory = plain_report 4
 report_of outcome.Dead = plain_report 5
 
--- it is the report of what it tells: what it doesn't speak of is 0
+-- it is the report of what it says: the fields that do not belong to that are 0
 pub record IsAllTold (f : FedReport) : Type 0 where
   pub same : f ≡ record (report_of (outcome_at f)) { used = f.used }
 
--- What a step came to. ------------------------------------------------------------------------------------------------
+-- What a step resulted in. ---------------------------------------------------------------------------------------------
 
 abbrev pub received_at : StepReport → Received
 received_at r = record { delivery_id = r.id; len = r.len }
@@ -230,7 +230,7 @@ receipt_at r =
 abbrev pub done_at : StepReport → Done
 done_at r = record { receipt = receipt_at r; topped = record { widened = r.widened; granted = r.granted; refused = r.refused } }
 
--- the code where a step broke off
+-- the code of a step that broke off
 abbrev pub lost_code : ServeFault → ℕ
 lost_code lost.Read = 30
 lost_code lost.Write = 29
@@ -261,7 +261,7 @@ report_of_receipt fed topped (receipt.Settled m) = receipt_report fed topped 2 m
 report_of_receipt fed topped (receipt.Told m) = receipt_report fed topped 3 m 0
 report_of_receipt fed topped (receipt.Untold m f) = receipt_report fed topped 4 m (fault_code f)
 
--- it is the report of what it tells: what it doesn't speak of is 0
+-- it is the report of what it says: the fields that do not belong to that are 0
 pub record IsStepTold (r : StepReport) : Type 0 where
   pub fed : IsAllTold r.fed
   pub same : r ≡ report_of_receipt r.fed (done_at r).topped (done_at r).receipt
@@ -270,7 +270,7 @@ pub record IsStepTold (r : StepReport) : Type 0 where
 abbrev pub nothing_done : Done
 nothing_done = record { receipt = receipt.Nothing; topped = record { widened = 0; granted = 0; refused = 0 } }
 
--- a step that came out so has this code and this report
+-- a step with this result has this code and this report
 abbrev pub IsDoneAs : Result Done ServeFault → ℕ → StepReport → Type 0
 IsDoneAs (Ok d) code r = (code ≡ 0) × (done_at r ≡ d)
 IsDoneAs (Err x) code r = (code ≡ lost_code x) × (done_at r ≡ nothing_done)

@@ -1,4 +1,4 @@
--- What the exports do to the endpoint that C holds, and what they answer.
+-- What the exports do to the endpoint that C holds, and what they return.
 use Rattle.std.specs.Prelude.{◌≡◌, ◌<◌, ℕ, Bool, true, false, nat_eq, nat_le, if◌then◌else◌, List, [], ◌∷◌, ◌++◌, length, take, drop, min, Option, None, Some}
 use Rattle.std.specs.Str.{IsUtf8}
 use Rattle.amqp_link.specs.Links.{open_count}
@@ -23,7 +23,7 @@ use Rattle.wuleshomia.specs.Codes.{fault_at}
 
 -- What happens. -------------------------------------------------------------------------------------------------------
 
--- What C holds before and after an export. Where that is an endpoint, this is what happens to it; where it is none, none is held then, and this is what is answered.
+-- What C holds before and after an export. If that is an endpoint, this is what happens to it. If it is none, none is held afterwards, and this is what is returned.
 abbrev pub Did : Option Held → Option Held → (Held → Held → Type 0) → Type 0 → Type 0
 Did None None Happens NoEndpoint = NoEndpoint
 Did None (Some after) Happens NoEndpoint = ⊥
@@ -37,7 +37,7 @@ pub record Makes (call : Call) (answer : Answer) (before after : Held) : Type 0 
 
 -- Bytes for the peer. -------------------------------------------------------------------------------------------------
 
--- what is moved out next: the answers of the last step, and where none wait what the endpoint wrote behind it
+-- what is moved out next: the answers of the last step or, if none wait, what the endpoint wrote after it
 abbrev pub next_of : List ℕ → List ℕ → List ℕ
 next_of [] unsent = unsent
 next_of (b ∷ answers) unsent = b ∷ answers
@@ -46,7 +46,7 @@ abbrev pub waiting_in : Option Held → List ℕ
 waiting_in None = []
 waiting_in (Some held) = next_of held.answers held.endpoint.unsent
 
--- the first of them are moved out, as many as there is room for
+-- the first of them are moved out, as many as fit
 abbrev pub MovesNext : List ℕ → ℕ → Held → Held → Type 0
 MovesNext [] room before after = Makes (Output room) (MovedOut (take room before.endpoint.unsent)) before after
 MovesNext (b ∷ answers) room before after = after ≡ record before { answers = drop room before.answers }
@@ -60,7 +60,7 @@ Moves room before after = MovesNext before.answers room before after
 abbrev pub limit_of : LimitRow → Limit
 limit_of r = record { prefix = if nat_le r.prefix_len 256 then take r.prefix_len r.prefix else []; bounds = record { allowed = r.allowed; max_message_size = r.max_message } }
 
--- what is asked for
+-- the configuration that is requested
 abbrev pub configured : Settings → List ℕ → List Limit → Configured
 configured s name rows = record {
   container_id = name;
@@ -88,20 +88,20 @@ pub record IsNew (s : Settings) (name : List ℕ) (rows : List Limit) (held : He
   pub records : held.records ≡ []
   pub lost : held.lost ≡ None
 
--- Why none is set up, each where the others above it are not so, but that memory may be refused at any time.
+-- Why none is set up. Each reason holds only if those before it do not, but memory may be refused at any time.
 abbrev pub WhyNot : Settings → List ℕ → List Limit → OpenFault → Type 0
 WhyNot s name rows refused.InUse = ⊥
 WhyNot s name rows refused.NoMemory = Unit {0}
 WhyNot s name rows refused.Settings = AreSettings s name → ⊥
 WhyNot s name rows (refused.Limits f) = AreSettings s name × IsFault rows f
 
--- one is set up where none was
+-- an endpoint is set up, and there was none
 abbrev pub IsOpened : Settings → List ℕ → List Limit → Option Held → Option Held → Type 0
 IsOpened s name rows None (Some held) = IsNew s name rows held
 IsOpened s name rows None None = ⊥
 IsOpened s name rows (Some before) new = ⊥
 
--- or not
+-- none is set up
 abbrev pub OpenRefused : Settings → List ℕ → List Limit → Option Held → OpenFault → Type 0
 OpenRefused s name rows None f = WhyNot s name rows f
 OpenRefused s name rows (Some before) f = f ≡ refused.InUse
@@ -124,7 +124,7 @@ without_message held = record held { message = None }
 abbrev pub handed_at : TakenReport → List ℕ → Answer
 handed_at t message = HandedUp (record { delivery_id = t.id; delivery_tag = take t.tag_len t.tag; message_format = t.format; settled = nat_eq t.settled 1; message = message })
 
--- A message is taken, and kept in the place of the one before it; or the take is refused, and nothing has changed but for bytes of the endpoint's buffer that say nothing.
+-- A message is taken, and replaces the one before it. Or the take is refused, and nothing has changed except bytes of the endpoint's buffer that do not count.
 pub record IsTaken (channel handle : ℕ) (t : TakenReport) (before after : Held) : Type 0 where
   pub some : after.message ≡ Some (bytes_in after.message)
   pub rest : after ≡ record before { endpoint = after.endpoint; message = after.message }
@@ -141,11 +141,11 @@ Takes code channel handle t before after = TakesIf (nat_eq code 0) code channel 
 
 -- Links. --------------------------------------------------------------------------------------------------------------
 
--- the first bytes are put into some room, as many as it holds
+-- the first bytes are copied into some room, as many as fit
 abbrev pub IsCopied : List ℕ → List ℕ → List ℕ → Type 0
 IsCopied bytes old new = new ≡ take (length old) bytes ++ drop (min (length old) (length bytes)) old
 
--- what is told of a link
+-- what is reported of a link
 abbrev pub report_of : LinkView → LinkReport
 report_of v = record {
   credit = v.credit;
@@ -158,7 +158,7 @@ report_of v = record {
   target_len = min (length v.target.now) 4294967295;
 }
 
--- how the link is told that stands at a handle
+-- how the link at a handle is reported
 abbrev pub Shows : Slot LiveLink → ℕ → LinkReport → LinkReport → List ℕ → List ℕ → Type 0
 Shows Free code before link old new = (code ≡ 4) × (link ≡ before) × (new ≡ old)
 Shows (Live l) code before link old new =
@@ -168,7 +168,7 @@ Shows (Live l) code before link old new =
     × IsCopied l.name old new
 Shows Waits code before link old new = (code ≡ 4) × (link ≡ before) × (new ≡ old)
 
--- how a part of it is
+-- how a part of the link is reported
 abbrev pub ShowsPart : Slot LiveLink → (LiveLink → List ℕ) → ℕ → List ℕ → List ℕ → Type 0
 ShowsPart Free part code old new = (code ≡ 4) × (new ≡ old)
 ShowsPart (Live l) part code old new = (code ≡ 0) × IsCopied (part l) old new

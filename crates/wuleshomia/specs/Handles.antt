@@ -1,5 +1,5 @@
 -- What C's sixteen bytes own.
---     handle_owns at live held     where there is an endpoint, `live` is 1 and its box lies at `at`; where there is none, `live` is 0
+--     handle_owns at live held     if there is an endpoint, `live` is 1 and its box is at `at`; if there is none, `live` is 0
 use Prim.Native.Nat.{ℕ}
 use base.Fml.{Fml, feq, fsep}
 use base.Stored.{Coded}

@@ -25,12 +25,13 @@ pub data Exports : Held → List Call → List Answer → Held → Type 0 where
   -- the endpoint is looked at alone, or bytes that wait for C are read, moved out or given back
   Reads : {s last : Held} {calls : List Call} {answers : List Answer} (next : Held)
       → next.endpoint ≡ s.endpoint → Exports next calls answers last → Exports s calls answers last
-  -- a step is served, whatever comes of it: these are the calls of its rule, and what they leave is held then, but for bytes of the buffer that say nothing
+  -- a step is served, whatever it results in: these are the calls of its rule, and what they leave is held then, except bytes of the buffer that do not
+  -- count
   Serves : {s last : Held} {calls : List Call} {answers : List Answer} (next : Held) (r : Rule) (a b : Stand) (steps : List Step) (left : EndpointState)
       → by.Serves r a s.endpoint steps b left → IsKept left next.endpoint → Exports next calls answers last
       → Exports s (calls_of steps ++ calls) (answers_of steps ++ answers) last
 
--- These calls with these answers lead an endpoint to this state, but for bytes of its buffer that say nothing.
+-- These calls with these answers lead an endpoint to this state, except bytes of its buffer that do not count.
 pub record IsRunTo (s : EndpointState) (calls : List Call) (answers : List Answer) (t : EndpointState) : Type 0 where
   pub last : EndpointState
   pub run : Run s calls answers last

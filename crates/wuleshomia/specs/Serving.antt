@@ -13,7 +13,7 @@ use Rattle.wuleshomia.specs.declared.held.Held.{Held}
 use Rattle.wuleshomia.specs.Codes.{outcome_at, IsDoneAs, IsStepTold, lost_code}
 use Rattle.wuleshomia.specs.Exports.{next_of}
 
--- the rule, by what it says becomes of messages
+-- the rule, with the outcome of messages
 abbrev pub rule_of : ServeRule → Settlement → Rule
 rule_of r outcome = record { credit = r.credit; mark = r.mark; outcome = outcome }
 
@@ -48,7 +48,7 @@ pub record HasServed (r : Rule) (piece : List ℕ) (s : Stepped) (before after :
       (record { writer = Some []; sink = Some []; writer_failed = false; sink_failed = false })
       (record { writer = Some after.answers; sink = Some after.records; writer_failed = answers_lost; sink_failed = records_lost })
 
--- The same, as it is reported.
+-- A step was made with the first bytes of a piece, and is reported so.
 pub record IsServed (r : Rule) (piece : List ℕ) (code : ℕ) (report : StepReport) (before after : Held) : Type 0 where
   pub done : Result Done ServeFault
   pub told : IsDoneAs done code report

@@ -10,7 +10,8 @@ use crate::data::FedReport;
 use crate::handle::EndpointHandle;
 use std::alloc::Global;
 
-/// Takes bytes of the peer, to the end of a unit at most.
+/// Takes bytes of the peer, up to the end of one unit at most. `fed` says what they resulted in. Returns `OK`, or
+/// `NO_ENDPOINT` with `fed` unchanged.
 #[unsafe(no_mangle)]
 pub extern "C" fn wule_feed(
     alloc: Global,
@@ -29,7 +30,7 @@ pub extern "C" fn wule_feed(
     OK
 }
 
-/// Moves bytes for the peer out, and answers how many.
+/// Moves bytes for the peer into `room`, and returns how many: 0 if the handle holds no endpoint.
 #[unsafe(no_mangle)]
 pub extern "C" fn wule_output(
     alloc: Global,
@@ -48,7 +49,7 @@ pub extern "C" fn wule_output(
     count
 }
 
-/// Whether bytes for the peer wait: 1 or 0.
+/// Returns whether bytes for the peer wait: 1 or 0. It is 0 if the handle holds no endpoint.
 #[unsafe(no_mangle)]
 pub extern "C" fn wule_has_output(alloc: Global, endpoint: &mut EndpointHandle) -> u32
     ensures same { endpoint.new.held ≡ endpoint.old.held }
@@ -62,7 +63,8 @@ pub extern "C" fn wule_has_output(alloc: Global, endpoint: &mut EndpointHandle) 
     if waits { 1 } else { 0 }
 }
 
-/// Closes the connection, and tells how many ready deliveries are dropped.
+/// Closes the connection, and stores in `dropped` how many ready deliveries are dropped. Returns `OK`, the code of
+/// a refusal, or `NO_ENDPOINT`; `dropped` changes only at `OK`.
 #[unsafe(no_mangle)]
 pub extern "C" fn wule_close(alloc: Global, endpoint: &mut EndpointHandle, dropped: &mut u32) -> u32
     ensures done { Did endpoint.old.held endpoint.new.held (Makes Close (dropped_at result dropped.new)) (result ≡ 20) }
@@ -77,7 +79,7 @@ pub extern "C" fn wule_close(alloc: Global, endpoint: &mut EndpointHandle, dropp
     code
 }
 
-/// Writes an empty frame.
+/// Writes an empty frame. Returns `OK`, the code of a refusal, or `NO_ENDPOINT`.
 #[unsafe(no_mangle)]
 pub extern "C" fn wule_heartbeat(alloc: Global, endpoint: &mut EndpointHandle) -> u32
     ensures done { Did endpoint.old.held endpoint.new.held (Makes Heartbeat (accepted_at result)) (result ≡ 20) }
@@ -91,8 +93,8 @@ pub extern "C" fn wule_heartbeat(alloc: Global, endpoint: &mut EndpointHandle) -
     code
 }
 
-/// The input ended: how the connection stood then, and how many bytes of a unit waited where that is told; 0 on a handle that holds
-/// no endpoint.
+/// Ends the input, and returns the code of how the connection stood then; 0 if the handle holds no endpoint. If
+/// bytes of a unit waited, code 3, `inside` says how many; else it is unchanged.
 #[unsafe(no_mangle)]
 pub extern "C" fn wule_finish(alloc: Global, endpoint: &mut EndpointHandle, inside: &mut u64) -> u32
     ensures done { Did endpoint.old.held endpoint.new.held (λ before after. Makes Finish (Ended (end_at result inside.new)) before after × (0 < result)) (result ≡ 0) }
@@ -107,7 +109,7 @@ pub extern "C" fn wule_finish(alloc: Global, endpoint: &mut EndpointHandle, insi
     code
 }
 
-/// Whether the connection is over: 1 or 0; and 1 on a handle that holds no endpoint.
+/// Returns whether the connection is over: 1 or 0. It is 1 if the handle holds no endpoint.
 #[unsafe(no_mangle)]
 pub extern "C" fn wule_is_over(alloc: Global, endpoint: &mut EndpointHandle) -> u32
     ensures { Did endpoint.old.held endpoint.new.held (λ before after. (after ≡ before) × (result ≡ (if is_dead before.endpoint.connection.phase then 1 else 0))) (result ≡ 1) }

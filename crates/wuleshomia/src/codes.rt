@@ -42,17 +42,18 @@ pub const RECORD_LOST: u32 = 30;
 /// Why no endpoint was set up.
 #[derive(Clone, Copy, Debug, PartialEq, Eq)]
 pub enum OpenFault {
-    /// The handle holds one.
+    /// The handle holds one already.
     InUse,
     /// Memory was refused.
     NoMemory,
     /// The container-id is no UTF-8, or a setting is outside its range.
     Settings,
-    /// The table of limits is none.
+    /// The table of limits has a fault.
     Limits(LimitFault),
 }
 
-/// Why no endpoint was set up, and which row of the limits is at fault where one is.
+/// Returns the code of why no endpoint was set up. If a row of the limits is at fault, `row` says
+/// which.
 pub fn of_open_fault(fault: OpenFault, row: &mut usize) -> u32
     ensures fault { open_fault_at result row.new ≡ fault }
     ensures some { 20 < result }
@@ -75,7 +76,7 @@ pub fn of_open_fault(fault: OpenFault, row: &mut usize) -> u32
     }
 }
 
-/// Why a call was refused.
+/// Returns the code of why a call was refused.
 pub fn of_fault(fault: CallFault) -> u32
     ensures code { result ≡ fault_code fault }
     ensures fault { fault_at result ≡ fault }
@@ -98,7 +99,7 @@ pub fn of_fault(fault: CallFault) -> u32
     }
 }
 
-/// What became of a call that gives nothing.
+/// Returns the code of a call that gives nothing.
 pub fn of_done(done: Result<(), CallFault>) -> u32
     ensures accepted { accepted_at result ≡ accepted_by done }
     ensures few { result < 13 }
@@ -109,7 +110,7 @@ pub fn of_done(done: Result<(), CallFault>) -> u32
     }
 }
 
-/// What became of a call that gives a count, which goes to `count`.
+/// Returns the code of a call that gives a count, which goes to `count`.
 pub fn of_count(given: Result<u32, CallFault>, count: &mut u32) -> u32
     ensures dropped { dropped_at result count.new ≡ dropped_by given }
     ensures named { named_at result count.new ≡ named_by given }
@@ -125,7 +126,7 @@ pub fn of_count(given: Result<u32, CallFault>, count: &mut u32) -> u32
     }
 }
 
-/// What became of a look-up, whose number goes to `found`; where there is none, this code.
+/// Returns the code of a look-up: `OK` if it found a number, which goes to `found`, else `none`.
 pub fn of_found(given: Option<u32>, none: u32, found: &mut u32) -> u32
     ensures { Found given none result found.old found.new }
 {
@@ -138,7 +139,7 @@ pub fn of_found(given: Option<u32>, none: u32, found: &mut u32) -> u32
     }
 }
 
-/// What an application says became of a message.
+/// Returns the outcome that a number stands for, or `None` if it stands for none.
 pub fn settlement(outcome: u32) -> Option<Settlement>
     ensures { result ≡ settlement_at outcome }
 {
@@ -184,7 +185,8 @@ fn of_condition(condition: Condition) -> u32
     }
 }
 
-/// How a connection ended; where bytes of a unit waited, their number goes to `inside`.
+/// Returns the code of how a connection ended. If bytes of a unit waited, their number goes to
+/// `inside`.
 pub fn of_end(end: End, inside: &mut u64) -> u32
     ensures end { end_at result inside.new ≡ end }
     ensures some { 0 < result }
@@ -202,7 +204,7 @@ pub fn of_end(end: End, inside: &mut u64) -> u32
     }
 }
 
-/// What a feed came to.
+/// Returns the report of a feed.
 pub fn of_fed(fed: Fed) -> FedReport
     ensures used { result.used ≡ fed.used }
     ensures outcome { outcome_at result ≡ fed.outcome }
@@ -297,7 +299,7 @@ fn of_failure(scope: Scope, condition: Condition, dropped: u32) -> FedReport
     told
 }
 
-/// What a step lost.
+/// Returns the code of a step that broke off.
 pub fn of_lost(fault: ServeFault) -> u32
     ensures { result ≡ lost_code fault }
 {
@@ -308,7 +310,7 @@ pub fn of_lost(fault: ServeFault) -> u32
     }
 }
 
-/// What a step came to, which goes to `report`.
+/// Returns the code of a step. Its report goes to `report`.
 pub fn of_step(stepped: Stepped, report: &mut StepReport) -> u32
     ensures used { report.new.fed.used ≡ stepped.used }
     ensures told { outcome_at report.new.fed ≡ stepped.told }

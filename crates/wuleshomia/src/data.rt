@@ -1,6 +1,6 @@
-//! The structs that cross, as `c/wuleshomia.h` declares them.
+//! The structs that C and the library exchange, as `c/wuleshomia.h` declares them.
 
-/// What an endpoint is set up with; see `amqp_endpoint::Config`.
+/// The settings of an endpoint; see `amqp_endpoint::Config`.
 #[repr(C)]
 #[derive(Clone, Copy)]
 pub struct Settings {
@@ -10,11 +10,12 @@ pub struct Settings {
     pub allowed: u32,
     pub max_message: u32,
     pub window: u32,
-    /// In milliseconds; 0 is none.
+    /// In milliseconds; 0 means none.
     pub idle_time_out: u32,
 }
 
-/// A row of the table of limits, of the first `prefix_len` bytes of `prefix`: of none where that is more than there are.
+/// A row of the table of limits. Its prefix is the first `prefix_len` bytes of `prefix`, or empty if there are
+/// fewer.
 #[repr(C)]
 #[derive(Clone, Copy)]
 pub struct LimitRow {
@@ -24,26 +25,26 @@ pub struct LimitRow {
     pub prefix: [u8; 256],
 }
 
-/// What bytes came to.
+/// What feeding bytes reported.
 #[repr(C)]
 #[derive(Clone, Copy)]
 pub struct FedReport {
-    /// How many were taken.
+    /// How many bytes were used.
     pub used: u64,
     pub outcome: u32,
-    /// Where the outcome is an event, which one; else 0. So are those fields below that it doesn't speak of.
+    /// Which event, if the outcome is one, else 0. Fields below that do not belong to it are 0 too.
     pub event: u32,
     pub channel: u32,
     pub handle: u32,
     /// How many deliveries were settled or dropped.
     pub count: u32,
-    /// Where this side ended something with an error: what that was, and the condition.
+    /// If this side ended something with an error: what that was, and the condition.
     pub scope: u32,
     pub condition: u32,
     pub reserved: u32,
 }
 
-/// A message that was taken, but its bytes.
+/// A message that was taken, without its bytes.
 #[repr(C)]
 #[derive(Clone, Copy)]
 pub struct TakenReport {
@@ -55,7 +56,7 @@ pub struct TakenReport {
     pub tag: [u8; 32],
 }
 
-/// How a live link stands, and how many bytes its name, its source and its target have.
+/// The state of a live link, and how many bytes its name, its source and its target have.
 #[repr(C)]
 #[derive(Clone, Copy)]
 pub struct LinkReport {
@@ -69,7 +70,7 @@ pub struct LinkReport {
     pub target_len: u32,
 }
 
-/// By what rule an endpoint is served; see `amqp_serve::Rule`.
+/// The rule by which an endpoint is served; see `amqp_serve::Rule`.
 #[repr(C)]
 #[derive(Clone, Copy)]
 pub struct ServeRule {
@@ -78,17 +79,17 @@ pub struct ServeRule {
     pub outcome: u32,
 }
 
-/// What a step of serving came to.
+/// What a step of serving resulted in.
 #[repr(C)]
 #[derive(Clone, Copy)]
 pub struct StepReport {
     pub fed: FedReport,
     /// What became of the message that was ready.
     pub receipt: u32,
-    /// Its delivery-id, and how long it is.
+    /// Its delivery-id, and its length in bytes.
     pub id: u32,
     pub len: u32,
-    /// Why it was not taken, or why its sender could not be told.
+    /// Why it was not taken, or why it was not settled.
     pub refusal: u32,
     /// What was topped up.
     pub widened: u32,

@@ -10,7 +10,7 @@ use std::marker::{Model, Send};
 use std::mem;
 use std::ptr::null_mut;
 
-/// An endpoint that C holds: where `live` is 1 its box lies at `at`, and where it is 0 there is none.
+/// An endpoint that C holds. If `live` is 1, its box is at `at`; if it is 0, there is none.
 #[repr(C)]
 pub struct EndpointHandle {
     at: *mut u8,
@@ -23,7 +23,7 @@ impl Model for EndpointHandle {
 }
 
 impl EndpointHandle {
-    /// One that holds none.
+    /// Makes a handle that holds no endpoint.
     pub fn empty() -> EndpointHandle
         ensures { result.held ≡ None }
     {
@@ -33,7 +33,7 @@ impl EndpointHandle {
         }
     }
 
-    /// One that holds what a box did.
+    /// Makes a handle that holds what a box did.
     fn of_unboxed(parts: Unboxed<Held, Global>) -> EndpointHandle
         ensures { result.held ≡ Some parts.value }
     {
@@ -44,7 +44,7 @@ impl EndpointHandle {
         }
     }
 
-    /// What it holds, as the parts of a box.
+    /// Returns what it holds, as the parts of a box.
     fn into_unboxed(self, alloc: Global) -> Option<Unboxed<Held, Global>>
         ensures { option_map (λ p. p.value) result ≡ self.held }
     {
@@ -59,7 +59,7 @@ impl EndpointHandle {
         }
     }
 
-    /// What it holds.
+    /// Returns what it holds.
     pub fn into_held(self, alloc: Global) -> Option<Box<Held>>
         ensures { option_map (λ b. b.value) result ≡ self.held }
     {
@@ -69,7 +69,7 @@ impl EndpointHandle {
         }
     }
 
-    /// Takes it out, and leaves none.
+    /// Takes out what it holds, and leaves nothing.
     pub fn take(&mut self, alloc: Global) -> Option<Box<Held>>
         ensures given { option_map (λ b. b.value) result ≡ self.old.held }
         ensures left { self.new.held ≡ None }
@@ -77,7 +77,7 @@ impl EndpointHandle {
         mem::replace(self, EndpointHandle::empty()).into_held(alloc)
     }
 
-    /// Puts one in, and drops what was there.
+    /// Puts an endpoint in, and drops what was there.
     pub fn put(&mut self, alloc: Global, held: Box<Held>)
         ensures { self.new.held ≡ Some held.value }
     {
@@ -85,7 +85,7 @@ impl EndpointHandle {
         drop(before.into_held(alloc));
     }
 
-    /// Puts one back, where none is held.
+    /// Puts an endpoint back. The handle must hold none.
     pub(crate) fn put_back(&mut self, alloc: Global, held: Box<Held>)
         requires { self.old.held ≡ None }
         ensures { self.new.held ≡ Some held.value }

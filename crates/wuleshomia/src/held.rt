@@ -12,8 +12,8 @@ use amqp_link::Message;
 use amqp_serve::{Course, Done, Rule, ServeFault, Stepped, serve_piece};
 use std::alloc::Global;
 
-/// An endpoint; the message that was taken last, until the next one is; and of the last step of serving the answers and the records
-/// that were not moved out yet, and which of these are lost.
+/// An endpoint, and the message that was taken last, until the next one is. Of the last step of serving it has the
+/// answers and the records that were not moved out yet, and which of these are lost.
 #[derive(Drop)]
 pub struct Held {
     pub endpoint: Endpoint,
@@ -24,14 +24,14 @@ pub struct Held {
 }
 
 impl Held {
-    /// Whether bytes for the peer wait.
+    /// Returns whether bytes for the peer wait.
     pub fn has_output(&self) -> bool
         ensures { result ≡ nat_lt 0 (length (next_of self.now.answers self.now.endpoint.unsent)) }
     {
         self.answers.len() > 0 || !self.endpoint.is_all_sent()
     }
 
-    /// Moves bytes for the peer out, the answers of the last step first, and answers how many.
+    /// Moves bytes for the peer into `room`, the answers of the last step first, and returns how many.
     pub fn output(&mut self, alloc: Global, room: &mut [u8]) -> usize
         ensures count { result ≡ min (length room.old) (length (next_of self.old.answers self.old.endpoint.unsent)) }
         ensures room { room.new ≡ take result (next_of self.old.answers self.old.endpoint.unsent) ++ drop result room.old }
@@ -44,7 +44,7 @@ impl Held {
         }
     }
 
-    /// Why a step is refused, if it is.
+    /// Returns the code of why a step is refused, or `None` if it is not.
     pub fn serve_refusal(&self) -> Option<u32>
         ensures { result ≡ serve_refusal self.now }
     {
@@ -58,7 +58,7 @@ impl Held {
         }
     }
 
-    /// Serves a piece of what the peer sent, up to the end of a unit. The answers and the records wait then.
+    /// Serves a piece of what the peer sent, up to the end of one unit. The answers and the records wait then.
     pub fn serve(&mut self, alloc: Global, rule: Rule, piece: &[u8]) -> Stepped
         requires { serve_refusal self.old ≡ None }
         ensures { HasServed rule piece.now result self.old self.new }
@@ -83,7 +83,7 @@ impl Held {
     }
 }
 
-/// Which of its ends a step lost.
+/// Returns the fault of a step that lost answers or records.
 fn lost_by(done: Result<Done, ServeFault>) -> Option<ServeFault>
     ensures { result ≡ lost_by done }
 {

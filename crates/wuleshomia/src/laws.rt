@@ -11,7 +11,7 @@ ghost use Rattle.wuleshomia.specs.Programs.{Exports, IsProgram, IsRunTo};
 use amqp_endpoint::laws::{fills_are_feeds, runs_have_a_history};
 use amqp_serve::step_laws::steps_are_calls;
 
-/// What a program does with one handle between two of its moments is a run of its endpoint.
+/// What a program does with one handle, from one moment to another, is a run of its endpoint.
 pub fn exports_are_a_run()
     ensures { (s t : Held) (calls : List Call) (answers : List Answer) → Exports s calls answers t → IsRunTo s.endpoint calls answers t.endpoint }
 {
@@ -19,7 +19,8 @@ pub fn exports_are_a_run()
     steps_are_calls();
 }
 
-/// So from its open on all that the theorem over runs says of an endpoint holds of it [2.2 to 2.7].
+/// From its open on, all that the theorem over runs says of an endpoint holds of a program's
+/// endpoint, if the calls are in their ranges [2.2 to 2.7].
 pub fn programs_have_a_history()
     ensures { (c : Settings) (name : List ℕ) (rows : List Limit) (s t : Held) (calls : List Call) (answers : List Answer) → IsNew c name rows s → Exports s calls answers t → AreInRange calls → IsProgram (configured c name rows) calls answers t.endpoint }
 {

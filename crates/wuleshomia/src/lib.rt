@@ -1,14 +1,14 @@
-//! The receiving endpoint for C: a static library of exports alone. `c/wuleshomia.h` is its header, and says what each does.
+//! The receiving endpoint for C: a static library of exports alone. Begin reading with its header,
+//! `c/wuleshomia.h`, which says what each does.
 //!
-//! C holds an [`handle::EndpointHandle`], sixteen bytes of its own that are all zero before [`opening::wule_open`] and behind
-//! [`opening::wule_free`]. Each export takes it by `&mut`, and is total: on one that holds no endpoint it answers `NO_ENDPOINT`,
-//! and nothing else happens; on one that does it makes exactly one call of the endpoint. The bytes that cross are slices of the
-//! caller: nothing is lent to C, and nothing of C's is kept.
+//! C holds an [`handle::EndpointHandle`], sixteen bytes that are all zero before [`opening::wule_open`] and after
+//! [`opening::wule_free`]. If it holds no endpoint, an export does nothing and says so. If it holds one, an export
+//! makes exactly its call of the endpoint. No export lends bytes to C or keeps bytes of C's.
 //!
-//! `handle` has what the sixteen bytes own, and with `unboxed` the only functions with raw pointers; `data` the structs that
-//! cross; `codes` the numbers that stand for enums; `held` what a handle holds. The exports stand in `opening`, `bytes`,
-//! `requests`, `messages`, `views` and `serving`. `specs/Exports.antt` says what each does, and `laws` that those on one handle are
-//! a run of its endpoint, of which the theorem over all runs speaks.
+//! `handle` has what the sixteen bytes own, and with `unboxed` the only raw pointers. `data` has the structs,
+//! `codes` the numbers for enums, `held` what a handle holds. The exports are in `opening`, `bytes`, `requests`,
+//! `messages`, `views` and `serving`; `specs/Exports.antt` says what each does. By `laws` those on one handle are
+//! a run of its endpoint.
 #![tactic(auto)]
 
 pub mod bytes;

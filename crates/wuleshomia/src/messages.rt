@@ -11,8 +11,9 @@ use crate::requests::number;
 use amqp_link::{Message, Taken};
 use std::alloc::Global;
 
-/// Takes the first ready message of a link, and copies its first bytes, as many as there is room for. The others are had by
-/// [`wule_message_read`], until the next take.
+/// Takes the first ready message of a link, and copies its first bytes into `room`, as many as fit.
+/// [`wule_message_read`] gives the others, until the next take. Returns `OK`, the code of a refusal, or
+/// `NO_ENDPOINT`; `taken` and `room` change only at `OK`.
 #[unsafe(no_mangle)]
 pub extern "C" fn wule_take(
     alloc: Global,
@@ -56,7 +57,7 @@ pub extern "C" fn wule_take(
     code
 }
 
-/// Copies bytes of the message that was taken last, from `at` on, and answers how many.
+/// Copies bytes of the message that was taken last, from `at` on, as many as fit, and returns how many.
 #[unsafe(no_mangle)]
 pub extern "C" fn wule_message_read(
     alloc: Global,
@@ -79,7 +80,7 @@ pub extern "C" fn wule_message_read(
     count
 }
 
-/// Gives the message that was taken last back.
+/// Drops the message that was taken last.
 #[unsafe(no_mangle)]
 pub extern "C" fn wule_message_drop(alloc: Global, endpoint: &mut EndpointHandle)
     ensures { endpoint.new.held ≡ option_map without_message endpoint.old.held }
@@ -90,7 +91,7 @@ pub extern "C" fn wule_message_drop(alloc: Global, endpoint: &mut EndpointHandle
     }
 }
 
-/// The bytes of a message from `at` on, as many as there is room for.
+/// Copies the bytes of a message from `at` on, as many as there is room for, and returns how many.
 fn read(message: &Message, at: usize, room: &mut [u8]) -> usize
     ensures count { result ≡ min (length room.old) (length (drop at message.now)) }
     ensures bytes { room.new ≡ take result (drop at message.now) ++ drop result room.old }
@@ -103,7 +104,7 @@ fn read(message: &Message, at: usize, room: &mut [u8]) -> usize
     count
 }
 
-/// Copies a piece to a place of the room, as much as fits there, and answers how much.
+/// Copies a piece to the room at `at`, as much as fits, and returns how many bytes.
 pub(crate) fn put(piece: &[u8], room: &mut [u8], at: usize) -> usize
     requires { at ≤ length room.old }
     ensures count { result ≡ min (length piece.now) (length room.old - at) }

@@ -1,4 +1,4 @@
-//! An endpoint is set up, and given back.
+//! Setting an endpoint up, and giving it back.
 ghost use Rattle.std.specs.Prelude.{◌≡◌, ◌<◌, ◌⊎◌, [], map, None, OnOk, IsErr, IfOk, IfErr};
 ghost use Rattle.amqp_endpoint.specs.Limits.{IsTable};
 ghost use Rattle.wuleshomia.specs.Codes.{open_fault_at};
@@ -15,7 +15,7 @@ use std::alloc::{AllocError, Global};
 /// The version of this library: 65,536 times its first number, 256 times its second, and its third.
 pub const VERSION: u32 = 256;
 
-/// The version of the library that runs.
+/// Returns the version of the library that runs.
 #[unsafe(no_mangle)]
 pub extern "C" fn wule_version() -> u32
     ensures { result ≡ 256 }
@@ -23,8 +23,8 @@ pub extern "C" fn wule_version() -> u32
     VERSION
 }
 
-/// Sets an endpoint up, with this container-id and this table of limits. Where it is refused nothing has changed, and where a row of
-/// the limits is at fault `row` says which.
+/// Sets an endpoint up, with these settings, this container-id and this table of limits. Returns `OK`, or the code
+/// of a refusal: the handle is unchanged then, and if a row of the limits is at fault, `row` says which.
 #[unsafe(no_mangle)]
 pub extern "C" fn wule_open(
     alloc: Global,
@@ -66,7 +66,7 @@ fn open(
     Ok(())
 }
 
-/// A new endpoint, to be held.
+/// Returns a new endpoint, to be held.
 fn made(
     alloc: Global,
     settings: &Settings,
@@ -93,7 +93,7 @@ fn made(
     }
 }
 
-/// What it is set up with.
+/// Returns the configuration that these settings, this container-id and these limits make.
 fn configured(
     alloc: Global,
     settings: &Settings,
@@ -115,7 +115,7 @@ fn configured(
     }
 }
 
-/// The same with no limits.
+/// Returns the configuration that these settings and this container-id make, without limits.
 fn checked(alloc: Global, settings: &Settings, container_id: &[u8]) -> Result<Config, OpenFault>
     ensures settings { OnOk result (AreSettings settings.now container_id.now) }
     ensures ok { IfOk result (λ c. c ≡ configured settings.now container_id.now []) }
@@ -142,7 +142,7 @@ fn checked(alloc: Global, settings: &Settings, container_id: &[u8]) -> Result<Co
     }
 }
 
-/// The rows of a table.
+/// Returns the rows of a table.
 fn rows_of(alloc: Global, limits: &[LimitRow]) -> Result<Vec<LinkLimit>, AllocError>
     ensures { IfOk result (λ rows. rows.items ≡ map limit_of limits.now) }
 {
@@ -153,7 +153,7 @@ fn rows_of(alloc: Global, limits: &[LimitRow]) -> Result<Vec<LinkLimit>, AllocEr
     Ok(rows)
 }
 
-/// One of them.
+/// Returns a row of a table.
 fn row_of(alloc: Global, limit: &LimitRow) -> Result<LinkLimit, AllocError>
     ensures { IfOk result (λ row. row ≡ limit_of limit.now) }
 {
@@ -170,7 +170,7 @@ fn row_of(alloc: Global, limit: &LimitRow) -> Result<LinkLimit, AllocError>
     })
 }
 
-/// Gives all that an endpoint holds back. A handle that holds none stays so.
+/// Gives back all that the endpoint holds. The handle holds none then.
 #[unsafe(no_mangle)]
 pub extern "C" fn wule_free(alloc: Global, endpoint: &mut EndpointHandle)
     ensures { endpoint.new.held ≡ None }

@@ -1,4 +1,4 @@
-//! What an application asks of a session and its links.
+//! What an application requests of a session and its links.
 ghost use Rattle.std.specs.Prelude.{◌≡◌, ◌<◌, ◌⊎◌, min, MatchOption};
 ghost use Rattle.amqp_session.specs.Calls.{Widen, Grant, Drain, Settle, SettleRange, Detach};
 ghost use Rattle.amqp_endpoint.specs.Runs.{InSession};
@@ -9,14 +9,14 @@ use crate::codes::{BAD_OUTCOME, NO_ENDPOINT, of_count, of_done, settlement};
 use crate::handle::EndpointHandle;
 use std::alloc::Global;
 
-/// A channel. What is no channel stands for the highest, which no endpoint offers.
+/// Returns a channel. A number that is no channel stands for the highest, which no endpoint offers.
 pub(crate) fn number(channel: u32) -> u16
     ensures { result ≡ min channel 65535 }
 {
     channel.min(0xffff) as u16
 }
 
-/// Gives a link more credit.
+/// Grants a link `n` more credit. Returns `OK`, the code of a refusal, or `NO_ENDPOINT`.
 #[unsafe(no_mangle)]
 pub extern "C" fn wule_grant(
     alloc: Global,
@@ -36,7 +36,8 @@ pub extern "C" fn wule_grant(
     code
 }
 
-/// Widens the window of a session.
+/// Widens the window of a session by `n` places. Returns `OK`, the code of a refusal, or
+/// `NO_ENDPOINT`.
 #[unsafe(no_mangle)]
 pub extern "C" fn wule_widen(
     alloc: Global,
@@ -55,7 +56,8 @@ pub extern "C" fn wule_widen(
     code
 }
 
-/// Asks a link's sender to use its credit up.
+/// Asks a link's sender to use up its credit. Returns `OK`, the code of a refusal, or
+/// `NO_ENDPOINT`.
 #[unsafe(no_mangle)]
 pub extern "C" fn wule_drain(
     alloc: Global,
@@ -74,7 +76,8 @@ pub extern "C" fn wule_drain(
     code
 }
 
-/// Tells the sender what became of a delivery.
+/// Settles a delivery with an outcome. Returns `OK`, the code of a refusal, `BAD_OUTCOME`, or
+/// `NO_ENDPOINT`.
 #[unsafe(no_mangle)]
 pub extern "C" fn wule_settle(
     alloc: Global,
@@ -97,7 +100,8 @@ pub extern "C" fn wule_settle(
     code
 }
 
-/// Tells the sender what became of a range of deliveries, and tells how many it named.
+/// Settles a range of deliveries with an outcome, and stores in `named` how many it named. Returns
+/// `OK`, the code of a refusal, `BAD_OUTCOME`, or `NO_ENDPOINT`; `named` changes only at `OK`.
 #[unsafe(no_mangle)]
 pub extern "C" fn wule_settle_range(
     alloc: Global,
@@ -128,7 +132,8 @@ pub extern "C" fn wule_settle_range(
     code
 }
 
-/// Ends a link, and tells how many ready deliveries are dropped.
+/// Ends a link, and stores in `dropped` how many ready deliveries are dropped. Returns `OK`, the
+/// code of a refusal, or `NO_ENDPOINT`; `dropped` changes only at `OK`.
 #[unsafe(no_mangle)]
 pub extern "C" fn wule_detach(
     alloc: Global,

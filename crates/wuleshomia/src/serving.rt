@@ -11,9 +11,14 @@ use crate::handle::EndpointHandle;
 use amqp_serve::Rule;
 use std::alloc::Global;
 
-/// Serves a piece of what the peer sent, up to the end of a unit, which is acted upon. A message that is ready then is taken,
-/// recorded, and settled unless its sender settled it; what lacks something by the rule is topped up. The answers and the records wait
-/// then to be moved out, by [`crate::bytes::wule_output`] and [`wule_records`], before the next step.
+/// Serves a piece of what the peer sent, up to the end of one unit, which is acted upon. A message that is ready
+/// then is taken, recorded, and settled unless its sender settled it. What lacks something by the rule is topped
+/// up. The answers and the records then wait to be moved out, by [`crate::bytes::wule_output`] and
+/// [`wule_records`], before the next step.
+///
+/// If an answer or a record was lost before, or bytes still wait, the step is refused and nothing changes. The
+/// code and `step` say what a step that was made resulted in. Returns `BAD_OUTCOME` or `NO_ENDPOINT` without
+/// making one.
 #[unsafe(no_mangle)]
 pub extern "C" fn wule_serve_step(
     alloc: Global,
@@ -43,7 +48,7 @@ pub extern "C" fn wule_serve_step(
     code
 }
 
-/// Moves records of the last step out, and answers how many bytes.
+/// Moves records of the last step into `room`, and returns how many bytes: 0 if the handle holds no endpoint.
 #[unsafe(no_mangle)]
 pub extern "C" fn wule_records(
     alloc: Global,

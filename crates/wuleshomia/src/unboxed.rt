@@ -17,7 +17,7 @@ impl<T, A: Allocator> Model for Unboxed<T, A> {
 }
 
 impl<T, A: Allocator> Unboxed<T, A> {
-    /// That of a box.
+    /// Takes a box apart.
     pub fn of(b: Box<T, A>) -> Unboxed<T, A>
     where
         T: Drop,
@@ -27,7 +27,7 @@ impl<T, A: Allocator> Unboxed<T, A> {
         Unboxed { ptr, alloc }
     }
 
-    /// The box again.
+    /// Makes the box again.
     pub fn boxed(self) -> Box<T, A>
         ensures { result.value ≡ self.value }
     {

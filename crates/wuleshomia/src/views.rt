@@ -1,4 +1,4 @@
-//! How an endpoint stands. Nothing changes by these.
+//! The state of an endpoint. These calls change nothing.
 ghost use Rattle.std.specs.Prelude.{◌≡◌, ◌<◌, ◌⊎◌, length, min};
 ghost use Rattle.std.specs.Option.{option_map};
 ghost use Rattle.amqp_session.specs.Lacking.{IsFirstLacking};
@@ -17,7 +17,7 @@ use crate::requests::number;
 use amqp_session::LinkView;
 use std::alloc::Global;
 
-/// The bytes that count as held.
+/// Returns how many bytes count as held: 0 if the handle holds no endpoint.
 #[unsafe(no_mangle)]
 pub extern "C" fn wule_held(alloc: Global, endpoint: &mut EndpointHandle) -> u64
     ensures { Did endpoint.old.held endpoint.new.held (λ before after. (after ≡ before) × (result ≡ held before.endpoint)) (result ≡ 0) }
@@ -30,7 +30,8 @@ pub extern "C" fn wule_held(alloc: Global, endpoint: &mut EndpointHandle) -> u64
     count
 }
 
-/// The places that are left of a session's window.
+/// Stores in `places` how many places are left of a session's window. Returns `OK`, `NO_SESSION` or
+/// `NO_ENDPOINT`; `places` changes only at `OK`.
 #[unsafe(no_mangle)]
 pub extern "C" fn wule_window(
     alloc: Global,
@@ -48,7 +49,8 @@ pub extern "C" fn wule_window(
     of_found(window, NO_SESSION, places)
 }
 
-/// How a link stands, and the first bytes of its name, as many as there is room for.
+/// Stores the state of a link in `link`, and the first bytes of its name in `name`, as many as fit.
+/// Returns `OK`, `NO_LINK` or `NO_ENDPOINT`; both change only at `OK`.
 #[unsafe(no_mangle)]
 pub extern "C" fn wule_link(
     alloc: Global,
@@ -96,7 +98,8 @@ fn count_of(bytes: &[u8]) -> u32
     bytes.len().min(u32::MAX as usize) as u32
 }
 
-/// The first bytes of a link's source, as its attach spells it.
+/// Copies the first bytes of a link's source, as its attach spells it, as many as fit. Returns
+/// `OK`, `NO_LINK` or `NO_ENDPOINT`; `room` changes only at `OK`.
 #[unsafe(no_mangle)]
 pub extern "C" fn wule_link_source(
     alloc: Global,
@@ -110,7 +113,8 @@ pub extern "C" fn wule_link_source(
     show_terminus(alloc, endpoint, channel, handle, Terminus::Source, room)
 }
 
-/// The first bytes of its target.
+/// Copies the first bytes of a link's target, as its attach spells it, as many as fit. Returns
+/// `OK`, `NO_LINK` or `NO_ENDPOINT`; `room` changes only at `OK`.
 #[unsafe(no_mangle)]
 pub extern "C" fn wule_link_target(
     alloc: Global,
@@ -131,7 +135,7 @@ enum Terminus {
     Target,
 }
 
-/// The first bytes of an end of a link.
+/// Copies the first bytes of an end of a link, as many as fit.
 fn show_terminus(
     alloc: Global,
     endpoint: &mut EndpointHandle,
@@ -165,7 +169,9 @@ fn terminus_in<'a>(view: &LinkView<'a>, terminus: Terminus) -> &'a [u8]
     }
 }
 
-/// The first handle from one on whose link has less credit than that, and is allowed more.
+/// Stores in `found` the first handle, from `from` on, whose link has less credit than `credit` and
+/// is allowed more. Returns `OK`, `NO_LINK` if there is none, or `NO_ENDPOINT`; `found` changes
+/// only at `OK`.
 #[unsafe(no_mangle)]
 pub extern "C" fn wule_first_lacking(
     alloc: Global,

@@ -8,14 +8,14 @@ use std::io::{self, Write};
 use std::marker::Model;
 use std::mem;
 
-/// Memory for so many bytes is kept once they were moved out; more is given back.
+/// How many bytes of memory are kept once what was in them was moved out; more is given back.
 const KEPT: usize = 8192;
 
 /// Bytes that wait.
 #[derive(Drop)]
 pub struct Waiting {
     bytes: Vec<u8>,
-    /// So many of them were moved out.
+    /// How many of them were moved out.
     at: usize,
 }
 
@@ -30,21 +30,21 @@ impl Model for Waiting {
 }
 
 impl Waiting {
-    /// These.
+    /// Makes bytes that wait.
     pub fn of(bytes: Vec<u8>) -> Self
         ensures { result ≡ bytes.items }
     {
         Waiting { bytes, at: 0 }
     }
 
-    /// How many they are.
+    /// Returns how many they are.
     pub fn len(&self) -> usize
         ensures { result ≡ length self.now }
     {
         self.bytes.len() - self.at
     }
 
-    /// Moves the first of them out, as many as there is room for, and answers how many.
+    /// Moves the first of them into `room`, as many as fit, and returns how many.
     pub fn move_into(&mut self, alloc: Global, room: &mut [u8]) -> usize
         ensures count { result ≡ min (length room.old) (length self.old) }
         ensures room { room.new ≡ take result self.old ++ drop result room.old }
@@ -59,7 +59,7 @@ impl Waiting {
         count
     }
 
-    /// A vector of no bytes for others, with the memory of these if that is little. None wait then.
+    /// Drops what waits, and returns an empty vector, with the memory of these bytes if that is little.
     pub fn emptied(&mut self, alloc: Global) -> Vec<u8>
         ensures room { result.items ≡ [] }
         ensures left { self.new ≡ [] }
@@ -74,21 +74,21 @@ impl Waiting {
     }
 }
 
-/// A writer to memory. It passes nothing on, so that no record need be flushed before it is written to.
+/// A writer to memory. It passes nothing on, so no record needs to be flushed before a write to it.
 #[derive(Drop)]
 pub struct Gathered {
     bytes: Vec<u8>,
 }
 
 impl Gathered {
-    /// One that holds these.
+    /// Makes a writer that holds these bytes.
     pub fn new(bytes: Vec<u8>) -> Self
         ensures { gathered result ≡ bytes.items }
     {
         Gathered { bytes }
     }
 
-    /// All that it holds.
+    /// Returns all bytes that it holds.
     pub fn into_bytes(self) -> Vec<u8>
         ensures { result.items ≡ gathered self }
     {

@@ -25,7 +25,7 @@ const DISPOSITION: [u8; 14] = [
     0x00, 0x53, 0x15, 0xc0, 0x09, 0x05, 0x41, 0x43, 0x40, 0x41, 0x00, 0x53, 0x24, 0x45,
 ];
 
-/// The spelling of the value.
+/// Returns the spelling of the value.
 pub fn spelling(alloc: Global, subject: Subject) -> Result<Vec<u8>, AllocError> {
     match subject {
         Subject::Transfer => Vec::from_slice(alloc, &TRANSFER),
@@ -37,7 +37,7 @@ pub fn spelling(alloc: Global, subject: Subject) -> Result<Vec<u8>, AllocError> 
     }
 }
 
-/// A list of so many small numbers, two bytes each.
+/// Returns a list of this many small numbers, two bytes each.
 fn list_of(alloc: Global, count: u16) -> Result<Vec<u8>, AllocError> {
     let wide = u32::from(count);
     let mut bytes = head(alloc, 0xd0, 4 + 2 * wide, wide)?;
@@ -47,7 +47,7 @@ fn list_of(alloc: Global, count: u16) -> Result<Vec<u8>, AllocError> {
     Ok(bytes)
 }
 
-/// A map of so many numbers, each to null. A key is five bytes.
+/// Returns a map of this many numbers, each to null. A key is five bytes.
 fn map_of(alloc: Global, count: u16) -> Result<Vec<u8>, AllocError> {
     let wide = u32::from(count);
     let mut bytes = head(alloc, 0xd1, 4 + 6 * wide, 2 * wide)?;
@@ -57,7 +57,7 @@ fn map_of(alloc: Global, count: u16) -> Result<Vec<u8>, AllocError> {
     Ok(bytes)
 }
 
-/// A constructor with a size and a count of four bytes.
+/// Returns a constructor with a size and a count of four bytes.
 fn head(alloc: Global, code: u8, size: u32, count: u32) -> Result<Vec<u8>, AllocError> {
     let mut bytes = Vec::from_slice(alloc, &[code])?;
     bytes.extend_from_slice(&size.to_be_bytes())?;

@@ -41,8 +41,8 @@ impl From<Stopped> for Failure {
     }
 }
 
-/// Reads the value so many times, and answers how many bytes were read together. The last byte changes
-/// in each round, so that no answer can be kept for the next one.
+/// Reads the value this many times, and returns how many bytes were read together. The last byte changes in
+/// each round, so that no answer can be kept for the next one.
 pub fn read_often(
     alloc: Global,
     call: Call,
@@ -73,8 +73,8 @@ fn read_once(alloc: Global, call: Call, bytes: &[u8]) -> Result<usize, Stopped> 
     }
 }
 
-/// Writes the frame of the performative that the bytes spell so many times, each time on another channel, and
-/// answers how many bytes were written together.
+/// Writes the frame of the performative that the bytes spell this many times, each time on another channel,
+/// and returns how many bytes were written together.
 pub fn write_often(rounds: u32, bytes: &[u8]) -> Result<u64, Stopped> {
     let (performative, _) = read_body(bytes)?;
     let mut out = [0; 64];

@@ -59,7 +59,7 @@ pub struct Run {
 }
 
 impl Run {
-    /// An endpoint with its links.
+    /// Returns an endpoint with its links.
     pub fn new(alloc: Global, case: Case) -> Result<Run, Stopped> {
         let name = String::from_str(alloc, "bench")?;
         let settings = Config::checked(
@@ -90,7 +90,7 @@ impl Run {
         Ok(run)
     }
 
-    /// Feeds bytes, and moves out what waits to be sent behind each piece of at most so many.
+    /// Feeds bytes, and moves out what waits to be sent after each piece of at most this many.
     pub fn feed(&mut self, bytes: &[u8], by: By) -> Result<(), Stopped> {
         let most = match by {
             By::Pieces(most) => most as usize,
@@ -120,7 +120,7 @@ impl Run {
         Ok(())
     }
 
-    /// The same, read into the endpoint's room.
+    /// Reads a piece into the endpoint's room, and receives the messages that end in it.
     fn fill(&mut self, piece: &[u8]) -> Result<(), Stopped> {
         let mut rest = piece;
         for _ in 0..piece.len() {
@@ -184,7 +184,7 @@ impl Run {
         Ok(())
     }
 
-    /// Moves out what waits to be sent behind every 64th.
+    /// Moves out what waits to be sent after every 64th.
     fn empty_after(&mut self, place: u16) {
         if place % 64 == 63 {
             self.empty();

@@ -51,7 +51,7 @@ impl From<Stopped> for Failure {
     }
 }
 
-/// What a link is attached with.
+/// Returns what a link is attached with.
 fn terms() -> Terms {
     Terms {
         initial_delivery_count: 0,
@@ -60,7 +60,7 @@ fn terms() -> Terms {
     }
 }
 
-/// The first transfer of a delivery.
+/// Returns the first transfer of a delivery.
 fn head(id: u32, settled: bool, more: bool) -> Transfer<'static> {
     Transfer {
         settled: Some(settled),
@@ -69,7 +69,7 @@ fn head(id: u32, settled: bool, more: bool) -> Transfer<'static> {
     }
 }
 
-/// A later one.
+/// Returns a later one.
 fn rest(more: bool) -> Transfer<'static> {
     Transfer { more, ..last(0) }
 }
@@ -93,13 +93,13 @@ fn arrive(
     }
 }
 
-/// Hands a message up and drops it, and answers how long it was.
+/// Hands a message up and drops it, and returns how long it was.
 fn leave(link: &mut Link) -> Result<u64, Stopped> {
     let taken = link.take().ok_or(Stopped::NothingReady)?;
     Ok(taken.message.len() as u64)
 }
 
-/// A link on which the other deliveries are open, each of one frame.
+/// Returns a link on which the other deliveries are open, each of one frame.
 pub fn link_with(alloc: Global, open: Open, payload: &[u8]) -> Result<Link, Stopped> {
     let mut link = Link::attach(alloc, terms());
     match open {
@@ -114,7 +114,7 @@ pub fn link_with(alloc: Global, open: Open, payload: &[u8]) -> Result<Link, Stop
     Ok(link)
 }
 
-/// So many deliveries come and are handed up, with the ids from 0 on.
+/// This many deliveries come and are handed up, with the ids from 0 on.
 fn hand_up(link: &mut Link, count: u32, payload: &[u8]) -> Result<(), Stopped> {
     for id in 0..count {
         arrive(link, id, false, 1, payload)?;
@@ -123,22 +123,22 @@ fn hand_up(link: &mut Link, count: u32, payload: &[u8]) -> Result<(), Stopped> {
     Ok(())
 }
 
-/// A link on which so many deliveries await settlement.
+/// Returns a link on which this many deliveries await settlement.
 pub fn link_awaiting(alloc: Global, count: u32, payload: &[u8]) -> Result<Link, Stopped> {
     let mut link = Link::attach(alloc, terms());
     hand_up(&mut link, count, payload)?;
     Ok(link)
 }
 
-/// The delivery of this round comes, settled by its sender, and the first that is ready is handed up. Answers how long
-/// that was.
+/// Lets the delivery of this round come, settled by its sender, and hands up the first that is ready. Returns how
+/// long that was.
 pub fn deliver(link: &mut Link, round: u32, frames: u32, payload: &[u8]) -> Result<u64, Stopped> {
     arrive(link, OPEN.wrapping_add(round), true, frames, payload)?;
     leave(link)
 }
 
-/// Of so many deliveries that were handed up the receiver settles the one with as many behind it as before it. Then that
-/// of this round comes in one frame, and is handed up to await settlement. Answers how long it was.
+/// Of this many deliveries that were handed up the receiver settles the one with as many after it as before it.
+/// Then that of this round comes in one frame, and is handed up to await settlement. Returns how long it was.
 pub fn settle_and_deliver(
     link: &mut Link,
     open: u32,
@@ -153,7 +153,7 @@ pub fn settle_and_deliver(
     leave(link)
 }
 
-/// Copies the payload so many times behind one another into a new vector, and answers how long it was.
+/// Copies the payload this many times one after another into a new vector, and returns how long it was.
 pub fn copied(alloc: Global, frames: u32, payload: &[u8]) -> Result<u64, AllocError> {
     let mut message = Vec::new(alloc);
     for _ in 0..frames {

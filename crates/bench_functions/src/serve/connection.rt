@@ -57,7 +57,7 @@ impl From<Stopped> for Failure {
     }
 }
 
-/// What was served: so many messages, and the bytes of their answers and their records.
+/// What was served: this many messages, and the bytes of their answers and their records.
 #[derive(Clone, Copy)]
 pub struct Served {
     pub messages: u32,
@@ -65,7 +65,7 @@ pub struct Served {
     pub recorded: u64,
 }
 
-/// Serves a connection on which blocks of messages come until they are at least so many.
+/// Serves a connection on which blocks of messages come until they are at least this many.
 pub fn serve_all(alloc: Global, case: Case, messages: u32) -> Result<Served, Stopped> {
     let mut sender = Sender::new(alloc, case.links, messages)?;
     let (mut answers, mut records) = (Tally { bytes: 0 }, Tally { bytes: 0 });
@@ -113,7 +113,7 @@ fn connect(
     Ok(serve(&mut endpoint, &mut reader, &mut writer, &mut sink, policy)?)
 }
 
-/// An endpoint whose links are allowed so much credit.
+/// Returns an endpoint whose links are allowed this much credit.
 fn new_endpoint(alloc: Global, credit: u32) -> Result<Endpoint, Stopped>
     ensures { IfOk result (λ endpoint. endpoint.unsent ≡ []) }
 {
@@ -181,7 +181,7 @@ impl Sender {
         })
     }
 
-    /// What is to be read before the next block.
+    /// Returns what is to be read before the next block.
     fn rest(&self) -> &[u8] {
         let bytes = if self.sent == 0 {
             &self.opening

@@ -15,7 +15,7 @@ pub enum Stopped {
     Frame(SessionFault),
     /// It refused a call.
     Call(CallFault),
-    /// A link was refused, or no delivery was ready behind a transfer.
+    /// A link was refused, or no delivery was ready after a transfer.
     Link,
 }
 
@@ -37,7 +37,7 @@ impl From<Stopped> for Failure {
     }
 }
 
-/// What a session begins with.
+/// Returns what a session begins with.
 fn terms() -> SessionTerms {
     SessionTerms {
         incoming_window: (1 << 31) - 1,
@@ -47,12 +47,12 @@ fn terms() -> SessionTerms {
     }
 }
 
-/// What its links may keep.
+/// Returns what its links may keep.
 fn bounds() -> LinkBounds {
     LinkBounds::new(MAX_ALLOWED, 1_000_000).unwrap()
 }
 
-/// A delivery comes, for which there is credit then.
+/// Lets a delivery come, after granting credit for it.
 pub fn send(session: &mut Session, handle: u32, id: u32, payload: &[u8]) -> Result<(), Stopped> {
     session.grant(handle, 1)?;
     match session.transfer(&whole(handle, id), payload)? {
@@ -61,14 +61,14 @@ pub fn send(session: &mut Session, handle: u32, id: u32, payload: &[u8]) -> Resu
     }
 }
 
-/// A delivery comes and is handed up. Answers how long it was.
+/// Lets a delivery come, and hands it up. Returns how long it was.
 pub fn arrive(session: &mut Session, handle: u32, id: u32, payload: &[u8]) -> Result<u64, Stopped> {
     send(session, handle, id, payload)?;
     let taken = session.take(handle)?;
     Ok(taken.message.len() as u64)
 }
 
-/// A session with so many links.
+/// Returns a session with this many links.
 pub fn begin(alloc: Global, links: u32) -> Result<Session, Stopped> {
     let mut session = Session::begin(alloc, terms());
     for handle in 0..links {
@@ -80,7 +80,7 @@ pub fn begin(alloc: Global, links: u32) -> Result<Session, Stopped> {
     Ok(session)
 }
 
-/// A session with its links, and what stays open on the first.
+/// Returns a session with its links, and what stays open on the first.
 pub fn session_with(alloc: Global, case: Case, payload: &[u8]) -> Result<Session, Stopped> {
     let mut session = begin(alloc, case.links)?;
     for id in 0..case.open {
@@ -89,7 +89,7 @@ pub fn session_with(alloc: Global, case: Case, payload: &[u8]) -> Result<Session
     Ok(session)
 }
 
-/// The delivery of this round comes, is handed up and settled. Answers how long it was.
+/// Lets the delivery of this round come, hands it up and settles it. Returns how long it was.
 pub fn deliver(
     session: &mut Session,
     case: Case,

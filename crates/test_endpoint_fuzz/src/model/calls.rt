@@ -146,7 +146,7 @@ impl Model {
         })
     }
 
-    /// Whether the open delivery of a session with this id was taken, was told, and is of mode second.
+    /// Returns whether the open delivery of a session with this id was taken, was told, and is of mode second.
     fn open_delivery(
         &self,
         session: Session,
@@ -186,7 +186,7 @@ impl Model {
         Ok(Ok(low(named.len() as u64)))
     }
 
-    /// Why the settlement of a range that names these is refused.
+    /// Returns why the settlement of a range that names these is refused.
     fn range_fault(&self, named: &[Delivery], first: u32, last: u32) -> Option<CallFault> {
         let has = |id: u32| named.iter().any(|delivery| delivery.id == id);
         if !has(first) || !has(last) {
@@ -209,7 +209,7 @@ impl Model {
         }
     }
 
-    /// The open deliveries of a session whose ids a range covers.
+    /// Returns the open deliveries of a session whose ids a range covers.
     fn open_within(
         &self,
         session: Session,
@@ -229,7 +229,8 @@ impl Model {
         Ok(within)
     }
 
-    /// The ids of two open deliveries of a session that were taken, on its first and its last link that has one.
+    /// Returns the ids of two open deliveries of a session that were taken, on its first and its last link that
+    /// has one.
     pub fn taken_ends(&self, session: Session) -> Result<Option<(u32, u32)>, AllocError> {
         let mut ends: Option<(u32, u32)> = None;
         for link in self.links.iter() {
@@ -282,7 +283,7 @@ impl Model {
         Ok(Ok(()))
     }
 
-    /// Why a close or a heartbeat is refused.
+    /// Returns why a close or a heartbeat is refused.
     fn asked_open(&self) -> Result<(), CallFault> {
         match self.stage {
             Stage::Closing | Stage::Dead => Err(CallFault::Dead),

@@ -63,14 +63,14 @@ impl Delivery {
         !self.is_aborted && !(self.is_taken && self.is_settled)
     }
 
-    /// What counts as held of it.
+    /// Returns what counts as held of it.
     pub fn held(&self) -> u64 {
         let message = if self.is_taken { 0 } else { self.len };
         64_u64.saturating_add(self.tag_len).saturating_add(message)
     }
 }
 
-/// Whether an id is one of a range that goes round, of at most half of all ids.
+/// Returns whether an id is one of a range that goes round, of at most half of all ids.
 pub fn covers(first: u32, last: u32, id: u32) -> bool {
     let length = last.wrapping_sub(first);
     length < 1 << 31 && id.wrapping_sub(first) <= length

@@ -1,4 +1,4 @@
-//! What a frame comes to.
+//! What a frame results in.
 
 use crate::model::history::{NONE, What};
 use crate::model::{Model, Session, Stage, number_at};
@@ -32,7 +32,7 @@ impl Model {
         }
     }
 
-    /// Of what comes behind this side's close the peer's close alone counts.
+    /// Of what comes after this side's close the peer's close alone counts.
     fn act_while_closing(&mut self, body: &[u8]) -> Outcome {
         match read_body(body) {
             Ok((Performative::Close(_), _)) => {
@@ -162,7 +162,7 @@ impl Model {
         }
     }
 
-    /// A disposition of a sender that settles.
+    /// Returns a disposition of a sender that settles.
     fn act_on_disposition(
         &mut self,
         session: Session,
@@ -184,7 +184,8 @@ impl Model {
         }
     }
 
-    /// How many deliveries of a session were, at some time, open and not settled, and are not settled.
+    /// Returns how many deliveries of a session were, at some time, open and not settled, and are not
+    /// settled.
     fn unsettled_in(&self, session: Session) -> Result<u32, AllocError> {
         let mut count = 0_u32;
         for link in self.links.iter() {

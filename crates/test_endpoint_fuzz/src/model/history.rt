@@ -7,7 +7,7 @@ use std::alloc::{AllocError, Global};
 /// No life has this number.
 pub const NONE: u32 = 0;
 
-/// What happened in the life of a session, and of a link where it is that of one.
+/// What happened in the life of a session, and of a link if it is that of one.
 #[derive(Drop)]
 pub struct Moment {
     pub session: u32,
@@ -40,7 +40,7 @@ pub struct Part {
     pub format: Option<u32>,
     pub settled: bool,
     pub more: bool,
-    /// Whether it names the mode second, where it names one.
+    /// Whether it names the mode second, if it names one.
     pub second: Option<bool>,
     pub aborted: bool,
     pub payload: Vec<u8>,
@@ -61,7 +61,7 @@ pub struct History {
     pub moments: Vec<Moment>,
 }
 
-/// Whether the transfer behind this one of its link begins a delivery.
+/// Returns whether the transfer after this one of its link begins a delivery.
 pub fn ends_delivery(before: Option<&Part>) -> bool {
     match before {
         Some(part) => !part.more || part.aborted,
@@ -70,7 +70,7 @@ pub fn ends_delivery(before: Option<&Part>) -> bool {
 }
 
 impl History {
-    /// The places that are left of a session's window, which opened with so many.
+    /// Returns the places that are left of a session's window, which opened with this many.
     pub fn window(&self, session: u32, opening: u32) -> u64 {
         let mut places = u64::from(opening);
         for moment in self.moments.iter() {
@@ -85,7 +85,7 @@ impl History {
         places
     }
 
-    /// The last next-outgoing-id that the peer stated, and the transfers since.
+    /// Returns the last next-outgoing-id that the peer stated, and the transfers since.
     pub fn next_incoming_id(&self, session: u32) -> u32 {
         let mut next = 0_u32;
         for moment in self.moments.iter() {
@@ -104,7 +104,7 @@ impl History {
         next
     }
 
-    /// The link's last transfer.
+    /// Returns the link's last transfer.
     pub fn last_part(&self, link: u32) -> Option<&Part> {
         let mut last = None;
         for moment in self.moments.iter() {
@@ -117,7 +117,8 @@ impl History {
         last
     }
 
-    /// What was granted to a link, and what of it was used up by heads and by advances, in its first so many moments.
+    /// Returns what was granted to a link, and what of it was used up by heads and by advances, in its first this
+    /// many moments.
     fn used(&self, link: u32, moments: usize) -> (u64, u64) {
         let (mut granted, mut used) = (0_u64, 0_u64);
         let mut before = None;
@@ -146,13 +147,13 @@ impl History {
         self.credit_after(link, self.moments.len())
     }
 
-    /// The delivery-count.
+    /// Returns the delivery-count.
     pub fn count(&self, life: Life) -> u32 {
         let (_, used) = self.used(life.link, self.moments.len());
         life.first_count.wrapping_add(low(used))
     }
 
-    /// Whether the sender was asked to use its credit up, and neither did so since nor was granted more.
+    /// Returns whether the sender was asked to use its credit up, and neither did so since nor was granted more.
     pub fn is_marked(&self, link: u32) -> bool {
         let mut is_marked = false;
         for (at, moment) in self.moments.iter().enumerate() {
@@ -170,7 +171,7 @@ impl History {
         is_marked
     }
 
-    /// All deliveries of a link, in order, as they stand.
+    /// Returns all deliveries of a link, in order, as they stand.
     pub fn deliveries(&self, alloc: Global, life: Life) -> Result<Vec<Delivery>, AllocError> {
         let mut all = Vec::new(alloc);
         let mut before = None;
@@ -196,7 +197,7 @@ impl History {
         Ok(all)
     }
 
-    /// The transfer with which a delivery begins.
+    /// Returns the transfer with which a delivery begins.
     pub fn head(&self, delivery: Delivery) -> Option<&Part> {
         match &self.moments.get(delivery.head)?.what {
             What::Sent(part) => Some(part),
@@ -204,7 +205,7 @@ impl History {
         }
     }
 
-    /// The payloads of a delivery of a link that are not aborted, joined.
+    /// Returns the payloads of a delivery of a link that are not aborted, joined.
     pub fn message(
         &self,
         alloc: Global,

@@ -63,7 +63,7 @@ impl Model {
         }
     }
 
-    /// Why the link of an attach is refused.
+    /// Returns why the link of an attach is refused.
     fn refusal(
         &self,
         attach: Attach<'_>,
@@ -144,7 +144,8 @@ impl Model {
         }
     }
 
-    /// The link of a frame: whether it is live, and what its sums want; none where the handle is not in use.
+    /// Returns the link of a frame: whether it is live, and what its sums want; none if the handle is not in
+    /// use.
     fn link_of(&self, session: Session, handle: u32) -> Option<(bool, Life)> {
         let link = self.link(session, handle)?;
         Some((link.is_live, link.life))
@@ -200,7 +201,7 @@ impl Model {
         }))
     }
 
-    /// What is wrong with a transfer on a live link.
+    /// Returns what is wrong with a transfer on a live link.
     fn transfer_fault(
         &self,
         session: Session,
@@ -265,7 +266,7 @@ impl Model {
         Ok(false)
     }
 
-    /// Whether a transfer that goes on with a delivery says something else than its head.
+    /// Returns whether a transfer that goes on with a delivery says something else than its head.
     fn differs(&self, delivery: Delivery, transfer: Transfer<'_>) -> bool {
         let Some(head) = self.history.head(delivery) else {
             return true;
@@ -349,7 +350,7 @@ fn failed_link(channel: u16, handle: u32, condition: Condition, dropped: u32) ->
     })
 }
 
-/// The attach that answers one.
+/// Returns the attach that answers one.
 fn reply_to<'a>(attach: Attach<'a>, max_message_size: &'a [u8]) -> Attach<'a> {
     Attach {
         role: match attach.role {
@@ -367,7 +368,7 @@ fn reply_to<'a>(attach: Attach<'a>, max_message_size: &'a [u8]) -> Attach<'a> {
     }
 }
 
-/// The shortest spelling of a number as ulong.
+/// Returns the shortest spelling of a number as ulong.
 fn ulong(number: u32, room: &mut [u8; 9]) -> &[u8] {
     match u8::try_from(number) {
         Ok(0) => b"\x44",
@@ -384,7 +385,7 @@ fn ulong(number: u32, room: &mut [u8; 9]) -> &[u8] {
     }
 }
 
-/// A transfer, as the history keeps it.
+/// Returns a transfer, as the history keeps it.
 fn part_of(
     alloc: std::alloc::Global,
     transfer: Transfer<'_>,

@@ -13,7 +13,7 @@ const STUCK: Miss = Miss::Unread("the endpoint is stuck");
 /// The credit that a link is kept at.
 const CREDIT: u32 = 16;
 
-/// What came of a stream.
+/// The result of a stream.
 #[derive(Drop)]
 pub struct Received {
     messages: u32,
@@ -52,7 +52,7 @@ impl Display for Received {
     }
 }
 
-/// Receives a stream in pieces of at most so many bytes.
+/// Receives a stream in pieces of at most this many bytes.
 pub fn receive(alloc: Global, stream: &[u8], most: usize) -> Result<Received, Miss> {
     let name = String::from_str(alloc, "recv")?;
     let Some(config) = Config::checked(name, 65536, 7, 7, CREDIT, 1048576, 2048) else {

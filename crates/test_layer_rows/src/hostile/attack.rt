@@ -2,10 +2,10 @@
 //!
 //! - `settings MAX_FRAME CHANNEL_MAX HANDLE_MAX ALLOWED MAX_MESSAGE WINDOW` of the endpoint, and the credit of a link is what
 //!   it is allowed.
-//! - `opening BYTES`: what the peer sends at first. Bytes are words of hex text, and `00*40` is a byte so many times.
-//! - `unit BYTES`: what it sends then, again and again. `numbered AT WIDTH`: with the next number in so many bytes from there
+//! - `opening BYTES`: what the peer sends at first. Bytes are words of hex text, and `00*40` is a byte this many times.
+//! - `unit BYTES`: what it sends then, again and again. `numbered AT WIDTH`: with the next number in this many bytes from there
 //!   on, from 0.
-//! - `by N`: it sends at most so many bytes at a time. `reads N`: it takes so many bytes, and then none.
+//! - `by N`: it sends at most this many bytes at a time. `reads N`: it takes this many bytes, and then none.
 //! - `serve N`: serves it until it has sent the unit N times, and answers how the connection ended, or the fault that
 //!   ended it. It shows how many bytes it
 //!   sent, what it got, as `got=header,open,flow*3`, how many errors and the last one's condition, and the bytes of the records.
@@ -28,7 +28,7 @@ use std::alloc::Global;
 use test_row_files::words::{name_of, number, two_numbers};
 use test_row_files::{Heap, Miss, Subject};
 
-/// What the peer does, and what came of the last connection with it.
+/// What the peer does, and the result of the last connection with it.
 #[derive(Drop)]
 pub struct Attack<'a> {
     heap: Heap<'a>,

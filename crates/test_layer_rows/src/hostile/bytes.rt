@@ -4,7 +4,7 @@ use std::alloc::Global;
 use test_row_files::Miss;
 use test_row_files::words::{bytes_of, number};
 
-/// The bytes of words that are hex text each, or a byte so many times, as `00*40`.
+/// Returns the bytes of words that are hex text each, or a byte this many times, as `00*40`.
 pub fn bytes_in(alloc: Global, words: &str) -> Result<Vec<u8>, Miss> {
     let mut bytes = Vec::new(alloc);
     for word in words.split(' ') {

@@ -1,10 +1,10 @@
-//! A peer that makes its bytes as they are asked for.
+//! A peer that makes its bytes as they are requested.
 
 ghost use Rattle.std.specs.Prelude.{◌≤◌, length};
 
 use std::io::{self, Read};
 
-/// Where a unit has a number, big-endian in so many bytes.
+/// Where a unit has a number, big-endian in this many bytes.
 #[derive(Clone, Copy)]
 pub struct Number {
     pub at: usize,
@@ -12,7 +12,7 @@ pub struct Number {
     pub next: u32,
 }
 
-/// Sends an opening, and then a unit so many times, each time with the next number in it.
+/// Sends an opening, and then a unit this many times, each time with the next number in it.
 #[derive(Drop)]
 pub struct Peer<'a> {
     opening: &'a [u8],
@@ -47,7 +47,7 @@ impl<'a> Peer<'a> {
         }
     }
 
-    /// How many bytes it gave.
+    /// Returns how many bytes it gave.
     pub fn given(&self) -> u64 {
         self.given
     }
@@ -91,7 +91,7 @@ impl Peer<'_> {
     }
 }
 
-/// Copies the first bytes, as many as are there and have room, at most so many.
+/// Copies the first bytes, as many as are there and have room, at most this many.
 fn give(buf: &mut [u8], source: &[u8], most: usize) -> usize
     ensures { result ≤ length buf.old }
 {

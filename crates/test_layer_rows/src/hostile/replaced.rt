@@ -9,8 +9,8 @@ use amqp_serve::{Policy, serve};
 use std::alloc::Global;
 use test_row_files::{Heap, Miss};
 
-/// Replaces each byte by 0, by 255 and by the next number, and answers how many of these streams come to their end, with no
-/// more held behind any call than may be.
+/// Replaces each byte by 0, by 255 and by the next number, and returns how many of these streams come to their
+/// end, with no more held after any call than may be.
 pub fn count_kept(
     alloc: Global,
     heap: Heap<'_>,
@@ -37,8 +37,8 @@ fn put(bytes: &mut Vec<u8>, at: usize, byte: u8) {
     }
 }
 
-/// Whether an application that takes and settles what comes finds no more held than may be with one session and two links,
-/// behind each of its calls.
+/// Returns whether an application that takes and settles what comes finds no more held than may be with one
+/// session and two links, after each of its calls.
 fn is_bounded(heap: Heap<'_>, settings: Settings, stream: &[u8]) -> Result<bool, Miss> {
     let mut endpoint = Endpoint::new(heap, settings.config(heap)?)?;
     let bound = settings.bound(1, 2);
@@ -55,8 +55,8 @@ fn is_bounded(heap: Heap<'_>, settings: Settings, stream: &[u8]) -> Result<bool,
     Ok(is_over && most.max(endpoint.held()) <= bound)
 }
 
-/// Grants to a link that is attached, and takes and settles a message that is ready. Answers the most that was held behind
-/// one of the calls.
+/// Grants to a link that is attached, and takes and settles a message that is ready. Returns the most that was
+/// held after one of the calls.
 fn follow(endpoint: &mut Endpoint<Heap<'_>>, outcome: Outcome) -> u64 {
     let mut most = 0;
     match outcome {
@@ -76,7 +76,7 @@ fn follow(endpoint: &mut Endpoint<Heap<'_>>, outcome: Outcome) -> u64 {
     endpoint.held().max(most)
 }
 
-/// Whether a server comes to the end of it, and its peer is sent whole frames.
+/// Returns whether a server comes to the end of it, and its peer is sent whole frames.
 fn is_served(
     alloc: Global,
     heap: Heap<'_>,

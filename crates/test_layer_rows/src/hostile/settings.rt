@@ -4,7 +4,7 @@ use amqp_endpoint::Config;
 use test_row_files::words::six_numbers;
 use test_row_files::{Heap, Miss};
 
-/// In the order of `Config::checked`, behind the name.
+/// In the order of `Config::checked`, after the name.
 #[derive(Clone, Copy)]
 pub struct Settings {
     max_frame: u32,
@@ -26,7 +26,7 @@ pub const SMALL: Settings = Settings {
 };
 
 impl Settings {
-    /// Those of six numbers.
+    /// Returns the settings that six numbers give.
     pub fn of(words: &str) -> Result<Settings, Miss> {
         let [
             max_frame,
@@ -60,7 +60,7 @@ impl Settings {
         config.ok_or(Miss::Unread("no such settings"))
     }
 
-    /// The most bytes that may be held with so many sessions and links.
+    /// Returns the most bytes that may be held with this many sessions and links.
     pub fn bound(self, sessions: u64, links: u64) -> u64 {
         let each = u64::from(self.max_message).saturating_add(96);
         let link = u64::from(self.allowed)

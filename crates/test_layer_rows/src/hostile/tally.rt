@@ -30,13 +30,13 @@ pub struct Tally {
     errors: u64,
     /// The last one.
     condition: Condition,
-    /// It takes so many bytes, and then none.
+    /// It takes this many bytes, and then none.
     room: u64,
     taken: u64,
 }
 
 impl Tally {
-    /// A peer that reads so many bytes.
+    /// Returns a peer that reads this many bytes.
     pub fn new(alloc: Global, room: u64) -> Result<Tally, AllocError> {
         Ok(Tally {
             input: Splitter::new(alloc, LONGEST)?,
@@ -48,7 +48,7 @@ impl Tally {
         })
     }
 
-    /// Whether what it took are whole units.
+    /// Returns whether what it took are whole units.
     pub fn is_whole(&self) -> bool {
         self.input.is_empty()
     }

@@ -8,9 +8,9 @@ use test_row_files::{Heap, Miss};
 /// The bytes of the answers to an opening, at most.
 const ANSWERS: usize = 1000;
 
-/// Feeds an opening, whose answers are read, and then a unit so many times, and asks behind each what is held. It tells how
-/// many units were acted upon, the most that was held, and that no memory was asked for; and what becomes of the unit that waits
-/// once ten bytes are read, and then one more.
+/// Feeds an opening, whose answers are read, and then a unit this many times, and asks after each what is held. It
+/// tells how many units were acted upon, the most that was held, and that no memory was requested; and what
+/// becomes of the unit that waits once ten bytes are read, and then one more.
 pub fn unread(
     alloc: Global,
     heap: Heap<'_>,

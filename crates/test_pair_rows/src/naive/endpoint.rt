@@ -68,12 +68,12 @@ impl Endpoint {
         }
     }
 
-    /// Whether a session lives whose window has no place.
+    /// Returns whether a session lives whose window has no place.
     pub fn has_no_place(&self) -> bool {
         self.has_session && self.window == 0
     }
 
-    /// Takes what it is fed, and acts upon it where there is room for an answer.
+    /// Takes what it is fed, and acts upon it if there is room for an answer.
     pub fn feed(
         &mut self,
         from: &mut Way<Sent<'_>>,
@@ -184,7 +184,7 @@ impl Endpoint {
         Ok(())
     }
 
-    /// Why a call for the link is refused, whatever it asks.
+    /// Returns why a call for the link is refused, whatever it asks.
     fn no_link(&self) -> Option<CallFault> {
         match (self.has_session, self.has_link) {
             (false, _) => Some(CallFault::NoSession),
@@ -310,7 +310,7 @@ impl Endpoint {
     }
 }
 
-/// How long an outcome is [3.4].
+/// Returns how long an outcome is [3.4].
 fn state(outcome: Settlement) -> usize {
     match outcome {
         Settlement::Modified {

@@ -81,7 +81,7 @@ impl<'a> Sender<'a> {
         Ok(None)
     }
 
-    /// Takes what it is fed, and acts upon it where there is room for an answer.
+    /// Takes what it is fed, and acts upon it if there is room for an answer.
     pub fn feed(
         &mut self,
         from: &mut Way<Reply>,
@@ -192,7 +192,7 @@ impl<'a> Sender<'a> {
         Ok(())
     }
 
-    /// Writes the next frame of the message, if it may be written, and answers whether it was.
+    /// Writes the next frame of the message, if it may be written, and returns whether it was.
     fn write_frame(&mut self, way: &mut Way<Sent<'a>>) -> Result<bool, AllocError> {
         let Some(message) = self.message else {
             return Ok(false);
@@ -241,7 +241,8 @@ impl<'a> Sender<'a> {
     }
 }
 
-/// How long a transfer is without its payload: the first of a delivery has its id, its tag and its format, and each has its handle.
+/// Returns how long a transfer is without its payload: the first of a delivery has its id, its tag and its format,
+/// and each has its handle.
 fn transfer(id: Option<u32>, more: bool) -> usize {
     match id {
         Some(id) => frame(&[BYTE, uint(u64::from(id)), TAG, BYTE, ABSENT, flag(more)]),

@@ -33,12 +33,12 @@ pub fn ulong(n: u64) -> usize {
     }
 }
 
-/// A flag whose default is false.
+/// Returns a flag whose default is false.
 pub fn flag(is_set: bool) -> usize {
     if is_set { BYTE } else { ABSENT }
 }
 
-/// A text of at most 255 bytes.
+/// Returns a text of at most 255 bytes.
 pub fn text(len: usize) -> usize {
     len.saturating_add(2)
 }
@@ -59,12 +59,12 @@ fn list(fields: &[usize]) -> usize {
     }
 }
 
-/// A list with a descriptor of one byte.
+/// Returns a list with a descriptor of one byte.
 pub fn described(fields: &[usize]) -> usize {
     list(fields).saturating_add(3)
 }
 
-/// A frame with these fields and no payload.
+/// Returns a frame with these fields and no payload.
 pub fn frame(fields: &[usize]) -> usize {
     described(fields).saturating_add(8)
 }

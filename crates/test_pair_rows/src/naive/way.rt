@@ -6,8 +6,8 @@ use std::collections::VecDeque;
 /// How many bytes wait at an end, and how many lie in a pipe, at most.
 const MOST: usize = 8192;
 
-/// The units that one end wrote and the other has not acted upon, and where their bytes lie: behind those that the reader took
-/// come those in the pipe, then those that wait at the writer.
+/// The units that one end wrote and the other has not acted upon, and where their bytes lie: after those that the
+/// reader took come those in the pipe, then those that wait at the writer.
 #[derive(Drop)]
 pub struct Way<T: Copy + Drop> {
     units: VecDeque<Unit<T>>,
@@ -36,7 +36,7 @@ impl<T: Copy + Drop> Way<T> {
         }
     }
 
-    /// How many bytes more the writer may write.
+    /// Returns how many bytes more the writer may write.
     pub fn room(&self) -> usize {
         MOST.saturating_sub(self.unsent)
     }
@@ -47,7 +47,7 @@ impl<T: Copy + Drop> Way<T> {
         Ok(())
     }
 
-    /// Moves the first unsent bytes into the pipe: so many, or as many as there are and fit.
+    /// Moves the first unsent bytes into the pipe: this many, or as many as there are and fit.
     pub fn fill(&mut self, n: usize) {
         let moved = n.min(self.unsent).min(MOST.saturating_sub(self.pipe));
         self.unsent = self.unsent.saturating_sub(moved);
@@ -57,7 +57,7 @@ impl<T: Copy + Drop> Way<T> {
         }
     }
 
-    /// Feeds the pipe to the reader, which takes bytes to the end of the first unit, and none where that waits.
+    /// Feeds the pipe to the reader, which takes bytes to the end of the first unit, and none if that waits.
     pub fn feed(&mut self) -> usize {
         let len = match self.units.front() {
             Some(unit) => unit.len,
@@ -69,7 +69,7 @@ impl<T: Copy + Drop> Way<T> {
         used
     }
 
-    /// The first unit, where the reader took all of it.
+    /// Returns the first unit, where the reader took all of it.
     pub fn waiting(&self) -> Option<T> {
         let unit = self.units.front()?;
         if self.taken == unit.len {

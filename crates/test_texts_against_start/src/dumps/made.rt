@@ -80,7 +80,7 @@ const OCTETS: &[u8] = b"\x00\x01\x09\x0a\x0f\x10\x19\x9a\xa9\xaa\xf0\xf9\xfa\xff
 /// Bytes of texts that do not stand for themselves.
 const ESCAPED: &[u8] = b"\"\\\x00\x1f\x7f";
 
-/// The first bytes of characters of three and four bytes, with the others behind them.
+/// The first bytes of characters of three and four bytes, with the others after them.
 const CHARACTERS: [&str; 10] = [
     "\u{800}",
     "\u{fff}",
@@ -102,7 +102,7 @@ const HALVES: [u64; 9] = [
     0, 1, 9, 10, 9_999, 10_000, 12_345_678, 99_999_999, 90_000_009,
 ];
 
-/// A value of each code of the standard: the code and the data behind it. [1.6]
+/// A value of each code of the standard: the code and the data after it. [1.6]
 const VALUES: [(u8, &[u8]); 40] = [
     (0x40, b""),
     (0x41, b""),
@@ -155,7 +155,7 @@ const VALUES: [(u8, &[u8]); 40] = [
 /// How deep values stand within others.
 const DEPTH: usize = 4;
 
-/// The stream that follows from these numbers.
+/// Returns the stream that follows from these numbers.
 pub fn stream(alloc: Global, numbers: &mut Numbers) -> Result<Vec<u8>, AllocError> {
     let mut stream = Vec::from_slice(alloc, &HEADER)?;
     if numbers.is_one_of(40) {
@@ -214,7 +214,7 @@ impl Frames {
         self.put(&value)
     }
 
-    /// The same of `len` bytes, with these from `at` on among letters. None where they reach beyond the end.
+    /// Appends a value of `len` bytes, with these from `at` on among letters. None if they reach beyond the end.
     fn put_among(
         &mut self,
         code: u8,
@@ -234,7 +234,7 @@ impl Frames {
     }
 }
 
-/// So many letters.
+/// Returns this many letters.
 fn letters(alloc: Global, count: usize) -> Result<Vec<u8>, AllocError> {
     let mut letters = Vec::new(alloc);
     for letter in (b'a'..b'z').cycle().take(count) {
@@ -354,7 +354,8 @@ fn masks(alloc: Global) -> Result<Frames, AllocError> {
     Ok(frames)
 }
 
-/// A text of so many bytes, of which those do not stand for themselves whose bit is set: the lowest is that of the first one.
+/// Returns a text of this many bytes, of which those do not stand for themselves whose bit is set: the lowest is
+/// that of the first one.
 fn masked(alloc: Global, len: usize, mask: u32) -> Result<Vec<u8>, AllocError> {
     let mut text = letters(alloc, len)?;
     let mut bits = mask;
@@ -461,7 +462,7 @@ fn uuids(alloc: Global) -> Result<Frames, AllocError> {
     Ok(frames)
 }
 
-/// A value of each kind: by itself, described, within others, and in arrays.
+/// Returns a value of each kind: by itself, described, within others, and in arrays.
 fn kinds(alloc: Global) -> Result<Frames, AllocError> {
     let mut frames = Frames::new(alloc)?;
     for (code, data) in VALUES {
@@ -492,7 +493,7 @@ fn put_within(alloc: Global, frames: &mut Frames, code: u8, data: &[u8]) -> Resu
     Ok(())
 }
 
-/// Appends frames with arrays of none up to four items behind their constructor.
+/// Appends frames with arrays of none up to four items after their constructor.
 fn put_arrays(
     alloc: Global,
     frames: &mut Frames,
@@ -571,7 +572,7 @@ fn put_long_frame(
     stream.extend_from_slice(&items)
 }
 
-/// Appends a value so many times.
+/// Appends a value this many times.
 fn put_each(out: &mut Vec<u8>, count: u32, value: &[u8]) -> Result<(), AllocError> {
     for _ in 0..count {
         out.extend_from_slice(value)?;
@@ -765,7 +766,7 @@ fn put_octets(out: &mut Vec<u8>, numbers: &mut Numbers, code: u8) -> Result<(), 
     put_data(out, numbers, code)
 }
 
-/// The same behind the code.
+/// Appends the data of a binary, a string or a symbol, after its code.
 fn put_data(out: &mut Vec<u8>, numbers: &mut Numbers, code: u8) -> Result<(), AllocError> {
     let mut octets = Vec::new(*out.allocator());
     let count = numbers.of_these(&LENGTHS);
@@ -788,7 +789,7 @@ fn put_data(out: &mut Vec<u8>, numbers: &mut Numbers, code: u8) -> Result<(), Al
     out.extend_from_slice(&octets)
 }
 
-/// Appends a text of so many bytes at most: letters, or others beside them.
+/// Appends a text of this many bytes at most: letters, or others beside them.
 fn put_text(out: &mut Vec<u8>, numbers: &mut Numbers, count: u32) -> Result<(), AllocError> {
     let odd = numbers.below(3);
     for _ in 0..count / 3 {
@@ -825,7 +826,7 @@ fn put_fixed(out: &mut Vec<u8>, numbers: &mut Numbers, code: u8) -> Result<(), A
     put_width(out, code, front, number)
 }
 
-/// Appends a number as wide as the data behind a code are, with one in front of it where they are wider. [1.2]
+/// Appends a number as wide as the data after a code are, with one before it if they are wider. [1.2]
 fn put_width(out: &mut Vec<u8>, code: u8, front: u64, number: u64) -> Result<(), AllocError> {
     let [a, b, c, d, e, f, g, h] = number.to_be_bytes();
     match code >> 4 {
@@ -843,7 +844,7 @@ fn put_width(out: &mut Vec<u8>, code: u8, front: u64, number: u64) -> Result<(),
     }
 }
 
-/// Appends so many bytes.
+/// Appends this many bytes.
 fn put_bytes(out: &mut Vec<u8>, numbers: &mut Numbers, count: u32) -> Result<(), AllocError> {
     for _ in 0..count {
         out.push((numbers.next() >> 40 & 0xff) as u8)?;

@@ -68,7 +68,7 @@ const SECOND_LINES: [&[u8]; 6] = [
 /// Rows of a table of limits.
 const ROWS: [&[u8]; 3] = [b"a 50 1000", b"ab 1024 1073741824", b"7 8 9"];
 
-/// Lines that ask for calls behind an opening, two links with credit, a delivery that is taken and one that waits.
+/// Lines that ask for calls after an opening, two links with credit, a delivery that is taken and one that waits.
 const CALLS: [&[u8]; 24] = [
     b"close",
     b"heartbeat",
@@ -164,7 +164,7 @@ const SPELLED: [&[u8]; 40] = [
     b"1\r",
 ];
 
-/// What stands behind a line whose bytes are edited: it shows what came of it.
+/// What stands after a line whose bytes are edited: it shows the result of it.
 const SHOWN: &[u8] = b"\ntake 0 0\ntake 0 1\nheld\noutput 9000\nfinish\n";
 
 /// A payload in whose digits each digit stands in both places of a byte.
@@ -174,7 +174,7 @@ const PAYLOAD: &[u8] =
 /// Numbers of channels and handles that are shown in answers.
 const PLACES: [u8; 8] = [0, 1, 9, 10, 99, 100, 199, 255];
 
-/// The same of deliveries and formats.
+/// Numbers of deliveries and formats that are shown in answers.
 const IDS: [u32; 22] = [
     0,
     1,
@@ -235,7 +235,7 @@ impl Sample {
         })
     }
 
-    /// The line with these bytes in the place of so many of its own.
+    /// Returns the line with these bytes in the place of this many of its own.
     pub fn edited(
         &self,
         alloc: Global,
@@ -250,13 +250,13 @@ impl Sample {
         Ok(line)
     }
 
-    /// The text with this line in the place of its own.
+    /// Returns the text with this line in the place of its own.
     pub fn with(&self, alloc: Global, line: &[u8]) -> Result<Vec<u8>, AllocError> {
         joined(alloc, &[&self.front, line, &self.behind])
     }
 }
 
-/// These one behind the other.
+/// Returns these parts, one after the other.
 fn joined(alloc: Global, parts: &[&[u8]]) -> Result<Vec<u8>, AllocError> {
     let mut bytes = Vec::new(alloc);
     for part in parts {
@@ -290,7 +290,7 @@ fn put_settings(alloc: Global, samples: &mut Vec<Sample>) -> Result<(), AllocErr
     Ok(())
 }
 
-/// Scripts of which a line behind the opening is edited.
+/// Scripts of which a line after the opening is edited.
 fn put_calls(alloc: Global, samples: &mut Vec<Sample>) -> Result<(), AllocError> {
     let opened = Script::opened(alloc, &mut Numbers::of(0))?;
     let front = joined(alloc, &[CONFIG, b"\n", &opened])?;
@@ -325,7 +325,7 @@ fn put_rows(alloc: Global, samples: &mut Vec<Sample>) -> Result<(), AllocError> 
     Ok(())
 }
 
-/// Scripts with a line that feeds so many digits, for each count up to some words of them.
+/// Scripts with a line that feeds this many digits, for each count up to some words of them.
 pub fn digits(alloc: Global) -> Result<Vec<Sample>, AllocError> {
     let front = joined(alloc, &[CONFIG, b"\n"])?;
     let mut samples = Vec::new(alloc);
@@ -348,7 +348,7 @@ pub fn edges(alloc: Global) -> Result<Vec<Sample>, AllocError> {
     Ok(samples)
 }
 
-/// Scripts and tables of so many limits, up to some more than there may be, and one of some rows behind them.
+/// Scripts and tables of this many limits, up to some more than there may be, and one of some rows after them.
 fn put_limits(alloc: Global, samples: &mut Vec<Sample>) -> Result<(), AllocError> {
     let front = joined(alloc, &[CONFIG, b"\n"])?;
     for count in 0..MOST_LIMITS {
@@ -369,7 +369,7 @@ fn put_limits(alloc: Global, samples: &mut Vec<Sample>) -> Result<(), AllocError
     Ok(())
 }
 
-/// So many limits of different prefixes behind a word, and this row.
+/// Returns this many limits of different prefixes after a word, and this row.
 fn numbered_limits(
     alloc: Global,
     word: &[u8],
@@ -490,7 +490,7 @@ struct Place {
     handle: u8,
 }
 
-/// The frame of a whole delivery of this id, and of this format.
+/// Returns the frame of a whole delivery of this id, and of this format.
 fn delivery(
     alloc: Global,
     place: Place,
@@ -511,7 +511,7 @@ fn delivery(
     )
 }
 
-/// A frame on a channel.
+/// Returns a frame on a channel.
 fn frame(
     alloc: Global,
     channel: u8,
@@ -544,7 +544,8 @@ impl Script {
         }
     }
 
-    /// The lines behind the first one that open two links, give them credit, and feed two deliveries, of which the first is taken.
+    /// Returns the lines after the first one that open two links, give them credit, and feed two deliveries, of
+    /// which the first is taken.
     fn opened(alloc: Global, numbers: &mut Numbers) -> Result<Vec<u8>, AllocError> {
         let mut script = Script::new(alloc);
         script.opening(numbers, 1)?;
@@ -567,8 +568,8 @@ impl Script {
         Ok(script.bytes)
     }
 
-    /// A script with a session and a link at a place: of three deliveries, of which this is the first id, two are taken, and all
-    /// that can be told of a link and a session is told before they end.
+    /// Returns a script with a session and a link at a place: of three deliveries, of which this is the first id,
+    /// two are taken, and all that can be told of a link and a session is told before they end.
     fn at(alloc: Global, place: Place, id: u32) -> Result<Vec<u8>, AllocError> {
         let Place { channel, handle } = place;
         let numbers = &mut Numbers::of(u64::from(id));
@@ -616,7 +617,7 @@ impl Script {
         self.end_line(numbers, 1)
     }
 
-    /// The script that follows from these numbers.
+    /// Returns the script that follows from these numbers.
     pub fn made(alloc: Global, numbers: &mut Numbers) -> Result<Vec<u8>, AllocError> {
         let mut script = Script::new(alloc);
         let most = if numbers.is_one_of(2) { 1 } else { 400 };
@@ -637,7 +638,7 @@ impl Script {
         Ok(script.bytes)
     }
 
-    /// Ends the line, which is another one in one case of so many, and in none of 1.
+    /// Ends the line, which is another one in one case of this many, and in none of 1.
     fn end_line(&mut self, numbers: &mut Numbers, most: u32) -> Result<(), AllocError> {
         let start = self.bytes.len();
         self.bytes.extend_from_slice(self.line.as_bytes())?;
@@ -766,7 +767,8 @@ impl Script {
         self.feed(room.get(..count).unwrap_or(&[]), numbers)
     }
 
-    /// The transfer of a delivery, the first one or one that goes on with it; at times the last one gives it up.
+    /// Returns the transfer of a delivery, the first one or one that goes on with it; at times the last one gives
+    /// it up.
     fn next_transfer(&mut self, numbers: &mut Numbers, handle: u32) -> Transfer<'static> {
         let mut transfer = Transfer::blank();
         transfer.handle = handle;
@@ -820,13 +822,13 @@ impl Script {
     }
 }
 
-/// A number as it may be spelled.
+/// Returns a number as it may be spelled.
 fn word(numbers: &mut Numbers) -> &'static str {
     let at = numbers.below(24) as usize;
     WRITTEN.get(at).copied().unwrap_or("0")
 }
 
-/// Takes the byte at a place away, puts one in front of it, or puts another in its place.
+/// Takes the byte at a place away, puts one before it, or puts another in its place.
 fn change(bytes: &mut Vec<u8>, at: usize, numbers: &mut Numbers) -> Result<(), AllocError> {
     let behind = Vec::from_slice(*bytes.allocator(), bytes.get(at..).unwrap_or(&[]))?;
     bytes.truncate(at);
@@ -848,7 +850,7 @@ fn change(bytes: &mut Vec<u8>, at: usize, numbers: &mut Numbers) -> Result<(), A
 pub struct Table {}
 
 impl Table {
-    /// The table that follows from these numbers.
+    /// Returns the table that follows from these numbers.
     pub fn made(alloc: Global, numbers: &mut Numbers) -> Result<Vec<u8>, AllocError> {
         let mut text = String::new(alloc);
         for _ in 0..numbers.below(5) {

@@ -33,12 +33,12 @@ pub fn put_number(out: &mut Page, number: u64) -> Result<(), AllocError> {
     put_digits(out, number)
 }
 
-/// The last digit of a number.
+/// Returns the last digit of a number.
 fn digit(number: u64) -> u8 {
     b'0' + (number % 10) as u8
 }
 
-/// The same, for numbers of two and of three digits.
+/// Appends a number of two or three digits.
 fn put_three(out: &mut Page, number: u64) -> Result<(), AllocError> {
     let digits = [digit(number / 100), digit(number / 10), digit(number)];
     if number < 100 {
@@ -48,7 +48,7 @@ fn put_three(out: &mut Page, number: u64) -> Result<(), AllocError> {
     }
 }
 
-/// The same, for longer ones.
+/// Appends a number of more digits.
 fn put_digits(out: &mut Page, number: u64) -> Result<(), AllocError> {
     if number >= EIGHT_DIGITS {
         put_digits(out, number / EIGHT_DIGITS)?;
@@ -61,9 +61,9 @@ fn put_digits(out: &mut Page, number: u64) -> Result<(), AllocError> {
     out.put_short(text.to_le_bytes(), zeros as usize)
 }
 
-/// The eight digits of a number below [`EIGHT_DIGITS`], one a byte, the first in the lowest: the number is cut
-/// into halves, both halves at once into pairs, and all pairs into digits. `10_486 >> 20` and `103 >> 10` stand for
-/// a hundredth and a tenth.
+/// Returns the eight digits of a number below [`EIGHT_DIGITS`], one a byte, the first in the lowest: the number is
+/// cut into halves, both halves at once into pairs, and all pairs into digits. `10_486 >> 20` and `103 >> 10`
+/// stand for a hundredth and a tenth.
 fn digits_of(number: u64) -> u64 {
     let halves = number / 10_000 | (number % 10_000) << 32;
     let hundreds = (halves.wrapping_mul(10_486) >> 20) & 0x0000_007f_0000_007f;
@@ -72,7 +72,7 @@ fn digits_of(number: u64) -> u64 {
     tens | pairs.wrapping_sub(tens.wrapping_mul(10)) << 8
 }
 
-/// Appends a number of so many bytes in two's complement.
+/// Appends a number of this many bytes in two's complement.
 pub fn put_signed(out: &mut Page, width: usize, number: u64) -> Result<(), AllocError> {
     let half = match width {
         1 => 0x80,
@@ -157,7 +157,7 @@ pub fn put_quoted(out: &mut Page, bytes: &[u8]) -> Result<(), AllocError> {
     out.put_byte(b'"')
 }
 
-/// How many bytes at the front stand for themselves.
+/// Returns how many bytes at the front stand for themselves.
 fn plain_len(bytes: &[u8]) -> usize
     ensures { result ≤ length bytes.now }
 {
@@ -167,7 +167,7 @@ fn plain_len(bytes: &[u8]) -> usize
     }
 }
 
-/// Whether a byte stands for itself in a quoted text.
+/// Returns whether a byte stands for itself in a quoted text.
 fn is_plain(byte: u8) -> bool {
     matches!(byte, 0x20..=0x7e) && byte != b'"' && byte != b'\\'
 }
@@ -178,12 +178,12 @@ fn escaped(byte: u8) -> [u8; 4] {
     [b'\\', b'x', high, low]
 }
 
-/// The two hex digits of a byte.
+/// Returns the two hex digits of a byte.
 fn hex_of(byte: u8) -> [u8; 2] {
     [HEX[usize::from(byte / 16)], HEX[usize::from(byte % 16)]]
 }
 
-/// The number in the bytes, big-endian; of more than eight the last ones count.
+/// Returns the number in the bytes, big-endian; of more than eight the last ones count.
 pub fn number_in(bytes: &[u8]) -> u64 {
     match *bytes {
         [a] => u64::from(a),

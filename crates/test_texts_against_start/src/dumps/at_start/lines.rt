@@ -25,7 +25,7 @@ pub fn put_line(out: &mut Page, item: &Scanned<'_>) -> Result<(), AllocError> {
     out.end_line()
 }
 
-/// The room for a line in which no string or binary makes it grow.
+/// Returns the room for a line in which no string or binary makes it grow.
 fn room_for(item: &Scanned<'_>) -> usize {
     match item {
         Scanned::Frame(frame) => {
@@ -49,8 +49,8 @@ fn put_frame(out: &mut Page, frame: &ScannedFrame<'_>) -> Result<(), AllocError>
     put_body(out, frame)
 }
 
-/// Appends the value at the front of a body and the length of what follows it: a performative as its name and
-/// its list, with ` invalid` at the end where a field is, any other value behind `value`.
+/// Appends the value at the front of a body and the length of what follows it: a performative as its name and its
+/// list, with ` invalid` at the end where a field is, any other value after `value`.
 fn put_body(out: &mut Page, frame: &ScannedFrame<'_>) -> Result<(), AllocError> {
     let performative = named_list(frame.body);
     let (name, shown) = performative.unwrap_or(("value", frame.body));
@@ -79,8 +79,8 @@ fn put_fault(out: &mut Page, place: usize, fault: StreamFault) -> Result<(), All
     out.put(name_of(fault).as_bytes())
 }
 
-/// The name of the performative that describes the value at the front, and the bytes from its list on; none where
-/// it is no list, or is not described as a performative. [2.7]
+/// The name of the performative that describes the value at the front, and the bytes from its list on; none if it
+/// is no list, or is not described as a performative. [2.7]
 fn named_list(body: &[u8]) -> Option<(&'static str, &[u8])> {
     let (0, described) = body.split_first()? else {
         return None;
@@ -92,7 +92,7 @@ fn named_list(body: &[u8]) -> Option<(&'static str, &[u8])> {
     }
 }
 
-/// The descriptor at the front, where it is one of the standard's, and the bytes behind it. [1.2; 2.7]
+/// Returns the descriptor at the front, if it is one of the standard's, and the bytes after it. [1.2; 2.7]
 fn descriptor_at(bytes: &[u8]) -> Option<(Descriptor, &[u8])> {
     let (code, rest) = bytes.split_first()?;
     match *code {
@@ -105,7 +105,7 @@ fn descriptor_at(bytes: &[u8]) -> Option<(Descriptor, &[u8])> {
     }
 }
 
-/// The descriptor of a number of that width.
+/// Returns the descriptor of a number of that width.
 fn coded_at(width: usize, bytes: &[u8]) -> Option<(Descriptor, &[u8])> {
     if bytes.len() < width {
         return None;
@@ -114,7 +114,7 @@ fn coded_at(width: usize, bytes: &[u8]) -> Option<(Descriptor, &[u8])> {
     Some((Descriptor::of_code(number_in(code))?, rest))
 }
 
-/// The descriptor of a symbol, whose size has that width.
+/// Returns the descriptor of a symbol, whose size has that width.
 fn named_at(width: usize, bytes: &[u8]) -> Option<(Descriptor, &[u8])> {
     if bytes.len() < width {
         return None;

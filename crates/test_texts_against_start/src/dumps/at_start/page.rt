@@ -2,7 +2,7 @@
 
 use std::alloc::{AllocError, Global};
 
-/// Lines that wait to be written, and the beginning of the next one behind them.
+/// Lines that wait to be written, and the beginning of the next one after them.
 #[derive(Drop)]
 pub struct Page {
     bytes: Vec<u8>,
@@ -11,7 +11,7 @@ pub struct Page {
 }
 
 impl Page {
-    /// An empty page with room for so many bytes.
+    /// Returns an empty page with room for this many bytes.
     pub fn with_capacity(alloc: Global, capacity: usize) -> Result<Page, AllocError> {
         Ok(Page {
             bytes: Vec::with_capacity(alloc, capacity)?,
@@ -19,7 +19,7 @@ impl Page {
         })
     }
 
-    /// Makes room for so many bytes more.
+    /// Makes room for this many bytes more.
     pub fn reserve(&mut self, more: usize) -> Result<(), AllocError> {
         self.bytes.reserve(more)
     }
@@ -52,12 +52,12 @@ impl Page {
         Ok(())
     }
 
-    /// How many bytes wait, those of a line without an end among them.
+    /// Returns how many bytes wait, those of a line without an end among them.
     pub fn len(&self) -> usize {
         self.bytes.len()
     }
 
-    /// The whole lines.
+    /// Returns the whole lines.
     pub fn as_bytes(&self) -> &[u8] {
         self.bytes.get(..self.end).unwrap_or(&[])
     }

@@ -1,4 +1,4 @@
-//! What is told of a stream.
+//! What hears of a stream.
 
 use amqp_frame::FrameFault;
 use amqp_types::ReadFault;
@@ -44,7 +44,7 @@ pub enum StreamFault {
 }
 
 impl Scanned<'_> {
-    /// Whether the stream is not read on behind this.
+    /// Returns whether the stream is not read on after this.
     pub fn is_fault(&self) -> bool {
         matches!(self, Scanned::Fault(..))
     }

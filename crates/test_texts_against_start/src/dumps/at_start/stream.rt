@@ -9,7 +9,7 @@ use amqp_perform::read_body;
 use amqp_types::check;
 use std::alloc::{AllocError, Global};
 
-/// The lines of a stream.
+/// Returns the lines of a stream.
 pub fn dump(alloc: Global, stream: &[u8]) -> Result<Vec<u8>, AllocError> {
     let mut splitter = Splitter::new(alloc, MAX_FRAME)?;
     let mut lines = Page::with_capacity(alloc, 65536)?;
@@ -36,7 +36,7 @@ pub fn dump(alloc: Global, stream: &[u8]) -> Result<Vec<u8>, AllocError> {
     Vec::from_slice(alloc, lines.as_bytes())
 }
 
-/// The unit that waits in the splitter.
+/// Returns the unit that waits in the splitter.
 fn waiting_unit(
     alloc: Global,
     splitter: &Splitter,
@@ -56,7 +56,7 @@ fn waiting_unit(
     }
 }
 
-/// A frame of `size` bytes, with the value at the front of its body, or the fault there.
+/// Returns a frame of `size` bytes, with the value at the front of its body, or the fault there.
 fn told_frame(
     alloc: Global,
     place: usize,

@@ -1,7 +1,7 @@
 //! The text of values, as `dump` prints it.
 //!
 //! A value is printed from its bytes, which are known to spell one: of other bytes nothing is said. What a call
-//! answers are the bytes behind what it printed. Lines that wait stay as they are.
+//! answers are the bytes after what it printed. Lines that wait stay as they are.
 
 use crate::dumps::at_start::digits::{
     number_in, put_hex, put_number, put_quoted, put_signed, put_uuid,
@@ -17,7 +17,7 @@ use std::alloc::AllocError;
 /// map `{k=v, k=v}`, an array `array:KIND[a, b]` with `@D ` before KIND for each descriptor D, outermost
 /// first, and a described value `@D(V)`.
 ///
-/// Where memory is refused, a beginning of the text may stand in `out`.
+/// If memory is refused, a beginning of the text may stand in `out`.
 #[cycle(text)]
 #[inline(always)]
 pub fn put_value<'a>(
@@ -52,7 +52,7 @@ fn put_described<'a>(
     Ok(rest)
 }
 
-/// Appends the text of the value whose data stand behind the code. [1.6]
+/// Appends the text of the value whose data stand after the code. [1.6]
 #[cycle(text)]
 fn put_data<'a>(
     out: &mut Page,
@@ -71,7 +71,7 @@ fn put_data<'a>(
     }
 }
 
-/// How wide the data behind a code are, or their size where it differs. [1.2]
+/// How wide the data after a code are, or their size where it differs. [1.2]
 fn width_of(code: u8) -> usize {
     match code >> 4 {
         6 => 2,
@@ -143,7 +143,7 @@ fn put_array<'a>(
     put_items(out, depth, Some(*code), count, items)
 }
 
-/// Appends `@D ` for each descriptor in front of an element constructor.
+/// Appends `@D ` for each descriptor before an element constructor.
 #[cycle(text)]
 fn put_descriptors<'a>(
     out: &mut Page,
@@ -273,7 +273,7 @@ fn put_kind(out: &mut Page, code: u8) -> Result<(), AllocError> {
     }
 }
 
-/// So many bytes at the front, or all where there are fewer, and those behind them.
+/// Returns this many bytes at the front, or all if there are fewer, and those after them.
 fn front(bytes: &[u8], n: usize) -> (&[u8], &[u8]) {
     bytes.split_at(n.min(bytes.len()))
 }

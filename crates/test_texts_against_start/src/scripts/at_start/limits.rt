@@ -33,7 +33,7 @@ pub fn read_limits<R: Read + Drop>(
     with_rows(alloc, config, &lines)
 }
 
-/// The settings with these rows.
+/// Returns the settings with these rows.
 fn with_rows(alloc: Global, config: Config, lines: &[&[u8]]) -> Result<Config, ScriptFault> {
     let limits = limits_of(alloc, lines, "")?;
     let count = limits.len();
@@ -44,7 +44,7 @@ fn with_rows(alloc: Global, config: Config, lines: &[&[u8]]) -> Result<Config, S
     }
 }
 
-/// The limits that the first lines set, at most as many as there may be: a row behind this text on each.
+/// Returns the limits that the first lines set, at most as many as there may be: a row after this text on each.
 pub fn limits_of(
     alloc: Global,
     lines: &[&[u8]],
@@ -61,7 +61,7 @@ pub fn limits_of(
     Ok(limits)
 }
 
-/// Puts a limit behind others.
+/// Puts a limit after others.
 fn push(limits: &mut Vec<LinkLimit>, limit: LinkLimit) -> Result<(), AllocError> {
     match limits.push(limit) {
         Ok(()) => Ok(()),
@@ -69,7 +69,7 @@ fn push(limits: &mut Vec<LinkLimit>, limit: LinkLimit) -> Result<(), AllocError>
     }
 }
 
-/// The number of the line of a limit with a fault, where that of the first limit is `first`.
+/// Returns the number of the line of a limit with a fault, if that of the first limit is `first`.
 pub fn line_of(fault: LimitFault, first: usize) -> usize {
     match fault {
         LimitFault::TooMany => first.saturating_add(MAX_LIMITS),

@@ -15,7 +15,7 @@ impl<'a> Words<'a> {
         Words { rest: Some(line) }
     }
 
-    /// The next word, which may be empty; none behind the last.
+    /// Returns the next word, which may be empty; none after the last.
     fn word(&mut self) -> Option<&'a str> {
         let rest = self.rest.take()?;
         match rest.split_once(' ') {
@@ -27,7 +27,7 @@ impl<'a> Words<'a> {
         }
     }
 
-    /// A number below 2^32: one digit or more, and nothing else.
+    /// Returns a number below 2^32: one digit or more, and nothing else.
     fn number(&mut self) -> Option<u32> {
         let word = self.word()?;
         if word.is_empty() || !word.bytes().all(|byte| byte.is_ascii_digit()) {
@@ -36,7 +36,7 @@ impl<'a> Words<'a> {
         word.parse::<u32>().ok()
     }
 
-    /// A channel, which is below 2^16.
+    /// Returns a channel, which is below 2^16.
     fn channel(&mut self) -> Option<u16> {
         let number = self.number()?;
         if number <= u16::MAX as u32 {
@@ -59,7 +59,7 @@ impl<'a> Words<'a> {
         }
     }
 
-    /// This, where no word is left.
+    /// This, if no word is left.
     fn end<T: Drop>(&self, read: T) -> Option<T> {
         match self.rest {
             None => Some(read),
@@ -68,8 +68,8 @@ impl<'a> Words<'a> {
     }
 }
 
-/// What the first line sets up: `config ID MAX_FRAME CHANNEL_MAX HANDLE_MAX ALLOWED MAX_MESSAGE WINDOW`. None where it is
-/// another, or a setting is outside its range.
+/// Returns what the first line sets up: `config ID MAX_FRAME CHANNEL_MAX HANDLE_MAX ALLOWED MAX_MESSAGE WINDOW`.
+/// None if it is another, or a setting is outside its range.
 pub fn config_of(alloc: Global, line: &str) -> Result<Option<Config>, AllocError> {
     match settings_of(line) {
         Some(settings) => settings.checked(alloc),
@@ -124,12 +124,12 @@ impl Settings<'_> {
     }
 }
 
-/// Whether a text is printable ASCII without spaces.
+/// Returns whether a text is printable ASCII without spaces.
 fn is_printed(text: &str) -> bool {
     text.bytes().all(|byte| byte.is_ascii_graphic())
 }
 
-/// The limit that a row `PREFIX ALLOWED MAX_MESSAGE` sets. None where it is no such row.
+/// Returns the limit that a row `PREFIX ALLOWED MAX_MESSAGE` sets. None if it is no such row.
 pub fn row_of(alloc: Global, row: &str) -> Result<Option<LinkLimit>, AllocError> {
     match row_words(row) {
         Some(row) => Ok(Some(LinkLimit {
@@ -163,7 +163,7 @@ fn row_words(row: &str) -> Option<Row<'_>> {
     words.end(row)
 }
 
-/// The hex text of a `feed` that has one: pairs of digits.
+/// Returns the hex text of a `feed` that has one: pairs of digits.
 pub fn fed(line: &str) -> Option<&str> {
     let hex = line.strip_prefix("feed ")?;
     if !hex.is_empty() && hex.len() % 2 == 0 && hex.bytes().all(|byte| byte.is_ascii_hexdigit()) {
@@ -173,7 +173,7 @@ pub fn fed(line: &str) -> Option<&str> {
     }
 }
 
-/// The call that a line asks for, where these are the bytes that it feeds. None where it asks for none.
+/// Returns the call that a line asks for, where these are the bytes that it feeds. None if it asks for none.
 pub fn call_of<'a>(line: &str, piece: &'a [u8]) -> Option<Call<'a>> {
     if line == "feed" || fed(line).is_some() {
         return Some(Call::Feed(piece));
@@ -190,7 +190,7 @@ pub fn call_of<'a>(line: &str, piece: &'a [u8]) -> Option<Call<'a>> {
     words.end(call)
 }
 
-/// The same of a call for a session.
+/// Returns the call for a session that the words name.
 fn session_call<'a>(name: &str, words: &mut Words<'_>) -> Option<Call<'a>> {
     let channel = words.channel()?;
     Some(match name {

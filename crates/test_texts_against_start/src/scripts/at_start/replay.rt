@@ -36,7 +36,7 @@ pub fn replay_script<R: Read + Drop, W: Write + Drop>(
     run(alloc, setup, &lines, writer)
 }
 
-/// All bytes of a script.
+/// Returns all bytes of a script.
 pub fn read_script<R: Read + Drop>(
     alloc: Global,
     reader: &mut Device<R>,
@@ -54,7 +54,7 @@ pub fn read_script<R: Read + Drop>(
     Ok(script)
 }
 
-/// The lines of a script, of which the last may lack its newline.
+/// Returns the lines of a script, of which the last may lack its newline.
 pub fn lines_of(alloc: Global, script: &[u8]) -> Result<Vec<&[u8]>, AllocError> {
     let text = script.strip_suffix(b"\n".as_slice()).unwrap_or(script);
     let mut lines = Vec::new(alloc);
@@ -71,7 +71,7 @@ struct Setup {
     lines: usize,
 }
 
-/// What the first lines set up, where all lines are those of a script.
+/// Returns what the first lines set up, where all lines are those of a script.
 fn check(alloc: Global, lines: &[&[u8]]) -> Result<Setup, ScriptFault> {
     let setup = set_up(alloc, lines)?;
     for (index, line) in lines.iter().enumerate().skip(setup.lines) {
@@ -83,7 +83,7 @@ fn check(alloc: Global, lines: &[&[u8]]) -> Result<Setup, ScriptFault> {
     Ok(setup)
 }
 
-/// What the first line sets up, and those of limits behind it.
+/// Returns what the first line sets up, and those of limits after it.
 fn set_up(alloc: Global, lines: &[&[u8]]) -> Result<Setup, ScriptFault> {
     let Some((first, rest)) = lines.split_first() else {
         return Err(ScriptFault::Line(1));
@@ -97,7 +97,7 @@ fn set_up(alloc: Global, lines: &[&[u8]]) -> Result<Setup, ScriptFault> {
     }
 }
 
-/// The text of the line of this number.
+/// Returns the text of the line of this number.
 fn text_of(line: &[u8], number: usize) -> Result<&str, ScriptFault> {
     str::from_utf8(line).or(Err(ScriptFault::Line(number)))
 }
@@ -123,7 +123,7 @@ fn run<W: Write + Drop>(
     Ok(())
 }
 
-/// Does what a line asks for. The line of its answer; nothing where it asks for nothing.
+/// Does what a line asks for. The line of its answer; nothing if it asks for nothing.
 fn answer_to(alloc: Global, endpoint: &mut Endpoint, line: &[u8]) -> Result<String, AllocError> {
     let line = str::from_utf8(line).unwrap_or("");
     let piece = bytes_fed(alloc, line)?;
@@ -134,7 +134,7 @@ fn answer_to(alloc: Global, endpoint: &mut Endpoint, line: &[u8]) -> Result<Stri
     Ok(answer)
 }
 
-/// The bytes that a line feeds.
+/// Returns the bytes that a line feeds.
 fn bytes_fed(alloc: Global, line: &str) -> Result<Vec<u8>, AllocError> {
     let hex = fed(line).unwrap_or("");
     let mut bytes = Vec::from_elem(alloc, 0, hex.len() / 2)?;
