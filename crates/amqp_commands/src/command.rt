@@ -95,6 +95,7 @@ pub struct GatewayFiles<'a> {
     pub limits: Option<&'a str>,
     /// Where the counts go.
     pub metrics: Option<&'a str>,
+    pub told: ToldTo<'a>,
 }
 
 /// Makes an option that takes a number between these two.
@@ -188,7 +189,8 @@ fn gateway_line<'a>(alloc: Global) -> Result<Command<'a>, AllocError> {
         .arg(open)?
         .arg(connections)?
         .arg(until_eof)?;
-    with_gateway_bounds(alloc, with_files(alloc, with_times(alloc, gateway)?)?)
+    let gateway = with_files(alloc, with_times(alloc, gateway)?)?;
+    with_told(alloc, with_gateway_bounds(alloc, gateway)?)
 }
 
 /// Adds the time-outs.
@@ -402,6 +404,7 @@ pub fn order_of<'a>(matches: &ArgMatches<'a>) -> Option<Order<'a>> {
             records: gateway.get_str("records"),
             limits: gateway.get_str("limits"),
             metrics: gateway.get_str("metrics"),
+            told: told_to(gateway),
         };
         return Some(Order::Gateway {
             address,

@@ -2,12 +2,14 @@
 
 use crate::command::GatewaySettings;
 use crate::metrics::Metrics;
+use crate::traces::Traces;
 use amqp_endpoint::Config;
 use amqp_gateway::{Ending, Gateway, GatewayFault, Settings, Sink, Watcher, link_most, peer_most};
 use amqp_perform::Outcome;
 use amqp_serve::Rule;
+use amqp_trace::Host;
 use mio::net::TcpListener;
-use std::io::{self, ErrorKind, Read};
+use std::io::{self, ErrorKind, Read, Write};
 use std::net::{Net, ToSocketAddrs};
 use std::rt::Files;
 use std::time::{Clock, Instant};
@@ -43,13 +45,18 @@ pub struct Plan<'a> {
     pub metrics: Option<&'a str>,
 }
 
-/// Serves peers by a plan, with the records to a sink, until it has ended. The watcher gets a report of what
-/// passes.
-pub fn serve_to<R, S, W>(rt: &R, plan: Plan<'_>, sink: S, watcher: W) -> Result<(), GatewayFault>
+/// Serves peers by a plan, with the records to a sink, until it has ended. What passes is reported to the traces.
+pub fn serve_to<R, S, T, H>(
+    rt: &R,
+    plan: Plan<'_>,
+    sink: S,
+    traces: Traces<T, H>,
+) -> Result<(), GatewayFault>
 where
     R: Eprint + Input + Files + Net + Clock + AllocGlobal,
     S: Sink + Drop,
-    W: Watcher + Drop,
+    T: Write + Drop,
+    H: Host + Drop,
 {
     let Plan {
         listener,
@@ -75,7 +82,7 @@ where
         rule,
         times(&settings),
         sink,
-        watcher,
+        traces,
         now,
     )?;
     if settings.until_eof && gateway.watch_input().is_err() {

@@ -16,5 +16,6 @@ pub mod send;
 mod send_file;
 mod store;
 mod told;
+mod traces;
 
 pub use store::Exclusive;

@@ -12,10 +12,11 @@ use crate::send::Fate;
 use crate::send_file::{FileFault, send_file};
 use crate::store::{Exclusive, Store};
 use crate::told::{Desk, Told};
+use crate::traces::Traces;
 use amqp_dump::{DumpFault, dump};
 use amqp_endpoint::Config;
 use amqp_frame::Device;
-use amqp_gateway::{GatewayFault, Unsynced, Unwatched};
+use amqp_gateway::{GatewayFault, Sink, Unsynced};
 use amqp_perform::Outcome;
 use amqp_records::{BlocksFault, Output, RecordsFault, print_blocks, print_records};
 use amqp_script::{ScriptFault, read_limits, replay_script};
@@ -372,14 +373,26 @@ where
         link,
         metrics: files.metrics,
     };
-    let served = match files.records {
-        None => gateway::serve_to(rt, plan, Unsynced(io::writer(rt)), Unwatched),
+    match files.records {
+        None => serve_told(rt, plan, Unsynced(io::writer(rt)), files.told),
         Some(path) => {
             let store = stored(rt, path)?;
-            gateway::serve_to(rt, plan, store, Unwatched)
+            serve_told(rt, plan, store, files.told)
         }
-    };
-    match served {
+    }
+}
+
+/// Serves many peers by a plan, with the records to a sink, and tells of them in these files.
+fn serve_told<R: Print + Eprint + Input + Files + Net + Clock + AllocGlobal, S: Sink + Drop>(
+    rt: &R,
+    plan: Plan<'_>,
+    sink: S,
+    told: ToldTo<'_>,
+) -> Result<ExitCode, Fault> {
+    let frames = opened(rt, told.trace)?;
+    let events = opened(rt, told.events)?;
+    let traces = Traces::new(rt.alloc(), Desk::new(rt), frames, events)?;
+    match gateway::serve_to(rt, plan, sink, traces) {
         Ok(()) => Ok(ExitCode::SUCCESS),
         Err(fault) => Err(Fault::Gateway(fault)),
     }

@@ -154,7 +154,7 @@ impl<S: Sink + Drop, W: Watcher + Drop> Gateway<S, W> {
                 watcher,
                 outlet: Outlet::new(alloc, sink),
                 counts: Counts::NONE,
-                record: Vec::new(alloc),
+                recorded: Vec::new(alloc),
             },
             is_stuck: false,
             piece: Vec::from_elem(alloc, 0, PIECE)?,

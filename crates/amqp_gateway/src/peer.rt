@@ -60,7 +60,7 @@ pub struct Desk<S: Sink + Drop, W: Watcher + Drop> {
     pub outlet: Outlet<S>,
     pub counts: Counts,
     /// Room for the record of a unit.
-    pub record: Vec<u8>,
+    pub recorded: Vec<u8>,
 }
 
 /// A connection. Times are those that count, in milliseconds.
@@ -279,9 +279,9 @@ impl Peer {
                 break;
             }
             self.is_starved = false;
-            let mut sink = Device::new(mem::replace(&mut desk.record, Vec::new(alloc)));
+            let mut sink = Device::new(mem::replace(&mut desk.recorded, Vec::new(alloc)));
             let heard = desk.hub.hear(self.key, rest, &mut sink);
-            desk.record = sink.into_inner();
+            desk.recorded = sink.into_inner();
             let Ok(stepped) = heard else {
                 self.finish(&mut desk.hub);
                 break;
@@ -615,12 +615,12 @@ fn keep_record<S: Sink + Drop, W: Watcher + Drop>(
     ensures counts { desk.new.counts ≡ desk.old.counts }
 {
     let is_kept = match stepped.done {
-        Ok(_) | Err(ServeFault::NoMemory) => desk.outlet.put(number, &desk.record),
+        Ok(_) | Err(ServeFault::NoMemory) => desk.outlet.put(number, &desk.recorded),
         Err(_) => Ok(()),
     };
-    desk.record.clear();
-    if desk.record.capacity() > LARGE {
-        desk.record = Vec::new(alloc);
+    desk.recorded.clear();
+    if desk.recorded.capacity() > LARGE {
+        desk.recorded = Vec::new(alloc);
     }
     is_kept
 }

@@ -386,6 +386,32 @@ fn host_fed<'a>(alloc: Global, words: &'a [&'a str], input: &'a [u8]) -> Host<'a
     }
 }
 
+/// A host with these words and this file if any, to which a peer comes.
+fn host_called<'a>(
+    rt: &'a HostRuntime,
+    words: &'a [&'a str],
+    file: Option<Bytes<'a>>,
+    address: SocketAddr,
+) -> Host<'a> {
+    Host {
+        alloc: rt.alloc(),
+        words,
+        file,
+        input: &[],
+        is_shut: false,
+        most: usize::MAX,
+        listener: None,
+        caller: Some(Caller {
+            rt,
+            address,
+            bytes: STREAM,
+            stream: RefCell::new(None),
+        }),
+        out: RefCell::new(String::new(rt.alloc())),
+        err: RefCell::new(String::new(rt.alloc())),
+    }
+}
+
 const LINE: &str = "header id=0 version=1.0.0\n";
 
 /// The lines of a header and a cut frame.
@@ -787,4 +813,41 @@ fn prints_blocks(rt: HostRuntime) {
     assert_ends(&rt, host, ExitCode::SUCCESS, line, "");
     let host = host_of(rt.alloc(), &words, whole(&BLOCK[..39]));
     assert_ends(&rt, host, ExitCode::FAILURE, "", "fault: 0 Cut\n");
+}
+
+/// A free port of this machine.
+fn free_port(rt: &HostRuntime) -> io::Result<SocketAddr> {
+    let (_, address) = listening(rt)?;
+    Ok(address)
+}
+
+/// Whether a text has this line.
+fn has_line(text: &str, line: &str) -> bool {
+    text.split('\n').any(|other| other == line)
+}
+
+/// The bound that is told is that of the largest link that a table of limits allows.
+#[test]
+fn a_gateway_tells_the_bound_of_its_limits(rt: HostRuntime) -> Result<(), Fail> {
+    let address = free_port(&rt)?;
+    let at = format!(in rt.alloc(); "{address}")?;
+    let words = [
+        "amqp",
+        "gateway",
+        "--listen",
+        at.as_str(),
+        "--connections",
+        "1",
+        "--limits",
+        "a.amqp",
+    ];
+    let file = whole(b"telemetry/ 64 4096\nfirmware/ 1 268435456\n");
+    let host = host_called(&rt, &words, file, address);
+    let status = run(&host);
+    let told = host.err.into_inner();
+    assert!(rt; status == ExitCode::SUCCESS);
+    // 16384 + 48832 + 4 * (1407 + 268435456 + 96) for a peer, and 250 peers
+    let line = "a peer holds at most 1073813052 bytes, and all together 268453263000";
+    assert!(rt; has_line(&told, line));
+    Ok(())
 }
