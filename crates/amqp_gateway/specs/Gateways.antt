@@ -5,9 +5,15 @@ use Rattle.amqp_serve.specs.declared.serving.ServeFault.TheVariants as lost
 use Rattle.amqp_serve.specs.declared.steps.Done.{Done}
 use Rattle.amqp_hub.specs.Members.{MemberState}
 use Rattle.slab.specs.Slab.{Slab}
+use Rattle.amqp_endpoint.specs.declared.event.End.{End}
+use Rattle.amqp_endpoint.specs.declared.event.End.TheVariants as end
 use Rattle.amqp_gateway.specs.declared.counts.Counts.{Counts}
+use Rattle.amqp_gateway.specs.declared.ending.Ending.{Ending}
+use Rattle.amqp_gateway.specs.declared.ending.Ending.TheVariants as ending
 use Rattle.amqp_gateway.specs.Outlets.{OutletState, IsSettled}
 use Rattle.amqp_gateway.specs.declared.settings.Settings.{Settings}
+use Rattle.amqp_gateway.specs.declared.gateway.GatewayFault.{GatewayFault}
+use Rattle.amqp_gateway.specs.declared.gateway.GatewayFault.TheVariants as fault
 
 -- A step with this result broke off.
 abbrev pub is_broken : Result Done ServeFault → Bool
@@ -16,6 +22,13 @@ is_broken (Err lost.NoMemory) = false
 is_broken (Err lost.Read) = true
 is_broken (Err lost.Write) = true
 is_broken (Err lost.Sink) = true
+
+-- how a connection ended whose endpoint stood so at the end of its input
+abbrev pub ending_of : End → Ending
+ending_of end.Closed = ending.Closed
+ending_of end.Failed = ending.Failed
+ending_of end.Between = ending.Between
+ending_of (end.Inside n) = ending.Inside
 
 -- its settings, what it counted, the connections of its hub, the records that wait, how many peers there are, and since when it is to end, if it is to
 pub record GatewayState : Type 0 where
@@ -81,3 +94,10 @@ pub record IsPlaced (old new : GatewayState) : Type 0 where
   pub stopped : new.stopped ≡ old.stopped
   pub counts : new.counts ≡ old.counts
   pub bound : new.peers ≤ old.peers + 1
+
+-- Once a sink has failed no peer is left.
+abbrev pub LeavesNone : Result (Unit {0}) GatewayFault → GatewayState → Type 0
+LeavesNone (Err fault.Sink) s = s.peers ≡ 0
+LeavesNone (Err fault.Poll) s = Unit {0}
+LeavesNone (Err fault.NoMemory) s = Unit {0}
+LeavesNone (Ok u) s = Unit {0}

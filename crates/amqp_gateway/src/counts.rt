@@ -1,7 +1,7 @@
 //! What a gateway counts.
 
 ghost use Rattle.std.specs.Prelude.{◌≡◌};
-ghost use Rattle.amqp_gateway.specs.Counts.{counted, recorded_by};
+ghost use Rattle.amqp_gateway.specs.Counts.{counted, ended_by, recorded_by};
 
 use crate::ending::Ending;
 use amqp_serve::{Receipt, Stepped};
@@ -28,13 +28,13 @@ impl Counts {
 
     /// Counts a connection that ended.
     pub fn end(&mut self, ending: Ending)
+        ensures ended { self.new ≡ ended_by ending self.old }
         ensures accepted { self.new.accepted ≡ self.old.accepted }
         ensures messages { self.new.messages ≡ self.old.messages }
         ensures bytes { self.new.bytes ≡ self.old.bytes }
     {
-        if let Some(count) = self.ended.get_mut(ending.place()) {
-            *count = count.saturating_add(1);
-        }
+        let at = ending.place();
+        self.ended[at] = self.ended[at].saturating_add(1);
     }
 
     /// Counts what a step recorded.

@@ -1,6 +1,8 @@
 //! How a connection ended.
 
-ghost use Rattle.std.specs.Prelude.{◌<◌};
+ghost use Rattle.std.specs.Prelude.{◌≡◌, ◌<◌};
+ghost use Rattle.amqp_gateway.specs.Counts.{place_of};
+ghost use Rattle.amqp_gateway.specs.Gateways.{ending_of};
 
 use amqp_endpoint::End;
 use std::fmt::{self, Display, Formatter};
@@ -49,7 +51,9 @@ impl Ending {
     ];
 
     /// Returns how a connection ended whose endpoint stood so at the end of its input.
-    pub fn of(end: End) -> Ending {
+    pub fn of(end: End) -> Ending
+        ensures { result ≡ ending_of end }
+    {
         match end {
             End::Closed => Ending::Closed,
             End::Failed => Ending::Failed,
@@ -60,7 +64,8 @@ impl Ending {
 
     /// Returns its place in [`Ending::ALL`].
     pub fn place(self) -> usize
-        ensures { result < 11 }
+        ensures place { result ≡ place_of self }
+        ensures within { result < 11 }
     {
         match self {
             Ending::Closed => 0,

@@ -1,9 +1,9 @@
 //! The gateway: all peers, turn by turn.
 
 ghost use Rattle.slab.specs.Slab.{slab_len};
-ghost use Rattle.std.specs.Prelude.{◌≡◌, ◌≤◌, ◌^◌, ◌-◌, false, min, IsTrue, IfOk};
+ghost use Rattle.std.specs.Prelude.{◌≡◌, ◌≤◌, ◌^◌, ◌-◌, false, min, Err, IsTrue, IfOk, OnErr};
 ghost use Rattle.amqp_hub.specs.Turns.{all_held};
-ghost use Rattle.amqp_gateway.specs.Gateways.{IsNewGateway, IsStopping, IsGoneOn, IsTurned, IsPlaced, MayOpen, is_done, is_last};
+ghost use Rattle.amqp_gateway.specs.Gateways.{IsNewGateway, IsStopping, IsGoneOn, IsTurned, IsPlaced, LeavesNone, MayOpen, is_done, is_last};
 ghost use Rattle.amqp_gateway.specs.Outlets.{IsSettled};
 
 use crate::counts::Counts;
@@ -260,7 +260,8 @@ impl<S: Sink + Drop, W: Watcher + Drop> Gateway<S, W> {
     /// `Sink` if the sink has failed, or has not taken all within the time of grace. Each peer is gone then, and
     /// none was sent an answer to a record that waits. `NoMemory` if memory for the gateway itself is refused.
     pub fn turn<R: Eprint>(&mut self, rt: &R, now: u64) -> Result<(), GatewayFault>
-        ensures { IsTurned self.old self.new }
+        ensures turned { IsTurned self.old self.new }
+        ensures gone { LeavesNone result self.new }
     {
         if self.is_stuck {
             self.passed.stand_still(now);
@@ -275,7 +276,8 @@ impl<S: Sink + Drop, W: Watcher + Drop> Gateway<S, W> {
 
     /// Accepts peers, and takes what ready ones sent, unless records wait for the sink.
     fn take_all<R: Eprint>(&mut self, rt: &R) -> Result<(), GatewayFault>
-        ensures { IsTurned self.old self.new }
+        ensures turned { IsTurned self.old self.new }
+        ensures gone { LeavesNone result self.new }
     {
         if !self.is_stuck {
             self.accept_some(rt)?;
@@ -287,7 +289,8 @@ impl<S: Sink + Drop, W: Watcher + Drop> Gateway<S, W> {
 
     /// Ends all that are left once the time of grace is over, or else checks the peers for time-outs.
     fn look_at_times<R: Eprint>(&mut self, rt: &R) -> Result<(), GatewayFault>
-        ensures { IsGoneOn self.old self.new }
+        ensures gone_on { IsGoneOn self.old self.new }
+        ensures gone { LeavesNone result self.new }
     {
         if self.has_no_grace() {
             return self.end_stopped(rt);
@@ -330,7 +333,8 @@ impl<S: Sink + Drop, W: Watcher + Drop> Gateway<S, W> {
 
     /// Notes which sockets are ready.
     fn note_events(&mut self) -> Result<(), GatewayFault>
-        ensures { self.new ≡ self.old }
+        ensures same { self.new ≡ self.old }
+        ensures gone { LeavesNone result self.new }
     {
         let came = note_all(&self.events, &mut self.peers, &mut self.next)?;
         self.may_accept = self.may_accept || came.listener;
@@ -347,6 +351,7 @@ impl<S: Sink + Drop, W: Watcher + Drop> Gateway<S, W> {
 
     fn accept_some<R: Eprint>(&mut self, rt: &R) -> Result<(), GatewayFault>
         ensures turned { IsTurned self.old self.new }
+        ensures gone { LeavesNone result self.new }
         ensures outlet { self.new.outlet ≡ self.old.outlet }
     {
         for _ in 0..ACCEPTS {
@@ -373,6 +378,7 @@ impl<S: Sink + Drop, W: Watcher + Drop> Gateway<S, W> {
     ) -> Result<(), GatewayFault>
         requires { MayOpen self.old }
         ensures turned { IsTurned self.old self.new }
+        ensures gone { LeavesNone result self.new }
         ensures outlet { self.new.outlet ≡ self.old.outlet }
     {
         self.desk.counts.accepted = self.desk.counts.accepted.saturating_add(1);
@@ -456,7 +462,8 @@ impl<S: Sink + Drop, W: Watcher + Drop> Gateway<S, W> {
 
     /// Writes the records of the turn, and then the answers to them.
     fn answer_all<R: Eprint>(&mut self, rt: &R) -> Result<(), GatewayFault>
-        ensures { IsGoneOn self.old self.new }
+        ensures gone_on { IsGoneOn self.old self.new }
+        ensures gone { LeavesNone result self.new }
     {
         let progress = self.desk.outlet.settle(self.settings.sync);
         self.is_stuck = progress != Progress::Out;
@@ -473,7 +480,8 @@ impl<S: Sink + Drop, W: Watcher + Drop> Gateway<S, W> {
     /// Sends the answers of the turn.
     fn send_all<R: Eprint>(&mut self, rt: &R) -> Result<(), GatewayFault>
         requires { IsSettled self.old.settings.sync self.old.outlet }
-        ensures { IsGoneOn self.old self.new }
+        ensures gone_on { IsGoneOn self.old self.new }
+        ensures gone { LeavesNone result self.new }
     {
         for place in 0..self.now.len() {
             if let Some(at) = self.now.get(place).copied() {
@@ -488,6 +496,7 @@ impl<S: Sink + Drop, W: Watcher + Drop> Gateway<S, W> {
     fn send<R: Eprint>(&mut self, rt: &R, at: usize) -> Result<(), GatewayFault>
         requires { IsSettled self.old.settings.sync self.old.outlet }
         ensures gone_on { IsGoneOn self.old self.new }
+        ensures gone { LeavesNone result self.new }
         ensures outlet { self.new.outlet ≡ self.old.outlet }
     {
         let now = self.passed.millis();
@@ -534,7 +543,8 @@ impl<S: Sink + Drop, W: Watcher + Drop> Gateway<S, W> {
 
     /// Ends all that are left once the time of grace is over.
     fn end_stopped<R: Eprint>(&mut self, rt: &R) -> Result<(), GatewayFault>
-        ensures { IsGoneOn self.old self.new }
+        ensures gone_on { IsGoneOn self.old self.new }
+        ensures gone { LeavesNone result self.new }
     {
         let is_settled = self.desk.outlet.is_settled(self.settings.sync);
         self.end_all(rt, Ending::Stopped);
@@ -547,7 +557,8 @@ impl<S: Sink + Drop, W: Watcher + Drop> Gateway<S, W> {
 
     /// Checks the peers for time-outs.
     fn sweep(&mut self) -> Result<(), GatewayFault>
-        ensures { IsGoneOn self.old self.new }
+        ensures gone_on { IsGoneOn self.old self.new }
+        ensures gone { LeavesNone result self.new }
     {
         let now = self.passed.millis();
         if self.is_stuck || now < self.swept {
@@ -562,7 +573,8 @@ impl<S: Sink + Drop, W: Watcher + Drop> Gateway<S, W> {
     }
 
     fn judge(&mut self, at: usize, now: u64) -> Result<(), GatewayFault>
-        ensures { IsGoneOn self.old self.new }
+        ensures gone_on { IsGoneOn self.old self.new }
+        ensures gone { LeavesNone result self.new }
     {
         let Some(peer) = self.peers.get_mut(at) else {
             return Ok(());
@@ -584,11 +596,13 @@ impl<S: Sink + Drop, W: Watcher + Drop> Gateway<S, W> {
     /// Ends all peers at once, for a gateway that goes on no more, and waits for none. If no records wait, each
     /// open peer is sent a close.
     pub fn end_all<R: Eprint>(&mut self, rt: &R, ending: Ending)
-        ensures { IsGoneOn self.old self.new }
+        ensures gone_on { IsGoneOn self.old self.new }
+        ensures none { self.new.peers ≡ 0 }
     {
         for at in 0..self.peers.capacity() {
             self.end_one(rt, at, ending);
         }
+        self.peers.clear();
         self.now.clear();
         self.next.clear();
     }
@@ -635,7 +649,8 @@ fn note_all(
     peers: &mut Slab<Peer>,
     next: &mut Vec<usize>,
 ) -> Result<Besides, GatewayFault>
-    ensures { slab_len peers.new ≡ slab_len peers.old }
+    ensures peers { slab_len peers.new ≡ slab_len peers.old }
+    ensures fault { OnErr result (result ≡ Err GatewayFault.NoMemory) }
 {
     let mut besides = Besides {
         listener: false,
@@ -658,7 +673,8 @@ fn note_peer(
     peers: &mut Slab<Peer>,
     next: &mut Vec<usize>,
 ) -> Result<(), GatewayFault>
-    ensures { slab_len peers.new ≡ slab_len peers.old }
+    ensures peers { slab_len peers.new ≡ slab_len peers.old }
+    ensures fault { OnErr result (result ≡ Err GatewayFault.NoMemory) }
 {
     let Some(peer) = peers.get_mut(at) else {
         return Ok(());
@@ -671,7 +687,9 @@ fn note_peer(
 }
 
 /// Puts a peer at the end of a queue.
-fn put(queue: &mut Vec<usize>, at: usize) -> Result<(), GatewayFault> {
+fn put(queue: &mut Vec<usize>, at: usize) -> Result<(), GatewayFault>
+    ensures { OnErr result (result ≡ Err GatewayFault.NoMemory) }
+{
     match queue.push(at) {
         Ok(()) => Ok(()),
         Err(_) => Err(GatewayFault::NoMemory),

@@ -28,6 +28,9 @@ pub const ANSWERS: usize = 8192;
 /// How many bytes are read of a peer in a turn, at most. What one peer may do bounds what the others wait.
 pub const PIECE: usize = 8192;
 
+/// How many of its units are heard at a time, at most: a piece of short ones that cost much is heard in several turns.
+const UNITS: usize = 64;
+
 /// How many ends by this side are reported of a peer, so that one that errs without end fills no log.
 const MOST_TOLD: u32 = 100;
 
@@ -75,7 +78,7 @@ pub struct Peer {
     /// What the hub handed out for it, and how many bytes of that were written.
     answers: Vec<u8>,
     written: usize,
-    /// What came and was not heard, since memory was refused or too many answers wait.
+    /// What came and was not heard, since memory was refused, or too many units came or answers wait.
     unheard: Vec<u8>,
     /// The first bytes that came, until its open is found.
     first: Option<Vec<u8>>,
@@ -254,14 +257,16 @@ impl Peer {
         ensures accepted { desk.new.counts.accepted ≡ desk.old.counts.accepted }
     {
         if self.has_unheard() {
-            self.heard = now; // it was this side that could not go on
+            if !self.has_failed {
+                self.heard = now; // it was this side that could not go on
+            }
             let unheard = mem::replace(&mut self.unheard, Vec::new(alloc));
             self.hear(alloc, &unheard, desk, rt);
         }
     }
 
-    /// Lets the hub hear what came, unit by unit, until so much waits for the peer that its socket has to take it
-    /// first.
+    /// Lets the hub hear what came, unit by unit: at most [`UNITS`], and none once so much waits for the peer that
+    /// its socket has to take it first. The rest is kept.
     pub fn hear<S: Sink + Drop, W: Watcher + Drop>(
         &mut self,
         alloc: Global,
@@ -274,7 +279,7 @@ impl Peer {
         ensures accepted { desk.new.counts.accepted ≡ desk.old.counts.accepted }
     {
         let mut rest = bytes;
-        for _ in 0..bytes.len().saturating_add(1) {
+        for _ in 0..UNITS {
             if rest.is_empty() && !self.is_starved || self.answers.len() >= ANSWERS {
                 break;
             }

@@ -273,9 +273,24 @@ pub fn times(bytes: &[u8], these: &[u8]) -> usize {
     times
 }
 
+/// Sends bytes to the gateway.
+pub fn send(stream: &mut TcpStream, bytes: &[u8]) -> io::Result<()> {
+    stream.write_all(bytes)
+}
+
 /// Returns all that a peer is sent, up to the end.
 pub fn received(alloc: Global, stream: &mut TcpStream) -> io::Result<Vec<u8>> {
     let mut bytes = Vec::new(alloc);
     stream.read_to_end(&mut bytes)?;
     Ok(bytes)
+}
+
+/// Returns whether a close is the last that a peer is sent.
+pub fn hears_close(alloc: Global, stream: &mut TcpStream) -> io::Result<bool> {
+    Ok(received(alloc, stream)?.ends_with(CLOSE))
+}
+
+/// Returns how many dispositions a peer is sent.
+pub fn dispositions(alloc: Global, stream: &mut TcpStream) -> io::Result<usize> {
+    Ok(times(&received(alloc, stream)?, DISPOSITION))
 }

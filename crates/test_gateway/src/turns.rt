@@ -1,12 +1,12 @@
 //! Peers and gateway by turns.
 
 use crate::scene::{
-    ATTACHED, CLOSE, DELIVERED, DISPOSITION, EMPTY, FIRST, RECORD, RECORDS, STREAM, Scene, Store,
-    Taking, received, times,
+    ATTACHED, CLOSE, DELIVERED, EMPTY, FIRST, RECORD, RECORDS, STREAM, Scene, Store, Taking,
+    dispositions, hears_close, received, send, times,
 };
 use amqp_gateway::GatewayFault;
 use std::cell::RefCell;
-use std::io::Write;
+use std::net::TcpStream;
 use std::process::Abort;
 use std::test::Fail;
 
@@ -14,12 +14,21 @@ use std::test::Fail;
 fn records_stand_in_a_block_and_are_synced_once(rt: HostRuntime) -> Result<(), Fail> {
     let store = RefCell::new(Store::new(rt.alloc()));
     records_stand_in_a_block_in(&rt, &rt, &mut Scene::new(&rt, &store, 3)?)?;
-    let store = store.into_inner();
+    assert_one_synced_block(&rt, &store.into_inner());
+    Ok(())
+}
+
+// The body borrows what it uses: one that may drop it at each exit takes minutes to prove.
+fn assert_one_synced_block(rt: &impl Abort, store: &Store) {
     let head = b"\x00\x00\x00\x00\x00\x00\x00\x01\x00\x00\x00\x26";
     assert_eq!(rt; store.bytes.get(..12), Some(head.as_slice()));
-    assert_eq!(rt; store.bytes.get(12..), Some(RECORDS));
+    assert_records(rt, store);
     assert_eq!(rt; store.syncs, 1);
-    Ok(())
+}
+
+/// Asserts that the records of both deliveries stand behind the head of their block.
+fn assert_records(rt: &impl Abort, store: &Store) {
+    assert_eq!(rt; store.bytes.get(12..), Some(RECORDS));
 }
 
 fn records_stand_in_a_block_in(
@@ -29,7 +38,7 @@ fn records_stand_in_a_block_in(
 ) -> Result<(), Fail> {
     let mut peer = scene.peer(host, STREAM)?;
     assert!(rt; scene.turns(8, 1).is_ok());
-    assert!(rt; received(host.alloc(), &mut peer)?.ends_with(CLOSE));
+    assert!(rt; hears_close(host.alloc(), &mut peer)?);
     assert_eq!(rt; (scene.gateway.open(), scene.log.count(": Closed")), (0, 1));
     assert_eq!(rt; scene.gateway.counts().messages, 2);
     Ok(())
@@ -52,7 +61,7 @@ fn a_silent_peer_in(
     assert_eq!(rt; scene.gateway.open(), 1);
     assert!(rt; scene.turns(4, 800).is_ok());
     assert_eq!(rt; (scene.gateway.open(), scene.log.count(": Idle")), (0, 1));
-    assert!(rt; received(host.alloc(), &mut peer)?.ends_with(CLOSE));
+    assert!(rt; hears_close(host.alloc(), &mut peer)?);
     Ok(())
 }
 
@@ -70,11 +79,11 @@ fn does_not_open_in(
 ) -> Result<(), Fail> {
     let mut peer = scene.peer(host, b"")?;
     for byte in STREAM.get(..12).unwrap_or(&[]) {
-        peer.write_all(&[*byte])?;
+        send(&mut peer, &[*byte])?;
         assert!(rt; scene.turns(1, 800).is_ok());
     }
     assert_eq!(rt; scene.gateway.open(), 1);
-    peer.write_all(STREAM.get(12..13).unwrap_or(&[]))?;
+    send(&mut peer, STREAM.get(12..13).unwrap_or(&[]))?;
     assert!(rt; scene.turns(4, 800).is_ok());
     assert_eq!(rt; (scene.gateway.open(), scene.log.count(": Idle")), (0, 1));
     Ok(())
@@ -90,10 +99,10 @@ fn a_peer_that_was_ended_is_not_awaited_for_ever(rt: HostRuntime) -> Result<(), 
 fn was_ended_in(rt: &impl Abort, host: &HostRuntime, scene: &mut Scene<'_>) -> Result<(), Fail> {
     let mut peer = scene.peer(host, STREAM.get(..25).unwrap_or(&[]))?;
     assert!(rt; scene.turns(2, 1).is_ok());
-    peer.write_all(STREAM.get(8..25).unwrap_or(&[]))?;
+    send(&mut peer, STREAM.get(8..25).unwrap_or(&[]))?;
     for _ in 0..12 {
         assert!(rt; scene.turns(1, 800).is_ok());
-        peer.write_all(EMPTY)?;
+        send(&mut peer, EMPTY)?;
     }
     assert_eq!(rt; scene.gateway.open(), 1);
     assert!(rt; scene.turns(4, 800).is_ok());
@@ -125,7 +134,7 @@ fn asks_for_it_in(rt: &impl Abort, host: &HostRuntime, scene: &mut Scene<'_>) ->
 fn a_sink_that_takes_nothing_holds_all_up(rt: HostRuntime) -> Result<(), Fail> {
     let store = RefCell::new(Store::new(rt.alloc()));
     holds_all_up_in(&rt, &rt, &store, &mut Scene::new(&rt, &store, 3)?)?;
-    assert_eq!(rt; store.into_inner().bytes.get(12..), Some(RECORDS));
+    assert_records(&rt, &store.into_inner());
     Ok(())
 }
 
@@ -138,7 +147,7 @@ fn holds_all_up_in(
     let mut peer = scene.peer(host, STREAM.get(..DELIVERED).unwrap_or(&[]))?;
     set(store, Taking::Nothing);
     assert!(rt; scene.turns(4, 1).is_ok());
-    peer.write_all(CLOSE)?;
+    send(&mut peer, CLOSE)?;
     assert!(rt; scene.turns(40, 1000).is_ok());
     assert_eq!(rt; (scene.gateway.open(), scene.log.count(": Closed")), (1, 0));
     set(store, Taking::All);
@@ -151,10 +160,14 @@ fn holds_all_up_in(
 #[test]
 fn a_sink_that_fails_ends_it(rt: HostRuntime) -> Result<(), Fail> {
     for calls in 0..4 {
-        let store = RefCell::new(Store::new(rt.alloc()));
-        a_sink_that_fails_in(&rt, &rt, &store, &mut Scene::new(&rt, &store, 3)?, calls)?;
+        a_sink_that_fails_behind(&rt, &rt, calls)?;
     }
     Ok(())
+}
+
+fn a_sink_that_fails_behind(rt: &impl Abort, host: &HostRuntime, calls: usize) -> Result<(), Fail> {
+    let store = RefCell::new(Store::new(host.alloc()));
+    a_sink_that_fails_in(rt, host, &store, &mut Scene::new(host, &store, 3)?, calls)
 }
 
 fn a_sink_that_fails_in(
@@ -166,19 +179,27 @@ fn a_sink_that_fails_in(
 ) -> Result<(), Fail> {
     let mut peer = scene.peer(host, STREAM.get(..ATTACHED).unwrap_or(&[]))?;
     fail_behind(store, calls);
+    it_ends(rt, scene, &mut peer, calls)?;
+    assert_eq!(rt; dispositions(host.alloc(), &mut peer)?, calls / 2);
+    assert_eq!(rt; records_in(store)?, calls.div_ceil(2));
+    Ok(())
+}
+
+fn it_ends(
+    rt: &impl Abort,
+    scene: &mut Scene<'_>,
+    peer: &mut TcpStream,
+    calls: usize,
+) -> Result<(), Fail> {
     assert!(rt; scene.turns(4, 1).is_ok());
-    peer.write_all(STREAM.get(ATTACHED..FIRST).unwrap_or(&[]))?;
+    send(peer, STREAM.get(ATTACHED..FIRST).unwrap_or(&[]))?;
     let first = scene.turns(4, 1);
     assert_eq!(rt; first.is_err(), calls < 2);
-    peer.write_all(STREAM.get(FIRST..DELIVERED).unwrap_or(&[]))?;
+    send(peer, STREAM.get(FIRST..DELIVERED).unwrap_or(&[]))?;
     if first.is_ok() {
         assert_eq!(rt; scene.turns(4, 1), Err(GatewayFault::Sink));
     }
     assert_eq!(rt; (scene.gateway.open(), scene.log.count(": Sink")), (0, 1));
-    let told = received(host.alloc(), &mut peer)?;
-    let store = store.try_borrow().ok().ok_or("in use")?;
-    assert_eq!(rt; times(&told, DISPOSITION), calls / 2);
-    assert_eq!(rt; times(&store.bytes, RECORD), calls.div_ceil(2));
     Ok(())
 }
 
@@ -203,7 +224,7 @@ fn is_not_awaited_in(
     assert_eq!(rt; scene.turns(2, 500), Err(GatewayFault::Sink));
     assert!(rt; scene.gateway.is_done());
     assert_eq!(rt; scene.log.count(": Stopped"), 1);
-    assert_eq!(rt; times(&received(host.alloc(), &mut peer)?, DISPOSITION), 0);
+    assert_eq!(rt; dispositions(host.alloc(), &mut peer)?, 0);
     Ok(())
 }
 
@@ -212,7 +233,7 @@ fn is_not_awaited_in(
 fn a_sink_that_takes_a_few_bytes_gets_all(rt: HostRuntime) -> Result<(), Fail> {
     let store = RefCell::new(Store::new(rt.alloc()));
     a_few_bytes_in(&rt, &rt, &store, &mut Scene::new(&rt, &store, 3)?)?;
-    assert_eq!(rt; store.into_inner().bytes.get(12..), Some(RECORDS));
+    assert_records(&rt, &store.into_inner());
     Ok(())
 }
 
@@ -230,7 +251,7 @@ fn a_few_bytes_in(
     }
     assert!(rt; scene.turns(4, 1).is_ok());
     assert_eq!(rt; scene.log.count(": Closed"), 1);
-    assert!(rt; received(host.alloc(), &mut peer)?.ends_with(CLOSE));
+    assert!(rt; hears_close(host.alloc(), &mut peer)?);
     Ok(())
 }
 
@@ -253,38 +274,78 @@ fn peers_of_all_kinds_are_served_at_once(rt: HostRuntime) -> Result<(), Fail> {
 }
 
 fn all_kinds_in(rt: &impl Abort, host: &HostRuntime, scene: &mut Scene<'_>) -> Result<(), Fail> {
-    let attached = STREAM.get(..ATTACHED).unwrap_or(&[]);
-    let mut good = Vec::new(host.alloc());
-    for _ in 0..4 {
-        good.push(scene.peer(host, STREAM)?)?;
-    }
+    let mut good = peers(host, scene, &[STREAM; 4])?;
     let mut slow = scene.peer(host, &[])?;
-    let silent = scene.peer(host, b"AMQP\x00\x01\x00\x00")?;
+    let _silent = scene.peer(host, b"AMQP\x00\x01\x00\x00")?;
+    bad_ones_leave(rt, host, scene, &mut slow)?;
+    good_ones_get_all(rt, host, scene, &mut good, &mut slow)?;
+    each_other_ends(rt, scene);
+    Ok(())
+}
+
+/// Returns a peer for each of these streams, which it has sent.
+fn peers(host: &HostRuntime, scene: &Scene<'_>, streams: &[&[u8]]) -> Result<Vec<TcpStream>, Fail> {
+    let mut peers = Vec::new(host.alloc());
+    for stream in streams {
+        peers.push(scene.peer(host, stream)?)?;
+    }
+    Ok(peers)
+}
+
+/// Two peers send without end while a slow one sends its bytes, and then leave, as does one that breaks off.
+fn bad_ones_leave(
+    rt: &impl Abort,
+    host: &HostRuntime,
+    scene: &mut Scene<'_>,
+    slow: &mut TcpStream,
+) -> Result<(), Fail> {
+    let attached = STREAM.get(..ATTACHED).unwrap_or(&[]);
     let mut endless = scene.peer(host, attached)?;
     let mut flood = scene.peer(host, attached)?;
-    let broken = scene.peer(host, STREAM.get(..DELIVERED - 4).unwrap_or(&[]))?;
-    endless.write_all(ENDLESS)?;
+    let _broken = scene.peer(host, STREAM.get(..DELIVERED - 4).unwrap_or(&[]))?;
+    bad_ones_send(rt, scene, slow, &mut endless, &mut flood)
+}
+
+fn bad_ones_send(
+    rt: &impl Abort,
+    scene: &mut Scene<'_>,
+    slow: &mut TcpStream,
+    endless: &mut TcpStream,
+    flood: &mut TcpStream,
+) -> Result<(), Fail> {
+    send(endless, ENDLESS)?;
     for byte in STREAM {
-        slow.write_all(&[*byte])?;
-        endless.write_all(FURTHER)?;
-        flood.write_all(ECHO)?;
+        send(slow, &[*byte])?;
+        send(endless, FURTHER)?;
+        send(flood, ECHO)?;
         assert!(rt; scene.turns(1, 1).is_ok());
         assert!(rt;
             scene.gateway.held() <= (scene.gateway.open() as u64).saturating_mul(scene.bound)
         );
     }
-    drop(broken);
-    drop(endless);
-    drop(flood);
+    Ok(())
+}
+
+fn good_ones_get_all(
+    rt: &impl Abort,
+    host: &HostRuntime,
+    scene: &mut Scene<'_>,
+    good: &mut [TcpStream],
+    slow: &mut TcpStream,
+) -> Result<(), Fail> {
     assert!(rt; scene.turns(4, 1).is_ok());
-    for peer in &mut good {
-        assert!(rt; received(host.alloc(), peer)?.ends_with(CLOSE));
+    for peer in good {
+        assert!(rt; hears_close(host.alloc(), peer)?);
     }
-    assert!(rt; received(host.alloc(), &mut slow)?.ends_with(CLOSE));
+    assert!(rt; hears_close(host.alloc(), slow)?);
     assert_eq!(rt;
         (scene.log.count(": Closed"), scene.gateway.counts().messages),
         (5, 11)
     );
+    Ok(())
+}
+
+fn each_other_ends(rt: &impl Abort, scene: &mut Scene<'_>) {
     assert_eq!(rt;
         scene
             .log
@@ -293,7 +354,45 @@ fn all_kinds_in(rt: &impl Abort, host: &HostRuntime, scene: &mut Scene<'_>) -> R
     );
     assert!(rt; scene.turns(24, 500).is_ok());
     assert_eq!(rt; (scene.gateway.open(), scene.log.count(": Idle")), (0, 1));
-    drop(silent);
+}
+
+/// A piece of many short frames is heard in several turns, in which another peer is served to its end.
+#[test]
+fn many_short_frames_are_heard_in_parts(rt: HostRuntime) -> Result<(), Fail> {
+    let store = RefCell::new(Store::new(rt.alloc()));
+    heard_in_parts_in(&rt, &rt, &mut Scene::new(&rt, &store, 3)?)
+}
+
+fn heard_in_parts_in(
+    rt: &impl Abort,
+    host: &HostRuntime,
+    scene: &mut Scene<'_>,
+) -> Result<(), Fail> {
+    let mut flood = scene.peer(host, STREAM.get(..ATTACHED).unwrap_or(&[]))?;
+    assert!(rt; scene.turns(2, 1).is_ok());
+    send_flood(&mut flood)?;
+    let _good = scene.peer(host, STREAM)?;
+    assert!(rt; scene.turns(4, 1).is_ok());
+    assert_eq!(rt;
+        (
+            scene.gateway.open(),
+            scene.log.count("connection 2: Closed")
+        ),
+        (1, 1)
+    );
+    assert!(rt; scene.turns(6, 1).is_ok());
+    assert_eq!(rt; scene.log.count("connection 1: Closed"), 1);
+    Ok(())
+}
+
+/// Sends 400 empty frames at once, and a close.
+fn send_flood(flood: &mut TcpStream) -> Result<(), Fail> {
+    let mut bytes = [0; 3200];
+    for frame in bytes.chunks_exact_mut(EMPTY.len()) {
+        frame.copy_from_slice(EMPTY);
+    }
+    send(flood, &bytes)?;
+    send(flood, CLOSE)?;
     Ok(())
 }
 
@@ -305,23 +404,35 @@ fn a_peer_too_many_waits(rt: HostRuntime) -> Result<(), Fail> {
 
 fn too_many_in(rt: &impl Abort, host: &HostRuntime, scene: &mut Scene<'_>) -> Result<(), Fail> {
     let mut first = scene.peer(host, STREAM.get(..DELIVERED).unwrap_or(&[]))?;
-    let second = scene.peer(host, STREAM.get(..ATTACHED).unwrap_or(&[]))?;
-    let third = scene.peer(host, b"AMQP\x00\x01\x00\x00")?;
-    let fourth = scene.peer(host, STREAM)?;
+    let attached = STREAM.get(..ATTACHED).unwrap_or(&[]);
+    let _others = peers(host, scene, &[attached, b"AMQP\x00\x01\x00\x00", STREAM])?;
+    the_fourth_waits(rt, scene, &mut first)
+}
+
+fn the_fourth_waits(
+    rt: &impl Abort,
+    scene: &mut Scene<'_>,
+    first: &mut TcpStream,
+) -> Result<(), Fail> {
     assert!(rt; scene.turns(6, 1).is_ok());
     assert_eq!(rt;
         (scene.gateway.open(), scene.gateway.counts().accepted),
         (3, 3)
     );
-    first.write_all(CLOSE)?;
+    send(first, CLOSE)?;
     assert!(rt; scene.turns(8, 1).is_ok());
     assert_eq!(rt; (scene.gateway.open(), scene.log.count(": Closed")), (2, 2));
     scene.gateway.stop();
     assert!(rt; scene.turns(6, 300).is_ok());
     assert!(rt; scene.gateway.is_done());
     assert_eq!(rt; scene.log.count(": Stopped"), 2);
-    drop((first, second, third, fourth));
     Ok(())
+}
+
+/// Returns how many records stand in a store.
+fn records_in(store: &RefCell<Store>) -> Result<usize, Fail> {
+    let store = store.try_borrow().ok().ok_or("in use")?;
+    Ok(times(&store.bytes, RECORD))
 }
 
 /// A store takes this many bytes more.
