@@ -14,6 +14,7 @@ use std::io::{self, BufRead, ErrorKind, Input, Read, Seek, SeekFrom, Write};
 use std::net::{Net, SocketAddr, TcpListener, TcpStream};
 use std::process::{Abort, ExitCode};
 use std::rt::{Env, Files};
+use std::str::Split;
 use std::test::Fail;
 use std::time::{Clock, Duration};
 
@@ -23,8 +24,19 @@ struct Disk {
     cut_to: Cell<u64>,
     appended: RefCell<Vec<u8>>,
     aside: RefCell<Vec<u8>>,
+    /// The file of metrics that is written, and the one that stands in its place.
+    written: RefCell<Vec<u8>>,
+    metrics: RefCell<Vec<u8>>,
     /// Whether another has the file.
     is_busy: bool,
+}
+
+/// A file of a disk.
+#[derive(Clone, Copy)]
+enum Place {
+    Records,
+    Aside,
+    Metrics,
 }
 
 impl Disk {
@@ -33,7 +45,38 @@ impl Disk {
             cut_to: Cell::new(0),
             appended: RefCell::new(Vec::new(alloc)),
             aside: RefCell::new(Vec::new(alloc)),
+            written: RefCell::new(Vec::new(alloc)),
+            metrics: RefCell::new(Vec::new(alloc)),
             is_busy: false,
+        }
+    }
+
+    fn file(&self, place: Place) -> &RefCell<Vec<u8>> {
+        match place {
+            Place::Records => &self.appended,
+            Place::Aside => &self.aside,
+            Place::Metrics => &self.written,
+        }
+    }
+
+    /// Whether a file has these bytes.
+    fn has(&self, place: Place, bytes: &[u8]) -> bool {
+        match self.file(place).try_borrow() {
+            Ok(file) => file.as_slice() == bytes,
+            Err(_) => false,
+        }
+    }
+
+    /// Puts the metrics that were written in the place of those before.
+    fn renew(&self) -> io::Result<()> {
+        match (self.written.try_borrow_mut(), self.metrics.try_borrow_mut()) {
+            (Ok(mut written), Ok(mut metrics)) => {
+                metrics.clear();
+                metrics.extend_from_slice(&written)?;
+                written.clear();
+                Ok(())
+            }
+            _ => Err(io::Error::from(ErrorKind::Other)),
         }
     }
 }
@@ -45,8 +88,7 @@ struct Bytes<'a> {
     bytes: &'a [u8],
     is_broken: bool,
     disk: Option<&'a Disk>,
-    /// Whether it is the file that is set aside.
-    is_aside: bool,
+    place: Place,
 }
 
 impl Read for Bytes<'_> {
@@ -66,11 +108,7 @@ impl Write for Bytes<'_> {
         let Some(disk) = self.disk else {
             return Err(io::Error::from(ErrorKind::Unsupported));
         };
-        let file = if self.is_aside {
-            &disk.aside
-        } else {
-            &disk.appended
-        };
+        let file = disk.file(self.place);
         match file.try_borrow_mut() {
             Ok(mut file) => file.extend_from_slice(buf)?,
             Err(_) => return Err(io::Error::from(ErrorKind::Other)),
@@ -281,7 +319,11 @@ impl<'a> Files for Host<'a> {
         match self.file {
             Some(file) if path == "a.amqp" => Ok(file),
             Some(file) if path == "a.amqp.torn" => Ok(Bytes {
-                is_aside: true,
+                place: Place::Aside,
+                ..file
+            }),
+            Some(file) if path == "m.prom.new" => Ok(Bytes {
+                place: Place::Metrics,
                 ..file
             }),
             _ => Err(io::Error::from(ErrorKind::NotFound)),
@@ -304,8 +346,16 @@ impl<'a> Files for Host<'a> {
         Err(io::Error::from(ErrorKind::Unsupported))
     }
 
-    fn rename(&self, _from: &str, _to: &str) -> io::Result<()> {
-        Err(io::Error::from(ErrorKind::Unsupported))
+    fn rename(&self, from: &str, to: &str) -> io::Result<()> {
+        match self.file {
+            Some(
+                Bytes {
+                    disk: Some(disk),
+                    ..
+                },
+            ) if from == "m.prom.new" && to == "m.prom" => disk.renew(),
+            _ => Err(io::Error::from(ErrorKind::Unsupported)),
+        }
     }
 
     fn remove_file(&self, _path: &str) -> io::Result<()> {
@@ -431,7 +481,7 @@ fn whole<'a>(bytes: &'a [u8]) -> Option<Bytes<'a>> {
         bytes,
         is_broken: false,
         disk: None,
-        is_aside: false,
+        place: Place::Records,
     })
 }
 
@@ -442,7 +492,18 @@ fn broken<'a>(bytes: &'a [u8]) -> Option<Bytes<'a>> {
         bytes,
         is_broken: true,
         disk: None,
-        is_aside: false,
+        place: Place::Records,
+    })
+}
+
+/// Returns a file of this disk that gives these bytes and ends.
+fn kept<'a>(disk: &'a Disk, bytes: &'a [u8]) -> Option<Bytes<'a>> {
+    Some(Bytes {
+        all: bytes,
+        bytes,
+        is_broken: false,
+        disk: Some(disk),
+        place: Place::Records,
     })
 }
 
@@ -826,10 +887,49 @@ fn has_line(text: &str, line: &str) -> bool {
     text.split('\n').any(|other| other == line)
 }
 
-/// The bound that is told is that of the largest link that a table of limits allows.
-#[test]
-fn a_gateway_tells_the_bound_of_its_limits(rt: HostRuntime) -> Result<(), Fail> {
-    let address = free_port(&rt)?;
+/// What the program left: how it ended, and what it printed and told.
+#[derive(Drop)]
+struct Left {
+    status: ExitCode,
+    printed: String,
+    told: String,
+}
+
+/// Returns a copy of what a stream took.
+fn taken(alloc: Global, stream: &RefCell<String>) -> io::Result<String> {
+    match stream.try_borrow() {
+        Ok(text) => Ok(String::from_str(alloc, text.as_str())?),
+        Err(_) => Err(io::Error::from(ErrorKind::Other)),
+    }
+}
+
+/// Runs the program on this host.
+fn ran(host: &Host<'_>) -> io::Result<Left> {
+    let status = run(host);
+    let printed = taken(host.alloc, &host.out)?;
+    let told = taken(host.alloc, &host.err)?;
+    Ok(Left {
+        status,
+        printed,
+        told,
+    })
+}
+
+/// Runs the program with these words, to which one peer comes, on a disk whose one file has these bytes.
+fn ran_with<'a>(
+    rt: &'a HostRuntime,
+    words: &'a [&'a str],
+    address: SocketAddr,
+    disk: &'a Disk,
+    bytes: &'a [u8],
+) -> io::Result<Left> {
+    let host = host_called(rt, words, kept(disk, bytes), address);
+    ran(&host)
+}
+
+/// Runs a gateway with two words more, to which one peer comes, on a disk whose one file has these bytes.
+fn gateway_ran(rt: &HostRuntime, more: [&str; 2], disk: &Disk, bytes: &[u8]) -> io::Result<Left> {
+    let address = free_port(rt)?;
     let at = format!(in rt.alloc(); "{address}")?;
     let words = [
         "amqp",
@@ -838,16 +938,170 @@ fn a_gateway_tells_the_bound_of_its_limits(rt: HostRuntime) -> Result<(), Fail> 
         at.as_str(),
         "--connections",
         "1",
-        "--limits",
-        "a.amqp",
+        more[0],
+        more[1],
     ];
-    let file = whole(b"telemetry/ 64 4096\nfirmware/ 1 268435456\n");
-    let host = host_called(&rt, &words, file, address);
-    let status = run(&host);
-    let told = host.err.into_inner();
-    assert!(rt; status == ExitCode::SUCCESS);
+    ran_with(rt, &words, address, disk, bytes)
+}
+
+/// The bound that is told is that of the largest link that a table of limits allows.
+#[test]
+fn a_gateway_tells_the_bound_of_its_limits(rt: HostRuntime) -> Result<(), Fail> {
+    let disk = Disk::new(rt.alloc());
+    let limits = b"telemetry/ 64 4096\nfirmware/ 1 268435456\n";
+    let left = gateway_ran(&rt, ["--limits", "a.amqp"], &disk, limits)?;
+    assert!(rt; left.status == ExitCode::SUCCESS);
     // 16384 + 48832 + 4 * (1407 + 268435456 + 96) for a peer, and 250 peers
     let line = "a peer holds at most 1073813052 bytes, and all together 268453263000";
-    assert!(rt; has_line(&told, line));
+    assert!(rt; has_line(&left.told, line));
+    Ok(())
+}
+
+/// The block of a gateway's first peer, if that sends the stream.
+const SERVED: &[u8] =
+    b"\x00\x00\x00\x00\x00\x00\x00\x01\x00\x00\x00\x26\x00\x00\x00\x00\x00\x00\x00\x00\x00\x00\x00\x00\x00\x00\x00\x00\x00\x01\x78\x00\x00\x00\x00\x00\x00\x00\x00\x00\x01\x00\x00\x00\x00\x00\x00\x00\x01\x78";
+
+/// A block, and the first 20 bytes of it once more.
+const TORN: &[u8] =
+    b"\x00\x00\x00\x00\x00\x00\x00\x07\x00\x00\x00\x1c\x00\x01\x00\x00\x00\x02\x00\x00\x00\x03\x00\x00\x00\x00\x00\x00\x00\x0a\x00Su\xa0\x05hello\x00\x00\x00\x00\x00\x00\x00\x07\x00\x00\x00\x1c\x00\x01\x00\x00\x00\x02\x00\x00";
+
+/// A block, and bytes that are none.
+const MIXED: &[u8] =
+    b"\x00\x00\x00\x00\x00\x00\x00\x07\x00\x00\x00\x1c\x00\x01\x00\x00\x00\x02\x00\x00\x00\x03\x00\x00\x00\x00\x00\x00\x00\x0a\x00Su\xa0\x05helloAMQP\x00\x01\x00\x00\x00\x00\x00\x00";
+
+const CUT_OFF: &str =
+    "records: 20 bytes of a block that was not written to its end are cut off, and stand in a.amqp.torn";
+
+/// Asserts to which length the file of a disk was cut, what was set aside, and what was appended.
+fn assert_left(rt: &impl Abort, disk: &Disk, cut_to: u64, aside: &[u8], appended: &[u8]) {
+    assert_eq!(rt; disk.cut_to.get(), cut_to);
+    assert!(rt; disk.has(Place::Aside, aside) && disk.has(Place::Records, appended));
+}
+
+/// A file of records is gone through at the start: a block that was not written to its end is set aside and cut off, and bytes that
+/// are no block stay, and end it. One that another has is not touched.
+#[test]
+fn a_gateway_goes_through_its_file(rt: HostRuntime) -> Result<(), Fail> {
+    let (good, bad) = (ExitCode::SUCCESS, ExitCode::FAILURE);
+    let (torn, none) = (&TORN[40..], b"".as_slice());
+    for (bytes, is_busy, status, line, cut_to, aside, appended) in [
+        (BLOCK, false, good, "connection 1: Closed", 0, none, SERVED),
+        (TORN, false, good, CUT_OFF, 40, torn, SERVED),
+        (TORN, true, bad, "fault: Open", 0, none, none),
+        (MIXED, false, bad, "fault: 40 Block", 0, none, none),
+    ] {
+        let mut disk = Disk::new(rt.alloc());
+        disk.is_busy = is_busy;
+        let left = gateway_ran(&rt, ["--records", "a.amqp"], &disk, bytes)?;
+        assert!(rt; left.status == status && has_line(&left.told, line));
+        assert_left(&rt, &disk, cut_to, aside, appended);
+    }
+    Ok(())
+}
+
+/// Passes lines up to this one, and returns whether it came.
+fn pass_to(lines: &mut Split<'_, char>, line: &str) -> bool {
+    lines.any(|other| other == line)
+}
+
+/// Asserts that a gateway told these lines of a peer that sent the stream, in this order.
+fn assert_served(rt: &impl Abort, told: &str) {
+    let mut lines = told.split('\n');
+    for line in [
+        "a peer holds at most 4271292 bytes, and all together 1067823000",
+        "connection 1: opened by \"a\"",
+        "1 0ms <- header id=0 version=1.0.0",
+        "1 0ms -> header id=0 version=1.0.0",
+        "1 0ms the peer is \"a\"",
+        "1 0ms session 0 began",
+        "1 0ms link \"l\" began in session 0",
+        "1 0ms message id=0 length=1 on link \"l\": accepted",
+        "1 0ms message id=1 length=1 on link \"l\": accepted",
+        "1 0ms the connection was closed by the peer",
+        "1 0ms -- end Closed",
+        "connection 1: Closed",
+    ] {
+        assert!(rt; pass_to(&mut lines, line), "{line}");
+    }
+}
+
+/// What is told of the peer of a gateway, but for its address, and the block of its records.
+#[test]
+fn a_gateway_serves_a_peer_and_tells_of_it(rt: HostRuntime) -> Result<(), Fail> {
+    let disk = Disk::new(rt.alloc());
+    let left = gateway_ran(&rt, ["--trace=-", "--events=-"], &disk, b"")?;
+    assert!(rt; left.status == ExitCode::SUCCESS);
+    assert_eq!(rt; left.printed.as_bytes(), SERVED);
+    assert_served(&rt, &left.told);
+    Ok(())
+}
+
+/// Whether a line is one of Prometheus' text format: a help, a type, or a name, its labels if any, and a number.
+fn is_metric(line: &str) -> bool {
+    if let Some(rest) = line.strip_prefix("# HELP amqp_gateway_") {
+        return rest.contains(' ');
+    }
+    if let Some(rest) = line.strip_prefix("# TYPE amqp_gateway_") {
+        return rest.ends_with(" counter") || rest.ends_with(" gauge");
+    }
+    match line.split_once(' ') {
+        Some((name, number)) => name.starts_with("amqp_gateway_") && number.parse::<u64>().is_ok(),
+        None => false,
+    }
+}
+
+/// The number of a metric, if it is there.
+fn metric(text: &str, name: &str) -> Option<u64> {
+    for line in text.lines() {
+        if let Some(rest) = line.strip_prefix("amqp_gateway_") {
+            if let Some((other, number)) = rest.split_once(' ') {
+                if other == name {
+                    return number.parse::<u64>().ok();
+                }
+            }
+        }
+    }
+    None
+}
+
+/// Asserts that a text is one of metrics, and what it has of a peer that sends the stream.
+fn assert_counted(rt: &impl Abort, text: &str) {
+    for line in text.lines() {
+        assert!(rt; is_metric(line), "{line}");
+    }
+    for (name, value) in [
+        ("peers_open", 0),
+        ("connections_accepted_total", 1),
+        ("connections_ended_total{cause=\"Closed\"}", 1),
+        ("connections_ended_total{cause=\"Failed\"}", 0),
+        ("messages_total", 2),
+        ("message_bytes_total", 2),
+        ("held_bytes", 0),
+        ("held_bytes_bound", 1_067_823_000),
+        ("longest_turn_milliseconds", 0),
+    ] {
+        assert_eq!(rt; metric(text, name), Some(value), "{name}");
+    }
+}
+
+/// Asserts what the file of metrics on a disk has of a peer that sends the stream.
+fn assert_metrics(rt: &impl Abort, disk: &Disk) -> io::Result<()> {
+    match disk.metrics.try_borrow() {
+        Ok(metrics) => {
+            assert_counted(rt, std::str::from_utf8(&metrics).unwrap_or(""));
+            Ok(())
+        }
+        Err(_) => Err(io::Error::from(ErrorKind::Other)),
+    }
+}
+
+/// What a gateway counts of a peer that sends two messages of one byte and closes is in its file of metrics, in lines of
+/// Prometheus' text format.
+#[test]
+fn a_gateway_counts_in_a_file(rt: HostRuntime) -> Result<(), Fail> {
+    let disk = Disk::new(rt.alloc());
+    let left = gateway_ran(&rt, ["--metrics", "m.prom"], &disk, b"")?;
+    assert!(rt; left.status == ExitCode::SUCCESS);
+    assert_metrics(&rt, &disk)?;
     Ok(())
 }
