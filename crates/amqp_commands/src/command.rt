@@ -107,153 +107,124 @@ fn number<'a>(alloc: Global, name: &'a str, least: i64, most: i64, default: &'a 
         .default_value(default)
 }
 
+// Each function below makes one option after the other and adds it at once: one that holds several at each `?` takes a minute to
+// prove.
+
 /// Makes the command that serves connections.
 fn recv_line<'a>(alloc: Global) -> Result<Command<'a>, AllocError> {
-    let address = Arg::new(alloc, "ADDR")
+    let recv = Command::new(alloc, "recv").about(
+        "Serves connections, and writes the records of their messages",
+    );
+    let recv = recv.arg(listen_at(alloc))?;
+    let recv = recv.arg(number(alloc, "connections", 1, 1000, "1").help(
+        "How many connections are served, one after the other",
+    ))?;
+    let recv = recv.arg(number(alloc, "idle", 0, 86400, "0").help(
+        "A peer that says nothing, or takes nothing, for so many seconds is left; 0 is never",
+    ))?;
+    with_told(alloc, with_bounds(alloc, recv, "65536", "1048576", "2048")?)
+}
+
+/// Makes the option that names where to listen.
+fn listen_at<'a>(alloc: Global) -> Arg<'a> {
+    Arg::new(alloc, "ADDR")
         .long("listen")
         .required(true)
-        .help("Where to listen: HOST:PORT");
-    let connections = number(alloc, "connections", 1, 1000, "1").help(
-        "How many connections are served, one after the other",
-    );
-    let idle = number(alloc, "idle", 0, 86400, "0").help(
-        "A peer that says nothing, or takes nothing, for so many seconds is left; 0 is never",
-    );
-    let recv = Command::new(alloc, "recv")
-        .about("Serves connections, and writes the records of their messages")
-        .arg(address)?
-        .arg(connections)?
-        .arg(idle)?;
-    with_told(alloc, with_bounds(alloc, recv)?)
+        .help("Where to listen: HOST:PORT")
+}
+
+/// Makes an option that names a file.
+fn file<'a>(alloc: Global, name: &'a str) -> Arg<'a> {
+    Arg::new(alloc, name).long(name).value_name("FILE")
+}
+
+/// Makes an option that takes no value.
+fn flag<'a>(alloc: Global, name: &'a str) -> Arg<'a> {
+    Arg::new(alloc, name).long(name).action(ArgAction::SetTrue)
 }
 
 /// Adds the files to which lines about what is served go.
-fn with_told<'a>(alloc: Global, recv: Command<'a>) -> Result<Command<'a>, AllocError> {
-    let trace = Arg::new(alloc, "trace")
-        .long("trace")
-        .value_name("FILE")
-        .help("Tells each frame, what it came to, and how connections end; - is standard error");
-    let events = Arg::new(alloc, "events")
-        .long("events")
-        .value_name("FILE")
-        .help("Tells sessions, links and messages, without frames; - is standard error");
-    recv.arg(trace)?.arg(events)
+fn with_told<'a>(alloc: Global, line: Command<'a>) -> Result<Command<'a>, AllocError> {
+    let line = line.arg(file(alloc, "trace").help(
+        "Tells each frame, what it came to, and how connections end; - is standard error",
+    ))?;
+    line.arg(file(alloc, "events").help(
+        "Tells sessions, links and messages, without frames; - is standard error",
+    ))
 }
 
-/// Adds the limits of what its peers may send.
-fn with_bounds<'a>(alloc: Global, recv: Command<'a>) -> Result<Command<'a>, AllocError> {
-    let max_frame = number(alloc, "max-frame", 512, 1048576, "65536").help(
+/// Adds the limits of what its peers may send, of which these three differ in their defaults.
+fn with_bounds<'a>(
+    alloc: Global,
+    line: Command<'a>,
+    max_frame: &'a str,
+    max_message: &'a str,
+    window: &'a str,
+) -> Result<Command<'a>, AllocError> {
+    let line = line.arg(number(alloc, "max-frame", 512, 1048576, max_frame).help(
         "The longest frame that is accepted, in bytes",
-    );
-    let allowed = number(alloc, "allowed", 1, 1024, "16").help(
+    ))?;
+    let line = line.arg(number(alloc, "allowed", 1, 1024, "16").help(
         "The deliveries that a link may have open, and its credit",
-    );
-    let max_message = number(alloc, "max-message", 1, 1073741824, "1048576").help(
+    ))?;
+    let line = line.arg(number(alloc, "max-message", 1, 1073741824, max_message).help(
         "The longest message, in bytes",
-    );
-    let window = number(alloc, "window", 0, 2147483647, "2048").help(
+    ))?;
+    let line = line.arg(number(alloc, "window", 0, 2147483647, window).help(
         "The places of a session's window at its begin",
-    );
-    let limits = Arg::new(alloc, "limits")
-        .long("limits")
-        .value_name("FILE")
-        .help(
-            "Other limits for links by how their names begin: PREFIX ALLOWED MAX_MESSAGE on each line",
-        );
-    recv.arg(max_frame)?
-        .arg(allowed)?
-        .arg(max_message)?
-        .arg(window)?
-        .arg(limits)
+    ))?;
+    line.arg(file(alloc, "limits").help(
+        "Other limits for links by how their names begin: PREFIX ALLOWED MAX_MESSAGE on each line",
+    ))
 }
 
 /// Makes the command that serves many peers at a time.
 fn gateway_line<'a>(alloc: Global) -> Result<Command<'a>, AllocError> {
-    let address = Arg::new(alloc, "ADDR")
-        .long("listen")
-        .required(true)
-        .help("Where to listen: HOST:PORT");
-    let open = number(alloc, "open", 1, 65536, "250").help(
+    let gateway = Command::new(alloc, "gateway").about(
+        "Serves many peers at a time, and writes blocks of the records of their messages",
+    );
+    let gateway = gateway.arg(listen_at(alloc))?;
+    let gateway = gateway.arg(number(alloc, "open", 1, 65536, "250").help(
         "How many peers are served at a time; by default each holds at most 4.3 MB, and all 1.07 GB",
-    );
-    let connections = number(alloc, "connections", 0, 4294967295, "0").help(
+    ))?;
+    let gateway = gateway.arg(number(alloc, "connections", 0, 4294967295, "0").help(
         "How many are served before it ends; 0 is without end",
-    );
-    let until_eof = Arg::new(alloc, "until-eof")
-        .long("until-eof")
-        .action(ArgAction::SetTrue)
-        .help("Ends it at the end of standard input");
-    let gateway = Command::new(alloc, "gateway")
-        .about("Serves many peers at a time, and writes blocks of the records of their messages")
-        .arg(address)?
-        .arg(open)?
-        .arg(connections)?
-        .arg(until_eof)?;
+    ))?;
+    let gateway = gateway.arg(flag(alloc, "until-eof").help(
+        "Ends it at the end of standard input",
+    ))?;
     let gateway = with_files(alloc, with_times(alloc, gateway)?)?;
-    with_told(alloc, with_gateway_bounds(alloc, gateway)?)
+    with_told(alloc, with_bounds(alloc, gateway, "16384", "65536", "256")?)
 }
 
 /// Adds the time-outs.
 fn with_times<'a>(alloc: Global, gateway: Command<'a>) -> Result<Command<'a>, AllocError> {
-    let idle = number(alloc, "idle", 1, 86400, "60").help(
+    let gateway = gateway.arg(number(alloc, "idle", 1, 86400, "60").help(
         "A peer that says nothing for so many seconds is closed",
-    );
-    let slow = number(alloc, "slow", 1, 86400, "10").help(
+    ))?;
+    let gateway = gateway.arg(number(alloc, "slow", 1, 86400, "10").help(
         "A peer that takes none of its answers for so many seconds is dropped",
-    );
-    let grace = number(alloc, "grace", 0, 86400, "5").help(
+    ))?;
+    let gateway = gateway.arg(number(alloc, "grace", 0, 86400, "5").help(
         "For how many seconds what waits may still go out at the end",
-    );
-    let every = number(alloc, "every", 1, 86400, "10").help(
+    ))?;
+    gateway.arg(number(alloc, "every", 1, 86400, "10").help(
         "How often the file of metrics is written, in seconds",
-    );
-    gateway.arg(idle)?.arg(slow)?.arg(grace)?.arg(every)
+    ))
 }
 
 /// Adds the files.
 fn with_files<'a>(alloc: Global, gateway: Command<'a>) -> Result<Command<'a>, AllocError> {
-    let records = Arg::new(alloc, "records")
-        .long("records")
-        .value_name("FILE")
-        .help("Appends the records to a file, and not to standard output");
-    let sync = Arg::new(alloc, "sync")
-        .long("sync")
-        .action(ArgAction::SetTrue)
-        .requires_arg("records")?
-        .help("Brings records to the disk before their senders hear of it");
-    let metrics = Arg::new(alloc, "metrics")
-        .long("metrics")
-        .value_name("FILE")
-        .help("Writes what it counts, in the text format of Prometheus");
-    gateway.arg(records)?.arg(sync)?.arg(metrics)
-}
-
-/// Adds the limits of what its peers may send.
-fn with_gateway_bounds<'a>(alloc: Global, gateway: Command<'a>) -> Result<Command<'a>, AllocError> {
-    let max_frame = number(alloc, "max-frame", 512, 1048576, "16384").help(
-        "The longest frame that is accepted, in bytes",
-    );
-    let allowed = number(alloc, "allowed", 1, 1024, "16").help(
-        "The deliveries that a link may have open, and its credit",
-    );
-    let max_message = number(alloc, "max-message", 1, 1073741824, "65536").help(
-        "The longest message, in bytes",
-    );
-    let window = number(alloc, "window", 0, 2147483647, "256").help(
-        "The places of a session's window at its begin",
-    );
-    let limits = Arg::new(alloc, "limits")
-        .long("limits")
-        .value_name("FILE")
-        .help(
-            "Other limits for links by how their names begin: PREFIX ALLOWED MAX_MESSAGE on each line",
-        );
-    gateway
-        .arg(max_frame)?
-        .arg(allowed)?
-        .arg(max_message)?
-        .arg(window)?
-        .arg(limits)
+    let gateway = gateway.arg(file(alloc, "records").help(
+        "Appends the records to a file, and not to standard output",
+    ))?;
+    let sync = flag(alloc, "sync").requires_arg("records")?;
+    let gateway = gateway.arg(sync.help(
+        "Brings records to the disk before their senders hear of it",
+    ))?;
+    gateway.arg(file(alloc, "metrics").help(
+        "Writes what it counts, in the text format of Prometheus",
+    ))
 }
 
 /// Returns the settings of a command line that was read as one of [`gateway_line`].
@@ -296,33 +267,33 @@ fn recv_settings(recv: &ArgMatches<'_>) -> Option<RecvSettings> {
 
 /// Makes the command that prints records.
 fn records_line<'a>(alloc: Global) -> Result<Command<'a>, AllocError> {
-    let file = Arg::new(alloc, "FILE")
-        .required(true)
-        .help("The records that recv wrote; - is standard input");
-    let json = Arg::new(alloc, "json")
-        .long("json")
-        .action(ArgAction::SetTrue)
-        .help("Prints one JSON object on a line");
+    let records = Command::new(alloc, "records").about(
+        "Prints the records that recv or gateway wrote, as they come",
+    );
+    let records = records.arg(
+        Arg::new(alloc, "FILE").required(true).help(
+            "The records that recv or gateway wrote; - is standard input",
+        ),
+    )?;
+    let records = records.arg(flag(alloc, "json").help("Prints one JSON object on a line"))?;
+    let only = only(alloc)?;
+    let records = records.arg(only)?;
+    let records = records.arg(flag(alloc, "blocks").help(
+        "The records stand in blocks, as gateway writes them",
+    ))?;
+    records.arg(number(alloc, "max-message", 1, 1073741824, "1073741824").help(
+        "The longest message, in bytes",
+    ))
+}
+
+/// Makes the option that takes the number of one record.
+fn only<'a>(alloc: Global) -> Result<Arg<'a>, AllocError> {
     let only = Arg::new(alloc, "only")
         .long("only")
         .value_name("N")
-        .value_parser(value_parser!(u64).range(1..))
-        .conflicts_with("json")?
-        .help("Writes the bytes of the Nth message, and nothing else");
-    let max_message = number(alloc, "max-message", 1, 1073741824, "1073741824").help(
-        "The longest message, in bytes",
-    );
-    let blocks = Arg::new(alloc, "blocks")
-        .long("blocks")
-        .action(ArgAction::SetTrue)
-        .help("The records stand in blocks, as gateway writes them");
-    Command::new(alloc, "records")
-        .about("Prints the records that recv or gateway wrote, as they come")
-        .arg(file)?
-        .arg(json)?
-        .arg(only)?
-        .arg(blocks)?
-        .arg(max_message)
+        .value_parser(value_parser!(u64).range(1..));
+    let only = only.conflicts_with("json")?;
+    Ok(only.help("Writes the bytes of the Nth message, and nothing else"))
 }
 
 /// Returns the output that a command line asks for. It was read as one of [`records_line`].

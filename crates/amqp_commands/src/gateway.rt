@@ -88,17 +88,33 @@ where
     if settings.until_eof && gateway.watch_input().is_err() {
         gateway.stop(); // a file, which is not waited for
     }
-    let mut watched = Watched {
+    let watched = Watched {
         every: (settings.every as u64).saturating_mul(1000),
         due: 0,
         longest: 0,
         bound,
         metrics,
     };
+    run(rt, &mut gateway, &mut clock, watched, settings.until_eof)
+}
+
+/// Has a gateway make turns until it is done, or until the end of standard input where that ends it.
+fn run<R, S, W>(
+    rt: &R,
+    gateway: &mut Gateway<S, W>,
+    clock: &mut Watch,
+    mut watched: Watched<'_>,
+    until_eof: bool,
+) -> Result<(), GatewayFault>
+where
+    R: Eprint + Input + Files + Clock + AllocGlobal,
+    S: Sink + Drop,
+    W: Watcher + Drop,
+{
     for _ in 0..u64::MAX {
         let now = clock.millis(rt);
         if now >= watched.due || gateway.is_done() {
-            watched.tell(rt, now, &gateway);
+            watched.tell(rt, now, gateway);
         }
         if gateway.is_done() {
             break;
@@ -111,13 +127,11 @@ where
         };
         if let Err(fault) = waited {
             gateway.end_all(rt, ending_by(fault));
-            watched.tell(rt, now, &gateway);
+            watched.tell(rt, now, gateway);
             return Err(fault);
         }
-        if settings.until_eof && gateway.input_came() {
-            if has_ended(rt) || gateway.watch_input().is_err() {
-                gateway.stop();
-            }
+        if until_eof && gateway.input_came() && (has_ended(rt) || gateway.watch_input().is_err()) {
+            gateway.stop();
         }
     }
     Ok(())

@@ -1,4 +1,4 @@
-//! Where the lines about what `recv` serves go: files or standard error, and the clock of the
+//! Where the lines about what is served go: files or standard error, and the clock of the
 //! lines.
 
 use amqp_trace::{Host, TraceFault, View};

@@ -53,10 +53,25 @@ impl Measured for Case {
         let wanted = mode.rounds(self.rounds);
         let mut block = Block::new(alloc, self.shape)?;
         let mut run = Run::new(alloc, *self)?;
-        receive(&mut run, &mut block, self.by, self.open)?;
+        self.run_over(rt, mode, wanted, &mut run, &mut block)
+    }
+}
+
+impl Case {
+    /// Runs it over this endpoint until this many messages came.
+    // The body borrows what it uses: one that may drop it at each exit takes minutes to prove.
+    fn run_over(
+        &self,
+        rt: &(impl Print + Clock),
+        mode: Mode,
+        wanted: u32,
+        run: &mut Run,
+        block: &mut Block,
+    ) -> Result<(), Failure> {
+        receive(run, block, self.by, self.open)?;
         let (before, moved) = (run.messages, run.moved);
         let start = Instant::now(rt)?;
-        receive(&mut run, &mut block, self.by, wanted)?;
+        receive(run, block, self.by, wanted)?;
         let messages = run.messages.wrapping_sub(before);
         let time = mode.time_of(rt, &start, u128::from(messages))?;
         let moved = run.moved.wrapping_sub(moved);

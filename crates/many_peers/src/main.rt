@@ -28,15 +28,25 @@ const KINDS: usize = 4;
 
 fn main(rt: HostRuntime) -> Result<(), Failure> {
     let words: Vec<String> = env::args(&rt)?.skip(1).collect(rt.alloc())?;
-    let (seed, turns) = match words.as_slice() {
-        [] => (1, 3),
-        [seed, turns] => (number_of(seed)?, number_of(turns)?),
-        _ => return Err(Failure::Words),
-    };
+    let (seed, turns) = numbers_of(&words)?;
     let mut host = Host::new(rt.alloc(), PEERS)?;
     serve(rt.alloc(), &mut host, seed, turns)?;
-    let (answers, records) = (&host.answers, &host.records);
-    println!(&rt;
+    show(&rt, &host.answers, &host.records)
+}
+
+/// Returns the seed and how many turns the words after the program's name ask for.
+// The body borrows what it uses: one that may drop it at each exit takes minutes to prove.
+fn numbers_of(words: &[String]) -> Result<(u64, u64), Failure> {
+    match words {
+        [] => Ok((1, 3)),
+        [seed, turns] => Ok((number_of(seed)?, number_of(turns)?)),
+        _ => Err(Failure::Words),
+    }
+}
+
+/// Prints the digests of all that was answered and recorded.
+fn show(rt: &impl Print, answers: &Digest, records: &Digest) -> Result<(), Failure> {
+    println!(rt;
         "many answers={} {:016x} records={} {:016x}",
         answers.bytes, answers.value, records.bytes, records.value
     )?;

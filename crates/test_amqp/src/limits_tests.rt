@@ -183,6 +183,32 @@ impl Held {
         }
     }
 
+    /// The connection and a session are opened.
+    fn open(&mut self, rt: &impl Abort, opening: &[u8]) {
+        let mut at = 0;
+        for _ in 0..3 {
+            at = self
+                .endpoint
+                .feed(opening.get(at..).unwrap_or(&[]))
+                .used
+                .saturating_add(at);
+            self.drain();
+        }
+        assert_eq!(rt; at, opening.len());
+    }
+
+    /// All links take what their rows say, and no more.
+    // The body borrows what it uses: one that may drop it at each exit takes minutes to prove.
+    fn assert_each(&mut self, rt: &impl Abort, alloc: Global) -> Result<(), AllocError> {
+        for handle in 0..LINKS {
+            self.assert_limited(rt, alloc, handle)?;
+        }
+        for handle in 0..LINKS {
+            self.assert_ended(rt, alloc, handle)?;
+        }
+        Ok(())
+    }
+
     /// A link with this row takes what its row says, and no more.
     fn assert_limited(
         &mut self,
@@ -243,22 +269,8 @@ fn each_link_keeps_what_its_name_may(rt: HostRuntime) -> Result<(), Fail> {
         most: 512 + 8192 + 64,
     };
     let opening = opening(alloc)?;
-    let mut at = 0;
-    for _ in 0..3 {
-        at = held
-            .endpoint
-            .feed(opening.get(at..).unwrap_or(&[]))
-            .used
-            .saturating_add(at);
-        held.drain();
-    }
-    assert_eq!(rt; at, opening.len());
-    for handle in 0..LINKS {
-        held.assert_limited(&rt, alloc, handle)?;
-    }
-    for handle in 0..LINKS {
-        held.assert_ended(&rt, alloc, handle)?;
-    }
+    held.open(&rt, &opening);
+    held.assert_each(&rt, alloc)?;
     Ok(())
 }
 

@@ -2,6 +2,7 @@
 
 use amqp_endpoint::Config;
 use example_one_link::Receiver;
+use std::process::Abort;
 use std::test::Fail;
 
 /// What a sender sent: its header, open, begin and attach, and two deliveries of one byte each.
@@ -18,6 +19,13 @@ fn gets_what_it_granted(rt: HostRuntime) -> Result<(), Fail> {
     let name = String::from_str(rt.alloc(), "r")?;
     let config = Config::checked(name, 512, 0, 1, 4, 10, 100).ok_or("out of range")?;
     let mut receiver = Receiver::new(rt.alloc(), config, 1)?;
+    feed_all(&rt, &mut receiver);
+    Ok(())
+}
+
+/// Feeds all that the sender sent, and moves out what waits.
+// The body borrows what it uses: one that may drop it at each exit takes minutes to prove.
+fn feed_all(rt: &impl Abort, receiver: &mut Receiver) {
     let (mut rest, mut room, mut moved) = (SENT, [0; 64], 0);
     for _ in 0..SENT.len() {
         let (fed, taken) = receiver.feed(rest);
@@ -34,5 +42,4 @@ fn gets_what_it_granted(rt: HostRuntime) -> Result<(), Fail> {
     assert_eq!(rt; receiver.got(), 1);
     // the header, the replies to open, begin and attach, the flow of one credit, a disposition, and the detach with its error
     assert_eq!(rt; moved, 8 + 26 + 23 + 34 + 23 + 22 + 57);
-    Ok(())
 }

@@ -1,6 +1,7 @@
 //! What an endpoint shows of itself, and what `replay` answers.
 
 use amqp_endpoint::{Answer, Call, Config, Endpoint, Event, Outcome, replay};
+use amqp_link::Message;
 use amqp_session::LinkView;
 use std::alloc::{Allocator, Global};
 use std::process::Abort;
@@ -49,27 +50,57 @@ fn an_endpoint_shows_its_windows_and_links(rt: HostRuntime) -> Result<(), Fail> 
     let alloc = rt.alloc();
     let mut endpoint = Endpoint::new(alloc, config(alloc)?.copy(alloc)?)?;
     assert_shown(&rt, &endpoint, None, &[]);
+    attach(&rt, &mut endpoint);
+    deliver(&rt, &mut endpoint)?;
+    take(&rt, alloc, &mut endpoint)?;
+    detach(&rt, &mut endpoint);
+    Ok(())
+}
+
+/// Has the peer attach its link, and grants it credit for one delivery.
+// The body borrows what it uses: one that may drop it at each exit takes minutes to prove.
+fn attach(rt: &impl Abort, endpoint: &mut Endpoint) {
     let attached = Outcome::Event(Event::Attached {
         channel: 0,
         handle: 0,
     });
-    assert_eq!(rt; feed_all(&mut endpoint, STREAM), attached);
-    assert_shown(&rt, &endpoint, Some(100), &[0]);
+    assert_eq!(rt; feed_all(endpoint, STREAM), attached);
+    assert_shown(rt, endpoint, Some(100), &[0]);
     assert_eq!(rt; endpoint.grant(0, 0, 1), Ok(()));
+}
+
+/// Feeds the delivery.
+fn deliver(rt: &impl Abort, endpoint: &mut Endpoint) -> Result<(), Fail> {
     for part in PARTS {
         let _ = endpoint.feed(part);
     }
     match endpoint.link(0, 0) {
-        Some(link) => assert_link(&rt, &link),
+        Some(link) => assert_link(rt, &link),
         None => return Err(Fail::from("no link")),
     }
-    assert_shown(&rt, &endpoint, Some(97), &[0]);
-    let taken = endpoint.take(0, 0).ok().ok_or("nothing taken")?;
-    let message = taken.message.to_vec(alloc)?;
-    assert_eq!(rt; message.as_slice(), b"abcde".as_slice());
-    assert_eq!(rt; endpoint.detach(0, 0), Ok(0));
-    assert_shown(&rt, &endpoint, Some(97), &[]);
+    assert_shown(rt, endpoint, Some(97), &[0]);
     Ok(())
+}
+
+/// Takes it.
+fn take(rt: &impl Abort, alloc: Global, endpoint: &mut Endpoint) -> Result<(), Fail> {
+    match endpoint.take(0, 0) {
+        Ok(taken) => assert_message(rt, alloc, &taken.message),
+        Err(_) => Err(Fail::from("nothing taken")),
+    }
+}
+
+/// Asserts that it is the message.
+fn assert_message(rt: &impl Abort, alloc: Global, message: &Message) -> Result<(), Fail> {
+    let message = message.to_vec(alloc)?;
+    assert_eq!(rt; message.as_slice(), b"abcde".as_slice());
+    Ok(())
+}
+
+/// Detaches the link.
+fn detach(rt: &impl Abort, endpoint: &mut Endpoint) {
+    assert_eq!(rt; endpoint.detach(0, 0), Ok(0));
+    assert_shown(rt, endpoint, Some(97), &[]);
 }
 
 /// Asserts that channel 0 has this window, and the links at these handles; and that there are no others.
@@ -109,9 +140,14 @@ fn a_replay_has_an_answer_for_each_call(rt: HostRuntime) -> Result<(), Fail> {
         Call::Finish,
     ];
     let (endpoint, answers) = replay(alloc, config(alloc)?, &calls)?;
+    assert_replayed(&rt, &endpoint, &answers)
+}
+
+/// Asserts that these are the answers, and that the endpoint holds three bytes then.
+fn assert_replayed(rt: &impl Abort, endpoint: &Endpoint, answers: &[Answer]) -> Result<(), Fail> {
     assert_eq!(rt; answers.len(), 6);
     assert_eq!(rt; endpoint.held(), 3);
-    match answers.as_slice() {
+    match answers {
         [
             Answer::Fed(fed),
             Answer::Holds(8),
@@ -159,15 +195,25 @@ fn what_waits_is_lent_up_to_the_end_of_its_block(rt: HostRuntime) -> Result<(), 
     let mut endpoint = Endpoint::new(alloc, config(alloc)?)?;
     let _ = feed_all(&mut endpoint, STREAM);
     let mut written = Vec::from_slice(alloc, endpoint.unsent_front())?;
-    fill(&mut endpoint, &mut written)?;
-    assert_lent(&rt, &endpoint, &written, 0, written.len());
-    move_out(alloc, &mut endpoint, 5000)?;
-    assert_lent(&rt, &endpoint, &written, 5000, written.len());
-    fill(&mut endpoint, &mut written)?;
-    assert_lent(&rt, &endpoint, &written, 5000, BLOCK);
-    move_out(alloc, &mut endpoint, 1000)?;
-    assert_lent(&rt, &endpoint, &written, 6000, BLOCK);
-    move_out(alloc, &mut endpoint, BLOCK - 6000)?;
-    assert_lent(&rt, &endpoint, &written, BLOCK, written.len());
+    fill_twice(&rt, alloc, &mut endpoint, &mut written)
+}
+
+/// Fills the block, moves out a part, and fills it over its end, where what waits is then lent in two pieces.
+fn fill_twice(
+    rt: &impl Abort,
+    alloc: Global,
+    endpoint: &mut Endpoint,
+    written: &mut Vec<u8>,
+) -> Result<(), Fail> {
+    fill(endpoint, written)?;
+    assert_lent(rt, endpoint, written, 0, written.len());
+    move_out(alloc, endpoint, 5000)?;
+    assert_lent(rt, endpoint, written, 5000, written.len());
+    fill(endpoint, written)?;
+    assert_lent(rt, endpoint, written, 5000, BLOCK);
+    move_out(alloc, endpoint, 1000)?;
+    assert_lent(rt, endpoint, written, 6000, BLOCK);
+    move_out(alloc, endpoint, BLOCK - 6000)?;
+    assert_lent(rt, endpoint, written, BLOCK, written.len());
     Ok(())
 }

@@ -97,6 +97,19 @@ fn serve_refused(
     refusal: Refusal,
 ) -> Result<(Served, u64), Fail> {
     let mut endpoint = Endpoint::new(heap, config(heap)?)?;
+    serve_by(rt, alloc, heap, &mut endpoint, room, refusal)
+}
+
+/// Serves this endpoint so.
+// The body borrows what it uses: one that may drop it at each exit takes minutes to prove.
+fn serve_by(
+    rt: &impl Abort,
+    alloc: Global,
+    heap: &TestHeap<Global>,
+    endpoint: &mut Refused<'_>,
+    room: usize,
+    refusal: Refusal,
+) -> Result<(Served, u64), Fail> {
     let (stream, calls) = (stream(alloc)?, Calls::new(NEVER));
     let source = Source {
         rest: &stream,
@@ -108,7 +121,7 @@ fn serve_refused(
     let (end, refused) = serve_on(
         rt,
         heap,
-        &mut endpoint,
+        endpoint,
         &mut Device::new(BufReader::with_capacity(alloc, room, source)?),
         &mut Device::new(Direct::new(&mut written)),
         &mut Device::new(&mut recorded),

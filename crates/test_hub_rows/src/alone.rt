@@ -3,10 +3,11 @@
 use crate::lists::Came;
 use crate::rows::RULE;
 use amqp_endpoint::{Config, End, Endpoint};
-use amqp_frame::{Device, Direct};
+use amqp_frame::{Device, Direct, HoldsBack};
 use amqp_hub::TurnAnswer;
-use amqp_serve::{ServeFault, Server};
+use amqp_serve::{ServeFault, Server, Stepped};
 use std::alloc::Global;
+use std::io::Write;
 use test_row_files::{Heap, Miss};
 
 /// The close of this side [2.7.9].
@@ -68,14 +69,35 @@ impl Life {
         let name = String::from_str(alloc, "r")?;
         let config = Config::checked(name, 512, 0, 1, 4, 100, 100).ok_or("no settings")?;
         let mut server = Server::new(Endpoint::new(alloc, config)?, RULE);
+        self.difference_from(alloc, &mut server)
+    }
+
+    /// Returns why it is not what this server, which is new, makes of its own bytes, if it isn't.
+    fn difference_from(
+        &self,
+        alloc: Global,
+        server: &mut Server,
+    ) -> Result<Option<&'static str>, Miss> {
         let mut writer = Device::new(Direct::new(Vec::new(alloc)));
         let mut sink = Device::new(Vec::new(alloc));
+        let is_all = self.is_served_whole(server, &mut writer, &mut sink)?;
+        let mut told = writer.into_inner().into_inner();
+        self.tell_close(&mut told)?;
+        let end = server.finish();
+        Ok(self.judged(is_all, &told, &sink.into_inner(), end))
+    }
+
+    /// Serves its bytes, and returns whether none is left.
+    // The body borrows what it uses: one that may drop it at each exit takes minutes to prove.
+    fn is_served_whole<W: Write + HoldsBack + Drop, S: Write + Drop>(
+        &self,
+        server: &mut Server,
+        writer: &mut Device<W>,
+        sink: &mut Device<S>,
+    ) -> Result<bool, Miss> {
         let mut rest = self.stream.get(..self.served).ok_or("too few bytes")?;
         for _ in 0..self.served {
-            if writer.failed() || sink.failed() {
-                return Err(Miss::NoMemory);
-            }
-            let stepped = server.step(rest, &mut writer, &mut sink);
+            let stepped = step(server, rest, writer, sink)?;
             if stepped.done.is_err() {
                 return Err(Miss::NoMemory);
             }
@@ -84,21 +106,42 @@ impl Life {
                 break;
             }
         }
-        let mut told = writer.into_inner().into_inner();
+        Ok(rest.is_empty())
+    }
+
+    /// Tells the close of this side, if it has closed the connection.
+    fn tell_close(&self, told: &mut Vec<u8>) -> Result<(), Miss> {
         if self.closed {
             told.extend_from_slice(CLOSE)?;
         }
-        let end = server.finish();
-        Ok(if !rest.is_empty() {
+        Ok(())
+    }
+
+    /// Returns why it is not what a server made of its bytes, if it isn't.
+    fn judged(&self, is_all: bool, told: &[u8], recorded: &[u8], end: End) -> Option<&'static str> {
+        if !is_all {
             Some("more was taken")
-        } else if self.told != told {
+        } else if self.told.as_slice() != told {
             Some("other bytes are told")
-        } else if self.recorded != sink.into_inner() {
+        } else if self.recorded.as_slice() != recorded {
             Some("other records")
         } else if self.end.is_some_and(|how| how != end) {
             Some("another end")
         } else {
             None
-        })
+        }
     }
+}
+
+/// Makes a step of a server, whose ends have not failed.
+fn step<W: Write + HoldsBack + Drop, S: Write + Drop>(
+    server: &mut Server,
+    piece: &[u8],
+    writer: &mut Device<W>,
+    sink: &mut Device<S>,
+) -> Result<Stepped, Miss> {
+    if writer.failed() || sink.failed() {
+        return Err(Miss::NoMemory);
+    }
+    Ok(server.step(piece, writer, sink))
 }

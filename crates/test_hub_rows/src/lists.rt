@@ -36,14 +36,25 @@ pub fn difference(
     came: &mut Came,
 ) -> Result<Option<&'static str>, Miss> {
     let mut numbers = Numbers::of(number);
+    let lives = Vec::with_capacity(alloc, LIMIT)?;
     heap.restart(0);
     let config = settings(heap)?;
     heap.restart(refused);
     let mut bench = Bench {
         hub: Hub::new(heap, LIMIT),
         config,
-        lives: Vec::with_capacity(alloc, LIMIT)?,
+        lives,
     };
+    difference_in(alloc, &mut bench, &mut numbers, came)
+}
+
+/// Makes the turns that follow from these numbers, and returns what differs first, if anything does.
+fn difference_in(
+    alloc: Global,
+    bench: &mut Bench<'_>,
+    numbers: &mut Numbers,
+    came: &mut Came,
+) -> Result<Option<&'static str>, Miss> {
     for _ in 0..LIMIT {
         bench.lives.push(None)?;
     }
@@ -54,12 +65,12 @@ pub fn difference(
         } else {
             numbers.below(3) as usize
         };
-        if let Some(difference) = turn(alloc, &mut bench, key, &mut numbers, came)? {
+        if let Some(difference) = turn(alloc, bench, key, numbers, came)? {
             return Ok(Some(difference));
         }
     }
     for key in 0..LIMIT {
-        if let Some(difference) = compared(alloc, &mut bench, key, came)? {
+        if let Some(difference) = compared(alloc, bench, key, came)? {
             return Ok(Some(difference));
         }
     }

@@ -16,8 +16,9 @@ mod rows;
 use crate::lists::{Came, difference};
 use crate::numbers::Numbers;
 use crate::rows::{LIMIT, RULE, Rows, settings, text_of};
-use amqp_hub::{Turn, hub_replay};
-use std::alloc::AllocGlobal;
+use amqp_endpoint::Config;
+use amqp_hub::{Turn, TurnAnswer, hub_replay};
+use std::alloc::{AllocError, AllocGlobal, Allocator, Global};
 use std::io::Print;
 use std::{env, fs};
 use test_heap::TestHeap;
@@ -35,30 +36,81 @@ fn main(rt: HostRuntime) -> Result<(), Miss> {
         return Err(Miss::Unread("usage: test_hub_rows FILE COUNT SEED"));
     };
     let heap = TestHeap::new(rt.alloc(), 0);
-    let text = fs::read_to_string(&rt, file.as_str())?;
-    let file = RowFile::read(rt.alloc(), text.as_str())?;
-    let report = file.run(rt.alloc(), &heap, &mut Rows::new(&heap))?;
-    rt.print(report.as_str())?;
-    replay(&rt, &heap)?;
-    let seed = u64::from(number(seed.as_str())?);
+    tested(&rt, &heap, file.as_str(), count.as_str(), seed.as_str())
+}
+
+/// Makes the rows, the replay and the lists, and prints what came.
+// The body borrows what it uses: one that may drop it at each exit takes minutes to prove.
+fn tested(
+    rt: &HostRuntime,
+    heap: Heap<'_>,
+    file: &str,
+    count: &str,
+    seed: &str,
+) -> Result<(), Miss> {
+    run_rows(rt, heap, file)?;
+    replay(rt, heap)?;
+    let seed = u64::from(number(seed)?);
     let mut came = Came::default();
-    for index in 0..number(count.as_str())? {
+    make_lists(rt, heap, number(count)?, seed, &mut came)?;
+    make_refused(rt, heap, seed, &mut came)?;
+    print_counts(rt, came)
+}
+
+/// Makes the turns that are the rows of a file, and prints the report.
+fn run_rows(rt: &HostRuntime, heap: Heap<'_>, file: &str) -> Result<(), Miss> {
+    let text = fs::read_to_string(rt, file)?;
+    let report = report_of(rt.alloc(), heap, text.as_str())?;
+    rt.print(report.as_str())?;
+    Ok(())
+}
+
+/// Returns the report of the rows of a text.
+fn report_of(alloc: Global, heap: Heap<'_>, text: &str) -> Result<String, Miss> {
+    let file = RowFile::read(alloc, text)?;
+    file.run(alloc, heap, &mut Rows::new(heap))
+}
+
+/// Makes this many lists, some with a request refused.
+fn make_lists<R: Print + AllocGlobal>(
+    rt: &R,
+    heap: Heap<'_>,
+    count: u32,
+    seed: u64,
+    came: &mut Came,
+) -> Result<(), Miss> {
+    for index in 0..count {
         let number = seed.saturating_add(u64::from(index));
         let mut numbers = Numbers::of(!number);
         let refused = match numbers.below(4) {
             0 => u64::from(numbers.below(200)).saturating_add(1),
             _ => 0,
         };
-        made(&rt, &heap, number, refused, &mut came)?;
+        made(rt, heap, number, refused, came)?;
     }
+    Ok(())
+}
+
+/// Makes the first lists with each of their requests refused in turn.
+fn make_refused<R: Print + AllocGlobal>(
+    rt: &R,
+    heap: Heap<'_>,
+    seed: u64,
+    came: &mut Came,
+) -> Result<(), Miss> {
     for number in seed..seed.saturating_add(LISTS) {
         for refused in 1..MOST {
-            made(&rt, &heap, number, refused, &mut came)?;
+            made(rt, heap, number, refused, came)?;
             if heap.is_waiting() {
                 break;
             }
         }
     }
+    Ok(())
+}
+
+/// Prints how often each came.
+fn print_counts<R: Print>(rt: &R, came: Came) -> Result<(), Miss> {
     let Came {
         turns,
         refused,
@@ -83,8 +135,26 @@ fn replay<R: Print + AllocGlobal>(rt: &R, heap: Heap<'_>) -> Result<(), Miss> {
         Turn::Close { key: 1 },
         Turn::Count,
     ];
-    for answer in &hub_replay(heap, &settings(heap)?, RULE, LIMIT, &turns)? {
-        println!(rt; "{}", text_of(rt.alloc(), answer)?)?;
+    let answers = replayed(heap, &settings(heap)?, &turns)?;
+    print_answers(rt, &answers)
+}
+
+/// Makes these turns on a new hub.
+fn replayed<A: Allocator + Copy>(
+    alloc: A,
+    config: &Config<A>,
+    turns: &[Turn<'_>],
+) -> Result<Vec<TurnAnswer<A>, A>, AllocError> {
+    hub_replay(alloc, config, RULE, LIMIT, turns)
+}
+
+fn print_answers<R: Print + AllocGlobal>(
+    rt: &R,
+    answers: &[TurnAnswer<Heap<'_>>],
+) -> Result<(), Miss> {
+    for answer in answers {
+        let text = text_of(rt.alloc(), answer)?;
+        println!(rt; "{text}")?;
     }
     Ok(())
 }

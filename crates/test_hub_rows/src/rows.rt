@@ -3,8 +3,8 @@
 //! `open`, `hear KEY HEX`, `hand KEY ROOM`, `heartbeat KEY`, `finish KEY`, `close KEY`, `remove KEY`, `held` and `count` are turns of a
 //! hub of three connections at most. Shown is what was recorded of the last one.
 
-use amqp_endpoint::Config;
-use amqp_hub::{Hub, Turn, TurnAnswer};
+use amqp_endpoint::{Config, End};
+use amqp_hub::{Hub, HubFault, Turn, TurnAnswer};
 use amqp_perform::Outcome;
 use amqp_serve::Rule;
 use std::alloc::Global;
@@ -111,21 +111,36 @@ impl Subject for Rows<'_> {
 
 /// An answer as it stands in a row.
 pub fn text_of(alloc: Global, answer: &TurnAnswer<Heap<'_>>) -> Result<String, Miss> {
-    Ok(match answer {
-        TurnAnswer::Opened(key) => format!(in alloc; "Ok({key})")?,
-        TurnAnswer::Heard { stepped, .. } => format!(in alloc; "Ok({})", stepped.used)?,
-        TurnAnswer::Handed(bytes) => {
-            let bytes = hex_of(alloc, bytes)?;
-            format!(in alloc; "Ok({bytes})")?
-        }
-        TurnAnswer::Beat(frame) => {
-            let frame = hex_of(alloc, frame)?;
-            format!(in alloc; "Ok({frame})")?
-        }
-        TurnAnswer::Ended(end) => format!(in alloc; "Ok({end:?})")?,
-        TurnAnswer::Closed | TurnAnswer::Removed => String::from_str(alloc, "Ok(())")?,
-        TurnAnswer::Holds(held) => format!(in alloc; "{held}")?,
-        TurnAnswer::Counts(count) => format!(in alloc; "{count}")?,
-        TurnAnswer::Refused(fault) => format!(in alloc; "Err({fault:?})")?,
-    })
+    match answer {
+        TurnAnswer::Opened(key) => number_text(alloc, *key),
+        TurnAnswer::Heard { stepped, .. } => number_text(alloc, stepped.used),
+        TurnAnswer::Handed(bytes) => bytes_text(alloc, bytes),
+        TurnAnswer::Beat(frame) => bytes_text(alloc, frame),
+        TurnAnswer::Ended(end) => end_text(alloc, *end),
+        TurnAnswer::Closed | TurnAnswer::Removed => Ok(String::from_str(alloc, "Ok(())")?),
+        TurnAnswer::Holds(held) => count_text(alloc, *held),
+        TurnAnswer::Counts(count) => count_text(alloc, *count as u64),
+        TurnAnswer::Refused(fault) => fault_text(alloc, *fault),
+    }
+}
+
+fn number_text(alloc: Global, number: usize) -> Result<String, Miss> {
+    Ok(format!(in alloc; "Ok({number})")?)
+}
+
+fn bytes_text(alloc: Global, bytes: &[u8]) -> Result<String, Miss> {
+    let bytes = hex_of(alloc, bytes)?;
+    Ok(format!(in alloc; "Ok({bytes})")?)
+}
+
+fn end_text(alloc: Global, end: End) -> Result<String, Miss> {
+    Ok(format!(in alloc; "Ok({end:?})")?)
+}
+
+fn count_text(alloc: Global, count: u64) -> Result<String, Miss> {
+    Ok(format!(in alloc; "{count}")?)
+}
+
+fn fault_text(alloc: Global, fault: HubFault) -> Result<String, Miss> {
+    Ok(format!(in alloc; "Err({fault:?})")?)
 }

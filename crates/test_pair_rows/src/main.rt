@@ -60,9 +60,20 @@ fn made<R: Print + AllocGlobal>(
     came: &mut Came,
 ) -> Result<Joined, Miss> {
     let joined = schedule.joined(rt.alloc())?;
-    if let Some(difference) = difference(rt.alloc(), schedule, &joined, came)? {
+    compare(rt, schedule, &joined, came)?;
+    Ok(joined)
+}
+
+/// Prints where the naive model differs from the pair, if it does.
+fn compare<R: Print + AllocGlobal>(
+    rt: &R,
+    schedule: &Schedule<'_>,
+    joined: &Joined,
+    came: &mut Came,
+) -> Result<(), Miss> {
+    if let Some(difference) = difference(rt.alloc(), schedule, joined, came)? {
         println!(rt; "{schedule}\n{difference}")?;
         return Err(Miss::Unread("the pair and its naive model differ"));
     }
-    Ok(joined)
+    Ok(())
 }

@@ -55,21 +55,43 @@ pub fn difference(
     came: &mut Came,
 ) -> Result<Option<String>, Miss> {
     let mut naive = Naive::new(alloc, schedule.settings)?;
+    difference_from(alloc, schedule, joined, &mut naive, came)
+}
+
+/// Makes the turns by this naive model, which is new, and returns where it differs from the pair.
+// The body borrows what it uses: one that may drop it at each exit takes minutes to prove.
+fn difference_from<'a>(
+    alloc: Global,
+    schedule: &Schedule<'a>,
+    joined: &Joined,
+    naive: &mut Naive<'a>,
+    came: &mut Came,
+) -> Result<Option<String>, Miss> {
     if joined.answers.len() != schedule.turns.len() {
         return Ok(Some(String::from_str(alloc, "not one answer a turn")?));
     }
     for (turn, found) in schedule.turns.iter().zip(joined.answers.iter()) {
         let wanted = naive.make(*turn)?;
         if !is_same(*found, wanted) {
-            let (number, place) = (came.schedules, came.turns_of_schedule);
-            return Ok(Some(format!(in alloc;
-                "schedule {number}, turn {place}, each from 0 on: {found:?} for {wanted:?}"
-            )?));
+            return Ok(Some(answers_differ(alloc, came, *found, wanted)?));
         }
         came.turn(wanted, naive.has_no_place());
     }
-    came.schedule(&naive);
-    taken_differ(alloc, joined, &naive)
+    came.schedule(naive);
+    taken_differ(alloc, joined, naive)
+}
+
+/// Returns which turn got another answer than that of the naive model.
+fn answers_differ(
+    alloc: Global,
+    came: &Came,
+    found: TurnAnswer,
+    wanted: TurnAnswer,
+) -> Result<String, Miss> {
+    let (number, place) = (came.schedules, came.turns_of_schedule);
+    Ok(format!(in alloc;
+        "schedule {number}, turn {place}, each from 0 on: {found:?} for {wanted:?}"
+    )?)
 }
 
 /// Returns where another message was taken than that of the naive model.

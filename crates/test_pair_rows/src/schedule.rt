@@ -25,6 +25,19 @@ pub struct Settings {
     pub max_message: u32,
 }
 
+impl Settings {
+    /// Sets what a word names, and returns whether it names a setting.
+    fn set(&mut self, kind: &str, n: u32) -> bool {
+        match kind {
+            "frame" => self.max_frame = n,
+            "allowed" => self.allowed = n,
+            "longest" => self.max_message = n,
+            _ => return false,
+        }
+        true
+    }
+}
+
 /// Turns, and what the endpoint is set up with.
 #[derive(Drop)]
 pub struct Schedule<'a> {
@@ -60,17 +73,26 @@ impl<'a> Schedule<'a> {
     fn word(&mut self, bytes: &'a [u8], word: &str) -> Result<(), Miss> {
         let (kind, n) = cut(word, ':')?;
         let n = number(n)?;
-        match kind {
-            "frame" => self.settings.max_frame = n,
-            "allowed" => self.settings.allowed = n,
-            "longest" => self.settings.max_message = n,
-            "o" => {
-                let message = self.message(bytes, n);
-                self.turns
-                    .push(Turn::Offer(message.ok_or("too long a message")?))?;
-            }
-            _ => self.turns.push(turn_of(kind, n)?)?,
+        if self.settings.set(kind, n) {
+            return Ok(());
         }
+        let turn = self.turn(bytes, kind, n)?;
+        self.push(turn)
+    }
+
+    /// Returns the turn that a word gives.
+    fn turn(&self, bytes: &'a [u8], kind: &str, n: u32) -> Result<Turn<'a>, Miss> {
+        if kind != "o" {
+            return turn_of(kind, n);
+        }
+        match self.message(bytes, n) {
+            Some(message) => Ok(Turn::Offer(message)),
+            None => Err(Miss::Unread("too long a message")),
+        }
+    }
+
+    fn push(&mut self, turn: Turn<'a>) -> Result<(), Miss> {
+        self.turns.push(turn)?;
         Ok(())
     }
 
@@ -138,18 +160,24 @@ impl<'a> Display for Schedule<'a> {
             "{window} frame:{max_frame} allowed:{allowed} longest:{max_message}"
         )?;
         for turn in self.turns.iter() {
-            match *turn {
-                Turn::Offer(message) => write!(f, " o:{}", message.len())?,
-                Turn::ToEndpoint(n) => write!(f, " e:{n}")?,
-                Turn::ToSender(n) => write!(f, " s:{n}")?,
-                Turn::Grant(n) => write!(f, " g:{n}")?,
-                Turn::Widen(n) => write!(f, " w:{n}")?,
-                Turn::Drain => f.write_str(" d:0")?,
-                Turn::Take => f.write_str(" t:0")?,
-                Turn::Settle { id, outcome } => write!(f, " {}:{id}", letter_of(outcome))?,
-            }
+            let (letter, n) = word_of(*turn);
+            write!(f, " {letter}:{n}")?;
         }
         Ok(())
+    }
+}
+
+/// Returns the letter and the number of a turn's word.
+fn word_of(turn: Turn<'_>) -> (char, u64) {
+    match turn {
+        Turn::Offer(message) => ('o', message.len() as u64),
+        Turn::ToEndpoint(n) => ('e', n as u64),
+        Turn::ToSender(n) => ('s', n as u64),
+        Turn::Grant(n) => ('g', u64::from(n)),
+        Turn::Widen(n) => ('w', u64::from(n)),
+        Turn::Drain => ('d', 0),
+        Turn::Take => ('t', 0),
+        Turn::Settle { id, outcome } => (letter_of(outcome), u64::from(id)),
     }
 }
 

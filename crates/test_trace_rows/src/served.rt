@@ -2,15 +2,15 @@
 
 use crate::peer::{Desk, Ear, Manner, Nowhere, Paper, Peer, Scene};
 use crate::words::bytes_of;
-use amqp_endpoint::{Config, Endpoint};
-use amqp_frame::Device;
+use amqp_endpoint::{Config, End, Endpoint};
+use amqp_frame::{AtHand, Device, HoldsBack};
 use amqp_perform::Outcome;
-use amqp_serve::{Policy, serve_watched};
+use amqp_serve::{Policy, ServeFault, Watch, serve_watched};
 use amqp_trace::{Trace, TracedReader, TracedWriter};
 use std::alloc::Global;
 use std::cell::{Cell, RefCell};
 use std::fmt::Write;
-use std::io::{BufReader, BufWriter};
+use std::io::{self, BufReader, BufWriter};
 use test_row_files::Miss;
 
 /// What is requested.
@@ -81,27 +81,29 @@ fn play(alloc: Global, window: u32, kind: Kind, scene: &Scene) -> Result<(), Mis
         _ => (Some(&scene.paper), None),
     };
     let trace = Trace::new(alloc, &scene.desk, frames, events, Outcome::Accepted)?;
+    let mut endpoint = endpoint_of(alloc, window)?;
     let peer = Peer {
         scene,
         pieces: &scene.pieces,
         sent: 0,
         trace: &trace,
     };
-    serve(alloc, window, peer)
+    serve(alloc, &mut endpoint, peer)
+}
+
+/// Returns a new endpoint with this window.
+fn endpoint_of(alloc: Global, window: u32) -> Result<Endpoint, Miss> {
+    let name = String::from_str(alloc, "r")?;
+    let config = Config::checked(name, 65536, 1, 1, 2, 10, window).ok_or("no settings")?;
+    Ok(Endpoint::new(alloc, config)?)
 }
 
 /// Serves the peer, whose number is 1.
-fn serve(alloc: Global, window: u32, peer: Peer<'_, '_>) -> Result<(), Miss> {
+// The body borrows what it uses: one that may drop it at each exit takes minutes to prove.
+fn serve(alloc: Global, endpoint: &mut Endpoint, peer: Peer<'_, '_>) -> Result<(), Miss> {
     let trace = peer.trace;
     let ear = Ear {
         manner: peer.scene.manner,
-    };
-    let name = String::from_str(alloc, "r")?;
-    let config = Config::checked(name, 65536, 1, 1, 2, 10, window).ok_or("no settings")?;
-    let mut endpoint = Endpoint::new(alloc, config)?;
-    let policy = Policy {
-        credit: 2,
-        outcome: Outcome::Accepted,
     };
     let Ok(input) = BufReader::with_capacity(alloc, 65536, peer) else {
         return Err(Miss::NoMemory);
@@ -111,17 +113,32 @@ fn serve(alloc: Global, window: u32, peer: Peer<'_, '_>) -> Result<(), Miss> {
     };
     trace.begin(1);
     trace.met("nearby");
-    let mut watch = trace;
-    let served = serve_watched(
-        &mut endpoint,
-        &mut Device::new(TracedReader::new(input, Some(trace))),
-        &mut Device::new(TracedWriter::new(output, Some(trace))),
+    let reader = TracedReader::new(input, Some(trace));
+    let writer = TracedWriter::new(output, Some(trace));
+    trace.end(served_between(endpoint, reader, writer, trace));
+    Ok(())
+}
+
+/// Serves a peer between a reader and a writer, and reports to a watch. The records go nowhere.
+fn served_between<R: AtHand + Drop, W: io::Write + HoldsBack + Drop, T: Watch + Drop>(
+    endpoint: &mut Endpoint,
+    reader: R,
+    writer: W,
+    watch: T,
+) -> Result<End, ServeFault> {
+    let mut watch = watch;
+    let policy = Policy {
+        credit: 2,
+        outcome: Outcome::Accepted,
+    };
+    serve_watched(
+        endpoint,
+        &mut Device::new(reader),
+        &mut Device::new(writer),
         &mut Device::new(Nowhere),
         policy,
         &mut watch,
-    );
-    trace.end(served);
-    Ok(())
+    )
 }
 
 /// Returns the lines after the mark, parted by ` / `.
@@ -129,15 +146,25 @@ fn lines_of(alloc: Global, paper: &Paper, mark: usize, is_brief: bool) -> Result
     let Ok(lines) = paper.lines.try_borrow() else {
         return Err(Miss::Unread("the lines are lent"));
     };
-    let text = str::from_utf8(&lines).ok().ok_or("no text")?;
+    parted_lines(alloc, &lines, mark, is_brief)
+}
+
+fn parted_lines(alloc: Global, lines: &[u8], mark: usize, is_brief: bool) -> Result<String, Miss> {
+    let text = str::from_utf8(lines).ok().ok_or("no text")?;
     let mut parted = String::new(alloc);
-    for line in text.get(mark..).unwrap_or("").lines() {
+    put_lines(&mut parted, text.get(mark..).unwrap_or(""), is_brief)?;
+    Ok(parted)
+}
+
+/// Puts lines, parted by ` / `.
+fn put_lines(parted: &mut String, text: &str, is_brief: bool) -> Result<(), Miss> {
+    for line in text.lines() {
         if !parted.is_empty() {
             parted.push_str(" / ")?;
         }
-        put_line(&mut parted, line, is_brief)?;
+        put_line(parted, line, is_brief)?;
     }
-    Ok(parted)
+    Ok(())
 }
 
 /// Puts a line, or its parts.

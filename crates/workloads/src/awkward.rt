@@ -158,20 +158,26 @@ fn given_up(desk: &mut Desk) -> Result<(), Failure> {
 fn hear(desk: &mut Desk) -> Result<(), Failure> {
     let mut endpoint = new_endpoint(desk.alloc, 1024)?;
     let mut room = Vec::from_elem(desk.alloc, 0, 8192)?;
+    hear_by(&mut endpoint, &mut room, desk)
+}
+
+/// Feeds it to this endpoint, and moves out what answers it by this room.
+// The body borrows what it uses: one that may drop it at each exit takes minutes to prove.
+fn hear_by(endpoint: &mut Endpoint, room: &mut [u8], desk: &mut Desk) -> Result<(), Failure> {
     let mut rest = desk.peer.bytes.as_slice();
     for number in 0..desk.peer.bytes.len() {
         let fed = endpoint.feed(rest);
         rest = rest.get(fed.used..).unwrap_or(&[]);
-        hear_of(&mut endpoint, fed.outcome, &mut desk.records)?;
+        hear_of(endpoint, fed.outcome, &mut desk.records)?;
         if number % 16 == 15 {
-            empty(&mut endpoint, &mut room, &mut desk.answers)?;
+            empty(endpoint, room, &mut desk.answers)?;
         }
         if rest.is_empty() {
             break;
         }
     }
-    empty(&mut endpoint, &mut room, &mut desk.answers)?;
-    is_closed(&mut endpoint)
+    empty(endpoint, room, &mut desk.answers)?;
+    is_closed(endpoint)
 }
 
 fn hear_of(endpoint: &mut Endpoint, outcome: Outcome, records: &mut Digest) -> Result<(), Failure> {

@@ -8,6 +8,7 @@ use amqp_perform::{
     write_frame,
 };
 use amqp_send::{SendConfig, Sender};
+use std::alloc::{AllocError, Global};
 
 /// How many bytes are moved out of the sender at once.
 const PIECE: usize = 4096;
@@ -56,19 +57,21 @@ impl Sending {
             sender: Sender::new(alloc, config)?,
             piece: Vec::from_elem(alloc, 0, PIECE)?,
         };
-        let mut opening = Vec::from_slice(alloc, &amqp_frame::HEADER)?;
-        let mut room = [0; 512];
-        for performative in [open(), begin(), attach(), flow()] {
-            let count = write_frame(0, &performative, &[], &mut room).unwrap_or(0);
-            opening.extend_from_slice(room.get(..count).unwrap_or(&[]))?;
-        }
-        let mut rest = opening.as_slice();
-        for _ in 0..opening.len() {
-            let (used, _) = sending.sender.feed(rest);
-            rest = rest.get(used..).unwrap_or(&[]);
-            sending.move_out(&mut desk.peer.bytes)?;
-        }
+        let opening = opening(alloc)?;
+        sending.hear(&opening, &mut desk.peer.bytes)?;
         Ok(sending)
+    }
+
+    /// Hears what the receiver sends, and moves out what answers it.
+    // The body borrows what it uses: one that may drop it at each exit takes minutes to prove.
+    fn hear(&mut self, opening: &[u8], sent: &mut Vec<u8>) -> Result<(), Failure> {
+        let mut rest = opening;
+        for _ in 0..opening.len() {
+            let (used, _) = self.sender.feed(rest);
+            rest = rest.get(used..).unwrap_or(&[]);
+            self.move_out(sent)?;
+        }
+        Ok(())
     }
 
     /// Moves out what is to be sent.
@@ -96,6 +99,17 @@ impl Sending {
         let _ = self.sender.close();
         self.move_out(&mut desk.peer.bytes)
     }
+}
+
+/// Returns what the receiver sends first.
+fn opening(alloc: Global) -> Result<Vec<u8>, AllocError> {
+    let mut opening = Vec::from_slice(alloc, &amqp_frame::HEADER)?;
+    let mut room = [0; 512];
+    for performative in [open(), begin(), attach(), flow()] {
+        let count = write_frame(0, &performative, &[], &mut room).unwrap_or(0);
+        opening.extend_from_slice(room.get(..count).unwrap_or(&[]))?;
+    }
+    Ok(opening)
 }
 
 fn open() -> Performative<'static> {

@@ -98,38 +98,48 @@ impl Job {
         let mut desk = Desk::new(alloc, seed, size)?;
         for _ in 0..rounds {
             desk.peer.bytes.clear();
-            match self {
-                Job::Telemetry => telemetry::run(&mut desk)?,
-                Job::Documents => documents::run(&mut desk)?,
-                Job::Gateway => gateway::run(&mut desk)?,
-                Job::Dump => dumped::run(&mut desk)?,
-                Job::Replay => replayed::run(&mut desk)?,
-                Job::Awkward => awkward::run(&mut desk)?,
-                Job::Texts => texts::run(&mut desk)?,
-                Job::Large => large::run(&mut desk)?,
-                Job::OneAtATime1 => one_at_a_time::run(&mut desk, 1)?,
-                Job::OneAtATime16 => one_at_a_time::run(&mut desk, 16)?,
-            }
+            self.run_once(&mut desk)?;
         }
         Ok(desk)
+    }
+
+    // The body borrows what it uses: one that may drop it at each exit takes minutes to prove.
+    fn run_once(self, desk: &mut Desk) -> Result<(), Failure> {
+        match self {
+            Job::Telemetry => telemetry::run(desk),
+            Job::Documents => documents::run(desk),
+            Job::Gateway => gateway::run(desk),
+            Job::Dump => dumped::run(desk),
+            Job::Replay => replayed::run(desk),
+            Job::Awkward => awkward::run(desk),
+            Job::Texts => texts::run(desk),
+            Job::Large => large::run(desk),
+            Job::OneAtATime1 => one_at_a_time::run(desk, 1),
+            Job::OneAtATime16 => one_at_a_time::run(desk, 16),
+        }
     }
 }
 
 fn main(rt: HostRuntime) -> Result<(), Failure> {
     let words: Vec<String> = env::args(&rt)?.skip(1).collect(rt.alloc())?;
-    match words.as_slice() {
-        [] => run_all(&rt, rt.alloc()),
+    follow(&rt, rt.alloc(), &words)
+}
+
+/// Does what the words after the program's name ask for.
+fn follow(rt: &impl Print, alloc: Global, words: &[String]) -> Result<(), Failure> {
+    match words {
+        [] => run_all(rt, alloc),
         [name, seed, rounds] => {
             let job = job_of(name.as_str()).ok_or(Failure::NoSuchJob)?;
             let (seed, rounds) = numbers_of(seed, rounds)?;
-            show(&rt, job, job.run(rt.alloc(), seed, rounds, Size::Full)?)
+            show(rt, job, job.run(alloc, seed, rounds, Size::Full)?)
         }
         [name, seed, rounds, part] if name.as_str() == "texts" => {
-            show_part(&rt, rt.alloc(), numbers_of(seed, rounds)?, part, 0)
+            show_part(rt, alloc, numbers_of(seed, rounds)?, part, 0)
         }
         [name, seed, rounds, part, length] if name.as_str() == "texts" => {
             let length = length.parse::<u32>().ok().ok_or(Failure::NoSuchJob)?;
-            show_part(&rt, rt.alloc(), numbers_of(seed, rounds)?, part, length)
+            show_part(rt, alloc, numbers_of(seed, rounds)?, part, length)
         }
         _ => Err(Failure::NoSuchJob),
     }

@@ -1,12 +1,15 @@
 //! A connection that is served over bytes in memory, as a receiver over a socket serves it.
 
+ghost use Rattle.std.specs.Prelude.{IsTrue};
+ghost use Rattle.amqp_frame.specs.Devices.{has_failed};
+
 use crate::desk::Desk;
 use crate::failure::Failure;
 use amqp_endpoint::{Config, End, Endpoint};
-use amqp_frame::{Device, HEADER};
+use amqp_frame::{AtHand, Device, HEADER, HoldsBack};
 use amqp_perform::Outcome;
 use amqp_serve::{Policy, serve};
-use std::io::{self, BufReader, BufWriter, Read};
+use std::io::{self, BufReader, BufWriter, Read, Write};
 
 /// How many bytes of answers and of records are written at once.
 const BUFFER: usize = 65536;
@@ -67,6 +70,13 @@ impl Receiver {
         let name = String::from_str(alloc, "recv")?;
         let checked = Config::checked(name, 65536, 7, 7, self.credit, 1 << 20, 2048);
         let mut endpoint = Endpoint::new(alloc, checked.ok_or(Failure::Settings)?)?;
+        self.serve_by(&mut endpoint, desk)
+    }
+
+    /// Serves it by this endpoint.
+    // The body borrows what it uses: one that may drop it at each exit takes minutes to prove.
+    fn serve_by(&self, endpoint: &mut Endpoint, desk: &mut Desk) -> Result<(), Failure> {
+        let alloc = desk.alloc;
         let policy = Policy {
             credit: self.credit,
             outcome: Outcome::Accepted,
@@ -79,11 +89,26 @@ impl Receiver {
         let mut reader = Device::new(input);
         let mut writer = Device::new(BufWriter::with_capacity(alloc, BUFFER, &mut desk.answers)?);
         let mut sink = Device::new(BufWriter::with_capacity(alloc, BUFFER, &mut desk.records)?);
-        match serve(&mut endpoint, &mut reader, &mut writer, &mut sink, policy) {
-            Ok(End::Closed) => Ok(()),
-            Ok(end) => Err(Failure::Ended(end)),
-            Err(fault) => Err(Failure::Serve(fault)),
-        }
+        serve_over(endpoint, &mut reader, &mut writer, &mut sink, policy)
+    }
+}
+
+/// Serves it over these devices to its end.
+fn serve_over<R: AtHand + Drop, W: Write + HoldsBack + Drop, S: Write + Drop>(
+    endpoint: &mut Endpoint,
+    reader: &mut Device<R>,
+    writer: &mut Device<W>,
+    sink: &mut Device<S>,
+    policy: Policy,
+) -> Result<(), Failure>
+    requires reader { ¬ (IsTrue (has_failed reader.old)) }
+    requires writer { ¬ (IsTrue (has_failed writer.old)) }
+    requires sink { ¬ (IsTrue (has_failed sink.old)) }
+{
+    match serve(endpoint, reader, writer, sink, policy) {
+        Ok(End::Closed) => Ok(()),
+        Ok(end) => Err(Failure::Ended(end)),
+        Err(fault) => Err(Failure::Serve(fault)),
     }
 }
 

@@ -289,76 +289,95 @@ fn put_values(
     values: Values,
 ) -> Result<(), Failure> {
     match values {
-        Values::Outcomes => {
-            let mut fields = Vec::from_slice(alloc, b"\xa1\x04link\x43\x42\x50\x02\x50\x00")?;
-            // The source: seven fields that say nothing, a distribution mode among them, the default outcome, the outcomes.
-            let mut source = Vec::from_slice(
-                alloc,
-                b"\xa1\x05queue\x43\x40\x43\x42\x40\x40\x40\x00\x53\x26\x45",
-            )?;
-            source.extend_from_slice(&symbols(
-                alloc,
-                &[
-                    "amqp:accepted:list",
-                    "amqp:rejected:list",
-                    "amqp:released:list",
-                    "amqp:modified:list",
-                ],
-            )?)?;
-            fields.extend_from_slice(&[0, 0x53, 0x28])?;
-            fields.extend_from_slice(&sized(alloc, 0xd0, 10, &source)?)?;
-            peer.list(0, ATTACH, 6, &fields)
-        }
-        Values::Capabilities => {
-            let mut fields = Vec::from_slice(alloc, OPEN_FRONT)?;
-            fields.extend_from_slice(&symbols(
-                alloc,
-                &[
-                    "ANONYMOUS-RELAY",
-                    "DELAYED_DELIVERY",
-                    "SHARED-SUBS",
-                    "sole-connection",
-                ],
-            )?)?;
-            peer.list(0, OPEN, 8, &fields)
-        }
-        Values::BinaryKeys => {
-            let mut items = Vec::new(alloc);
-            for number in 0..KEYS {
-                items.extend_from_slice(&[0xa0, 4, b'k', b'e', b'y', number, 0x55, 7])?;
-            }
-            peer.open_frame(&map_of(alloc, KEYS as u32, &items)?)
-        }
-        Values::MixedKeys | Values::EqualKeys => {
-            let mut items = Vec::new(alloc);
-            for number in 0..KEYS {
-                put_key(&mut items, number)?;
-                items.extend_from_slice(&[0x55, 7])?;
-            }
-            let mut keys = KEYS as u32;
-            if let Values::EqualKeys = values {
-                put_key(&mut items, 0)?;
-                items.extend_from_slice(&[0x55, 7])?;
-                keys = keys.wrapping_add(1);
-            }
-            peer.open_frame(&map_of(alloc, keys, &items)?)
-        }
-        Values::Lists => {
-            let mut items = Vec::from_slice(alloc, &[0xc0])?;
-            for number in 0..KEYS {
-                items.extend_from_slice(&[7, 3, 0x52, number, 0x41, 0xa1, 1, b'x'])?;
-            }
-            let lists = sized(alloc, 0xf0, KEYS as u32, &items)?;
-            peer.open_frame(&property(alloc, &lists)?)
-        }
-        Values::Deep => {
-            let mut value = Vec::from_slice(alloc, &[0x52, (numbers.below(200) & 0xff) as u8])?;
-            for _ in 0..LEVELS {
-                value = sized(alloc, 0xd0, 1, &value)?;
-            }
-            peer.open_frame(&property(alloc, &value)?)
-        }
+        Values::Outcomes => peer.list(0, ATTACH, 6, &outcomes(alloc)?),
+        Values::Capabilities => peer.list(0, OPEN, 8, &capabilities(alloc)?),
+        Values::BinaryKeys => peer.open_frame(&binary_keys(alloc)?),
+        Values::MixedKeys => peer.open_frame(&mixed_keys(alloc, false)?),
+        Values::EqualKeys => peer.open_frame(&mixed_keys(alloc, true)?),
+        Values::Lists => peer.open_frame(&lists(alloc)?),
+        Values::Deep => peer.open_frame(&deep(alloc, numbers)?),
     }
+}
+
+/// Returns the fields of an attach with the outcomes of its source.
+fn outcomes(alloc: Global) -> Result<Vec<u8>, AllocError> {
+    let mut fields = Vec::from_slice(alloc, b"\xa1\x04link\x43\x42\x50\x02\x50\x00")?;
+    // The source: seven fields that say nothing, a distribution mode among them, the default outcome, the outcomes.
+    let mut source = Vec::from_slice(
+        alloc,
+        b"\xa1\x05queue\x43\x40\x43\x42\x40\x40\x40\x00\x53\x26\x45",
+    )?;
+    source.extend_from_slice(&symbols(
+        alloc,
+        &[
+            "amqp:accepted:list",
+            "amqp:rejected:list",
+            "amqp:released:list",
+            "amqp:modified:list",
+        ],
+    )?)?;
+    fields.extend_from_slice(&[0, 0x53, 0x28])?;
+    fields.extend_from_slice(&sized(alloc, 0xd0, 10, &source)?)?;
+    Ok(fields)
+}
+
+/// Returns the fields of an open with capabilities.
+fn capabilities(alloc: Global) -> Result<Vec<u8>, AllocError> {
+    let mut fields = Vec::from_slice(alloc, OPEN_FRONT)?;
+    fields.extend_from_slice(&symbols(
+        alloc,
+        &[
+            "ANONYMOUS-RELAY",
+            "DELAYED_DELIVERY",
+            "SHARED-SUBS",
+            "sole-connection",
+        ],
+    )?)?;
+    Ok(fields)
+}
+
+/// Returns a map with binary keys.
+fn binary_keys(alloc: Global) -> Result<Vec<u8>, AllocError> {
+    let mut items = Vec::new(alloc);
+    for number in 0..KEYS {
+        items.extend_from_slice(&[0xa0, 4, b'k', b'e', b'y', number, 0x55, 7])?;
+    }
+    map_of(alloc, KEYS as u32, &items)
+}
+
+/// Returns a map with keys of several kinds, the first of them again at its end if so asked.
+fn mixed_keys(alloc: Global, again: bool) -> Result<Vec<u8>, AllocError> {
+    let mut items = Vec::new(alloc);
+    for number in 0..KEYS {
+        put_key(&mut items, number)?;
+        items.extend_from_slice(&[0x55, 7])?;
+    }
+    let mut keys = KEYS as u32;
+    if again {
+        put_key(&mut items, 0)?;
+        items.extend_from_slice(&[0x55, 7])?;
+        keys = keys.wrapping_add(1);
+    }
+    map_of(alloc, keys, &items)
+}
+
+/// Returns a map of one key to an array of lists.
+fn lists(alloc: Global) -> Result<Vec<u8>, AllocError> {
+    let mut items = Vec::from_slice(alloc, &[0xc0])?;
+    for number in 0..KEYS {
+        items.extend_from_slice(&[7, 3, 0x52, number, 0x41, 0xa1, 1, b'x'])?;
+    }
+    let lists = sized(alloc, 0xf0, KEYS as u32, &items)?;
+    property(alloc, &lists)
+}
+
+/// Returns a map of one key to lists in lists.
+fn deep(alloc: Global, numbers: &mut Numbers) -> Result<Vec<u8>, AllocError> {
+    let mut value = Vec::from_slice(alloc, &[0x52, (numbers.below(200) & 0xff) as u8])?;
+    for _ in 0..LEVELS {
+        value = sized(alloc, 0xd0, 1, &value)?;
+    }
+    property(alloc, &value)
 }
 
 /// Returns an array of symbols.

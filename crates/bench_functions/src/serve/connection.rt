@@ -1,11 +1,12 @@
 //! A connection over bytes in memory, as a receiver over a socket serves it.
-ghost use Rattle.std.specs.Prelude.{◌≡◌, [], IfOk};
+ghost use Rattle.std.specs.Prelude.{◌≡◌, [], IfOk, IsTrue};
+ghost use Rattle.amqp_frame.specs.Devices.{has_failed};
 
 use crate::measure::Failure;
 use crate::serve::{Case, MESSAGE};
 use crate::stream::{Block, MAX_FRAME, Shape, opening};
 use amqp_endpoint::{Config, End, Endpoint};
-use amqp_frame::Device;
+use amqp_frame::{AtHand, Device, HoldsBack};
 use amqp_perform::Outcome;
 use amqp_serve::{Policy, Rule, ServeFault, Server, serve};
 use std::alloc::{AllocError, Global};
@@ -103,14 +104,42 @@ fn connect(
     records: &mut Tally,
 ) -> Result<End, Stopped> {
     let mut endpoint = new_endpoint(alloc, credit)?;
+    connect_to(alloc, &mut endpoint, credit, sender, answers, records)
+}
+
+/// Serves what a sender sends by this endpoint.
+// The body borrows what it uses: one that may drop it at each exit takes minutes to prove.
+fn connect_to(
+    alloc: Global,
+    endpoint: &mut Endpoint,
+    credit: u32,
+    sender: &mut Sender,
+    answers: &mut Tally,
+    records: &mut Tally,
+) -> Result<End, Stopped> {
     let mut reader = Device::new(BufReader::with_capacity(alloc, BUFFER, sender)?);
     let mut writer = Device::new(BufWriter::with_capacity(alloc, BUFFER, answers)?);
     let mut sink = Device::new(BufWriter::with_capacity(alloc, BUFFER, records)?);
+    serve_over(endpoint, credit, &mut reader, &mut writer, &mut sink)
+}
+
+/// Serves it over these devices.
+fn serve_over<R: AtHand + Drop, W: Write + HoldsBack + Drop, S: Write + Drop>(
+    endpoint: &mut Endpoint,
+    credit: u32,
+    reader: &mut Device<R>,
+    writer: &mut Device<W>,
+    sink: &mut Device<S>,
+) -> Result<End, Stopped>
+    requires reader { ¬ (IsTrue (has_failed reader.old)) }
+    requires writer { ¬ (IsTrue (has_failed writer.old)) }
+    requires sink { ¬ (IsTrue (has_failed sink.old)) }
+{
     let policy = Policy {
         credit,
         outcome: Outcome::Accepted,
     };
-    Ok(serve(&mut endpoint, &mut reader, &mut writer, &mut sink, policy)?)
+    Ok(serve(endpoint, reader, writer, sink, policy)?)
 }
 
 /// Returns an endpoint whose links are allowed this much credit.
@@ -131,11 +160,34 @@ fn step_through(
     records: &mut Tally,
 ) -> Result<End, Stopped> {
     let mut server = Server::new(new_endpoint(alloc, rule.credit)?, rule);
+    step_to(alloc, &mut server, sender, answers, records)?;
+    Ok(server.finish())
+}
+
+/// Steps this server through what a sender sends.
+fn step_to(
+    alloc: Global,
+    server: &mut Server,
+    sender: &mut Sender,
+    answers: &mut Tally,
+    records: &mut Tally,
+) -> Result<(), Stopped> {
     let mut writer = Device::new(BufWriter::with_capacity(alloc, BUFFER, answers)?);
     let mut sink = Device::new(BufWriter::with_capacity(alloc, BUFFER, records)?);
     let mut buffer = Vec::from_elem(alloc, 0, BUFFER)?;
+    step_over(server, sender, &mut buffer, &mut writer, &mut sink)
+}
+
+/// Steps it over these devices.
+fn step_over<W: Write + HoldsBack + Drop, S: Write + Drop>(
+    server: &mut Server,
+    sender: &mut Sender,
+    buffer: &mut [u8],
+    writer: &mut Device<W>,
+    sink: &mut Device<S>,
+) -> Result<(), Stopped> {
     for _ in 0..u64::MAX {
-        let count = sender.read(buffer.as_mut_slice())?;
+        let count = sender.read(buffer)?;
         if count == 0 {
             break;
         }
@@ -144,14 +196,14 @@ fn step_through(
             if rest.is_empty() || writer.failed() || sink.failed() {
                 break;
             }
-            let stepped = server.step(rest, &mut writer, &mut sink);
+            let stepped = server.step(rest, writer, sink);
             stepped.done?;
             rest = rest.get(stepped.used..).unwrap_or(&[]);
         }
     }
     sink.flush()?;
     writer.flush()?;
-    Ok(server.finish())
+    Ok(())
 }
 
 /// What a peer sends: its opening, and a block of messages again and again, each time with the next ids.
