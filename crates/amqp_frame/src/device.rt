@@ -199,13 +199,27 @@ impl<T> Device<T> {
         Ok(())
     }
 
+    /// Marks it.
+    fn mark(&mut self)
+        ensures { self.new ≡ record self.old { failed = true } }
+    {
+        self.failed = true;
+    }
+
     /// Marks it and returns the error.
     fn fail<X>(&mut self, error: io::Error) -> io::Result<X>
         ensures err { result ≡ Err error }
         ensures marked { self.new ≡ record self.old { failed = true } }
     {
-        self.failed = true;
+        self.mark();
         Err(error)
+    }
+
+    /// Notes that its writer took bytes.
+    fn wrote(&mut self)
+        ensures { self.new ≡ record self.old { flushed = false } }
+    {
+        self.flushed = false;
     }
 
     /// Notes what its reader returned: an error marks it, and 0 ends it.
@@ -363,7 +377,7 @@ impl<W: Write> Device<W> {
         match self.inner.write(buf) {
             Ok(0) => self.fail(io::Error::from(ErrorKind::WriteZero)),
             Ok(count) => {
-                self.flushed = false;
+                self.wrote();
                 Ok(count)
             }
             Err(error) => self.fail(error),
@@ -392,6 +406,62 @@ impl<W: Write> Device<W> {
             at += self.write(&buf[at..])?;
         }
         Ok(())
+    }
+
+    /// Writes bytes from the front of `buf` as [`Device::write`] does, and returns how many, or `None` if that
+    /// returns an error.
+    // The caller and the callee clear a result that may hold an error.
+    pub fn put(&mut self, buf: &[u8]) -> Option<usize>
+        ensures bound { IfSome result (λ n. n ≤ length buf.now) }
+        ensures marked { (result ≡ None) ↔ IsTrue (has_failed self.new) }
+        ensures some { 0 < length buf.now → IfSome result (λ n. 0 < n) }
+        ensures taken { IfSome result (λ n. Appends (W.contents (device_inner self.old)) (W.contents (device_inner self.new)) (take n buf.now)) }
+        ensures none { result ≡ None → Keeps (W.contents (device_inner self.old)) (W.contents (device_inner self.new)) }
+        ensures unflushed { 0 < length buf.now → IfSome result (λ _. is_flushed self.new ≡ false) }
+        ensures ended { has_ended self.new ≡ has_ended self.old }
+        ensures reads { reads_left self.new ≡ reads_left self.old }
+
+        // If the writer is not asked, nothing changes.
+        ensures still { IsTrue (has_failed self.old) → self.new ≡ self.old }
+        ensures empty { length buf.now ≡ 0 → self.new ≡ self.old }
+    {
+        if self.failed {
+            return None;
+        }
+        if buf.is_empty() {
+            return Some(0);
+        }
+        match self.inner.write(buf) {
+            Ok(count) if count > 0 => {
+                self.wrote();
+                Some(count)
+            }
+            _ => {
+                self.mark();
+                None
+            }
+        }
+    }
+
+    /// Writes all of `buf` as [`Device::write_all`] does, and returns whether it could.
+    #[inline(always)]
+    pub fn put_all(&mut self, buf: &[u8]) -> bool
+        ensures marked { (result ≡ false) ↔ IsTrue (has_failed self.new) }
+        ensures written { result ≡ true → Appends (W.contents (device_inner self.old)) (W.contents (device_inner self.new)) buf.now }
+        ensures begun { result ≡ false → AppendsFront (W.contents (device_inner self.old)) (W.contents (device_inner self.new)) buf.now }
+        ensures unflushed { 0 < length buf.now → result ≡ true → is_flushed self.new ≡ false }
+        ensures ended { has_ended self.new ≡ has_ended self.old }
+        ensures reads { reads_left self.new ≡ reads_left self.old }
+
+        // If the writer is not asked, nothing changes.
+        ensures still { IsTrue (has_failed self.old) → self.new ≡ self.old }
+        ensures empty { length buf.now ≡ 0 → self.new ≡ self.old }
+    {
+        match self.put(buf) {
+            Some(count) if count == buf.len() => true,
+            Some(count) => self.write_all(&buf[count..]).is_ok(),
+            None => false,
+        }
     }
 
     /// Flushes the writer.

@@ -11,7 +11,7 @@ use Rattle.amqp_serve.specs.declared.rules.Rule.{Rule}
 use Rattle.amqp_serve.specs.declared.serving.ServeFault.{ServeFault}
 use Rattle.amqp_serve.specs.declared.serving.ServeFault.TheVariants as fault
 use Rattle.amqp_serve.specs.declared.steps.Done.{Done}
-use Rattle.amqp_serve.specs.Deeds.{no_deeds, Ends, AreOpen, IsOfEnds, WentOff, HasStepped, HasStopped, IsStepped, IsLost, HasGone, Goes}
+use Rattle.amqp_serve.specs.Deeds.{no_deeds, Ends, AreOpen, IsOfEnds, WentOff, HasStepped, HasStopped, filled, IsStepped, IsLost, HasGone, Goes}
 use Rattle.amqp_serve.specs.Serving.{Stand, Step, reading, moved, IsLeft, Over, Serves, Rests, Finishes, finish_of, Served, HasRead, HasBroken, Works, IsServed, IsIdle}
 use Rattle.amqp_serve.proofs.Deeds.{went_none, went_stopped, marked_neither}
 use Rattle.amqp_serve.proofs.ServingFeeds.{waits_before}
@@ -182,14 +182,18 @@ kept_first r r1 r2 bytes kept read = Consumes-trans r r1 r2 [] bytes (Consumes-k
 -- A step of a run over a reader. ----------------------------------------------------------------------------------------------
 
 -- with a piece
-pub goes_by_step : (p : Rule) (told : Outcome) (q : Result Done ServeFault) (s t : EndpointState) (bytes : List ℕ) (r r1 : Option (List ℕ)) (reader_failed : Bool) (x y : Ends) → ¬ (IsTrue reader_failed) → is_dead s.connection.phase ≡ false
-    → Consumes r r1 bytes → IsStepped p bytes told q s t x y → Goes p q s t r r1 reader_failed x y
-goes_by_step p told (Ok d) s t bytes r r1 reader_failed x y fine alive read on =
+pub gone_by_step : (p : Rule) (told : Outcome) (d : Done) (s t : EndpointState) (bytes : List ℕ) (r r1 : Option (List ℕ)) (reader_failed : Bool) (x y : Ends) → ¬ (IsTrue reader_failed) → is_dead s.connection.phase ≡ false
+    → Consumes r r1 bytes → HasStepped p told d bytes s t x y → HasGone p s t r r1 reader_failed x y
+gone_by_step p told d s t bytes r r1 reader_failed x y fine alive read on =
     record { read = record { bytes = bytes; read = read; served = on.served }; idle = on.idle alive; sent = on.sent; still = on.still; reader = fine }
-goes_by_step p told (Err lost) s t bytes r r1 reader_failed x y fine alive read off = lost_in_step p lost s t bytes r r1 reader_failed x y fine read off
+
+pub goes_by_step : (p : Rule) (told : Outcome) (q : Result (Unit {0}) ServeFault) (d : Done) (s t : EndpointState) (bytes : List ℕ) (r r1 : Option (List ℕ)) (reader_failed : Bool) (x y : Ends) → ¬ (IsTrue reader_failed)
+    → is_dead s.connection.phase ≡ false → Consumes r r1 bytes → IsStepped p bytes told (filled q d) s t x y → Goes p q s t r r1 reader_failed x y
+goes_by_step p told (Ok v) d s t bytes r r1 reader_failed x y fine alive read on = gone_by_step p told d s t bytes r r1 reader_failed x y fine alive read on
+goes_by_step p told (Err lost) d s t bytes r r1 reader_failed x y fine alive read off = lost_in_step p lost s t bytes r r1 reader_failed x y fine read off
 
 -- behind a flush, and what a reader kept
-pub goes_behind : (p : Rule) (q : Result Done ServeFault) (s t u : EndpointState) (r r1 r2 : Option (List ℕ)) (reader_failed : Bool) (x y z : Ends) → Works p reading reading s t x.writer y.writer x.sink y.sink → Keeps r r1
+pub goes_behind : (p : Rule) (q : Result (Unit {0}) ServeFault) (s t u : EndpointState) (r r1 r2 : Option (List ℕ)) (reader_failed : Bool) (x y z : Ends) → Works p reading reading s t x.writer y.writer x.sink y.sink → Keeps r r1
     → Goes p q t u r1 r2 reader_failed y z → Goes p q s u r r2 reader_failed x z
 goes_behind p (Ok d) s t u r r1 r2 reader_failed x y z on kept w =
     record { read = record { bytes = w.read.bytes; read = kept_first r r1 r2 w.read.bytes kept w.read.read; served = served_on on.served w.read.served }; idle = w.idle; sent = w.sent; still = w.still; reader = w.reader }
@@ -208,10 +212,10 @@ goes_ended p s r r1 reader_failed x y on kept fine sent idle fit =
     record { read = record { bytes = []; read = Consumes-kept r r r1 [] (Consumes-nil r) kept; served = on.served }; idle = idle; sent = sent; still = fit; reader = fine }
 
 -- an exit by a fault
-pub goes_lost : (q : Result Done ServeFault) (p : Rule) (lost fault : ServeFault) (s t : EndpointState) (r r1 : Option (List ℕ)) (reader_failed : Bool) (x y : Ends) → q ≡ Err lost → lost ≡ fault
+pub goes_lost : (q : Result (Unit {0}) ServeFault) (p : Rule) (lost fault : ServeFault) (s t : EndpointState) (r r1 : Option (List ℕ)) (reader_failed : Bool) (x y : Ends) → q ≡ Err lost → lost ≡ fault
     → IsLost p fault s t r r1 reader_failed x y → Goes p q s t r r1 reader_failed x y
 goes_lost q p lost fault s t r r1 reader_failed x y is same off =
-    subst (λ (v : Result Done ServeFault). Goes p v s t r r1 reader_failed x y) (sym is) (subst (λ (e : ServeFault). IsLost p e s t r r1 reader_failed x y) (sym same) off)
+    subst (λ (v : Result (Unit {0}) ServeFault). Goes p v s t r r1 reader_failed x y) (sym is) (subst (λ (e : ServeFault). IsLost p e s t r r1 reader_failed x y) (sym same) off)
 
 -- Both are flushed where memory was refused. ----------------------------------------------------------------------------------
 

@@ -237,6 +237,6 @@ pub record HasGone (p : Rule) (old new : EndpointState) (input left : Option (Li
   pub still : AreOpen f
   pub reader : ¬ (IsTrue reader_failed)
 
-abbrev pub Goes : Rule → Result Done ServeFault → EndpointState → EndpointState → Option (List ℕ) → Option (List ℕ) → Bool → Ends → Ends → Type 0
-Goes p (Ok d) old new input left reader_failed e f = HasGone p old new input left reader_failed e f
+abbrev pub Goes : Rule → Result (Unit {0}) ServeFault → EndpointState → EndpointState → Option (List ℕ) → Option (List ℕ) → Bool → Ends → Ends → Type 0
+Goes p (Ok x) old new input left reader_failed e f = HasGone p old new input left reader_failed e f
 Goes p (Err x) old new input left reader_failed e f = IsLost p x old new input left reader_failed e f

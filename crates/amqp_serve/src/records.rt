@@ -50,6 +50,7 @@ fn in_one_piece<A: Allocator + Copy>(message: &Message<A>) -> Option<&[u8]>
 
 /// Writes all of the bytes to the sink. If the sink fails it returns `Sink`, and the sink has a
 /// beginning of them.
+#[inline(always)]
 fn put_out<S: Write + Drop>(sink: &mut Device<S>, bytes: &[u8]) -> Result<(), ServeFault>
     requires { ¬ (IsTrue (has_failed sink.old)) }
     ensures fault { OnErr result (result ≡ Err ServeFault.Sink) }
@@ -57,9 +58,10 @@ fn put_out<S: Write + Drop>(sink: &mut Device<S>, bytes: &[u8]) -> Result<(), Se
     ensures written { OnOk result (Appends (S.contents (device_inner sink.old)) (S.contents (device_inner sink.new)) bytes.now) }
     ensures begun { OnErr result (AppendsFront (S.contents (device_inner sink.old)) (S.contents (device_inner sink.new)) bytes.now) }
 {
-    match sink.write_all(bytes) {
-        Ok(()) => Ok(()),
-        Err(_) => Err(ServeFault::Sink),
+    if sink.put_all(bytes) {
+        Ok(())
+    } else {
+        Err(ServeFault::Sink)
     }
 }
 

@@ -1,5 +1,5 @@
 //! Writing to the peer, the flushes before it, and the one read.
-ghost use Rattle.std.specs.Prelude.{◌≡◌, ◌≢◌, ◌↔◌, ◌≤◌, ◌⊎◌, ◌<◌, [], length, take, true, false, Err, Ok, IsErr, IsTrue, IfOk, OnErr, OnOk, IfErr};
+ghost use Rattle.std.specs.Prelude.{◌≡◌, ◌≢◌, ◌↔◌, ◌≤◌, ◌⊎◌, ◌<◌, [], length, take, true, false, Err, Ok, IsErr, IsTrue, IfOk, IfSome, None, OnErr, OnOk, IfErr};
 ghost use Rattle.std.specs.Io.KnownBytes.{Appends, Consumes, Keeps};
 ghost use Rattle.amqp_frame.specs.Devices.{device_inner, has_failed, device_hand, has_ended, is_flushed, reads_ahead};
 ghost use Rattle.amqp_frame.specs.Splits.{TakesNothing};
@@ -132,8 +132,10 @@ pub fn write_out<A: Allocator + Copy, W: Write + HoldsBack + Drop, S: Write + Dr
     'pieces: while !endpoint.is_all_sent() {
         let piece = endpoint.unsent_front();
         record_first(piece.len(), writer, sink)?;
-        let count = hand_over(piece, writer, sink)?;
-        endpoint.sent(count);
+        match hand_over(piece, writer, sink) {
+            Some(count) => endpoint.sent(count),
+            None => return Err(ServeFault::Write),
+        }
     }
     Ok(())
 }
@@ -159,24 +161,20 @@ fn record_first<W: Write + HoldsBack + Drop, S: Write + Drop>(
     }
 }
 
-/// Passes bytes to the writer, and returns how many it took. Either the writer has room to hold them back, or the
-/// records must be flushed.
+/// Passes bytes to the writer, and returns how many it took, or `None` if it failed. Either the writer has room to
+/// hold them back, or the records must be flushed.
 fn hand_over<W: Write + HoldsBack + Drop, S: Write + Drop>(
     piece: &[u8],
     writer: &mut Device<W>,
     sink: &Device<S>,
-) -> Result<usize, ServeFault>
+) -> Option<usize>
     requires writer { ¬ (IsTrue (has_failed writer.old)) }
     requires recorded { (length piece.now ≤ W.room (device_inner writer.old)) ⊎ (is_flushed sink.now ≡ true) }
-    ensures fault { OnErr result (result ≡ Err ServeFault.Write) }
-    ensures failed { IsErr result ↔ IsTrue (has_failed writer.new) }
-    ensures bound { IfOk result (λ n. n ≤ length piece.now) }
-    ensures some { 0 < length piece.now → IfOk result (λ n. 0 < n) }
-    ensures taken { IfOk result (λ n. Appends (W.contents (device_inner writer.old)) (W.contents (device_inner writer.new)) (take n piece.now)) }
-    ensures none { OnErr result (Keeps (W.contents (device_inner writer.old)) (W.contents (device_inner writer.new))) }
+    ensures failed { (result ≡ None) ↔ IsTrue (has_failed writer.new) }
+    ensures bound { IfSome result (λ n. n ≤ length piece.now) }
+    ensures some { 0 < length piece.now → IfSome result (λ n. 0 < n) }
+    ensures taken { IfSome result (λ n. Appends (W.contents (device_inner writer.old)) (W.contents (device_inner writer.new)) (take n piece.now)) }
+    ensures none { result ≡ None → Keeps (W.contents (device_inner writer.old)) (W.contents (device_inner writer.new)) }
 {
-    match writer.write(piece) {
-        Ok(count) => Ok(count),
-        Err(_) => Err(ServeFault::Write),
-    }
+    writer.put(piece)
 }

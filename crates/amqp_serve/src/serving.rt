@@ -11,9 +11,9 @@ ghost use Rattle.amqp_serve.specs.Serving.{reading, IsIdle, IsStarved, HasAllTak
 ghost use Rattle.amqp_serve.specs.Supplied.{IsRight};
 
 use crate::sending::{fill_hand, flush_both, read_in, write_out};
-use crate::steps::{Course, Done, serve_piece, serve_read};
+use crate::steps::{Course, Done, serve_piece_into, serve_read, stepped_of};
 use crate::{Rule, Unwatched, Watch};
-use amqp_endpoint::{End, Endpoint};
+use amqp_endpoint::{End, Endpoint, Fed};
 use amqp_frame::{AtHand, Device, HoldsBack};
 use amqp_perform::Outcome as Settlement;
 use std::alloc::Allocator;
@@ -244,7 +244,7 @@ fn go_on<
     writer: &mut Device<W>,
     sink: &mut Device<S>,
     watch: &mut T,
-) -> Result<Done, ServeFault>
+) -> Result<(), ServeFault>
     requires reader { ¬ (IsTrue (has_failed reader.old)) }
     requires ends { AreOpen (ends W.contents S.contents writer.old sink.old) }
     requires alive { is_dead endpoint.old.connection.phase ≡ false }
@@ -267,7 +267,7 @@ fn go_on<
         return read_on(endpoint, reader, course, writer, sink, watch);
     }
     if reader.ended() {
-        return Ok(Done::NOTHING);
+        return Ok(());
     }
     hand_on(endpoint, reader, course, writer, sink, watch)
 }
@@ -288,7 +288,7 @@ fn hand_on<
     writer: &mut Device<W>,
     sink: &mut Device<S>,
     watch: &mut T,
-) -> Result<Done, ServeFault>
+) -> Result<(), ServeFault>
     requires some { 0 < length (device_hand R.hand reader.old) }
     requires ends { AreOpen (ends W.contents S.contents writer.old sink.old) }
     requires alive { is_dead endpoint.old.connection.phase ≡ false }
@@ -300,10 +300,19 @@ fn hand_on<
     ensures goes { Goes course.old.rule result endpoint.old endpoint.new (R.remaining (device_inner reader.old)) (R.remaining (device_inner reader.new)) (has_failed reader.new)
         (ends W.contents S.contents writer.old sink.old) (ends W.contents S.contents writer.new sink.new) }
 {
-    let stepped = serve_piece(endpoint, course, reader.at_hand(), writer, sink);
-    reader.took(stepped.used);
-    watch.did(&stepped);
-    stepped.done
+    let mut done = Done::NOTHING;
+    let (fed, end) = serve_piece_into(endpoint, course, reader.at_hand(), &mut done, writer, sink);
+    reader.took(fed.used);
+    report(watch, fed, end, &done);
+    end
+}
+
+/// Reports a step to a watch that listens.
+#[inline(always)]
+fn report<T: Watch>(watch: &mut T, fed: Fed, end: Result<(), ServeFault>, done: &Done) {
+    if watch.listens() {
+        watch.did(&stepped_of(fed, end, done));
+    }
 }
 
 /// Reads, and makes a step with what came.
@@ -320,7 +329,7 @@ fn read_on<
     writer: &mut Device<W>,
     sink: &mut Device<S>,
     watch: &mut T,
-) -> Result<Done, ServeFault>
+) -> Result<(), ServeFault>
     requires reader { ¬ (IsTrue (has_failed reader.old)) }
     requires ends { AreOpen (ends W.contents S.contents writer.old sink.old) }
     requires flushed { is_flushed writer.old ≡ true }
@@ -340,5 +349,8 @@ fn read_on<
     let count = read_in(endpoint, reader, writer, sink)?;
     let stepped = serve_read(endpoint, course, count, writer, sink);
     watch.did(&stepped);
-    stepped.done
+    match stepped.done {
+        Ok(_) => Ok(()),
+        Err(fault) => Err(fault),
+    }
 }

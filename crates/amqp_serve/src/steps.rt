@@ -14,7 +14,7 @@ use crate::sending::write_out;
 use crate::supplies::{Look, Topped, top_up};
 use crate::{Rule, ServeFault};
 use amqp_endpoint::laws::{are_bytes, fills_are_feeds, is_id};
-use amqp_endpoint::{CallFault, Endpoint, Event, Outcome};
+use amqp_endpoint::{CallFault, Endpoint, Event, Fed, Outcome};
 use amqp_frame::{Device, HoldsBack};
 use amqp_link::Taken;
 use amqp_perform::Outcome as Settlement;
@@ -89,8 +89,6 @@ pub struct Stepped {
 /// `Write` and `Sink` if that device has failed. An answer may then be missing, and the endpoint is not to be
 /// served on. `NoMemory` if memory for the unit is refused. The unit waits in the endpoint, and nothing else has
 /// changed. The next step, also one of no bytes, tries it again. `Read` never comes.
-// For the same reason as `hand_on`.
-#[inline(always)]
 pub fn serve_piece<A: Allocator + Copy, W: Write + HoldsBack + Drop, S: Write + Drop>(
     endpoint: &mut Endpoint<A>,
     course: &mut Course,
@@ -107,16 +105,54 @@ pub fn serve_piece<A: Allocator + Copy, W: Write + HoldsBack + Drop, S: Write + 
     ensures stepped { IsStepped course.old.rule (take result.used piece.now) result.told result.done endpoint.old endpoint.new (ends W.contents S.contents writer.old sink.old)
         (ends W.contents S.contents writer.new sink.new) }
 {
+    let mut done = Done::NOTHING;
+    let (fed, end) = serve_piece_into(endpoint, course, piece, &mut done, writer, sink);
+    stepped_of(fed, end, &done)
+}
+
+/// Serves a piece as [`serve_piece`] does, and stores in `done` what was done. Returns what the feed came to, and how
+/// the step ended.
+// For the same reason as `hand_on`.
+#[inline(always)]
+pub fn serve_piece_into<A: Allocator + Copy, W: Write + HoldsBack + Drop, S: Write + Drop>(
+    endpoint: &mut Endpoint<A>,
+    course: &mut Course,
+    piece: &[u8],
+    done: &mut Done,
+    writer: &mut Device<W>,
+    sink: &mut Device<S>,
+) -> (Fed, Result<(), ServeFault>)
+    requires ends { AreOpen (ends W.contents S.contents writer.old sink.old) }
+    requires sent { endpoint.old.unsent ≡ [] }
+    requires course { IsRight course.old endpoint.old.connection }
+    ensures bound { result.0.used ≤ length piece.now }
+    ensures rule { course.new.rule ≡ course.old.rule }
+    ensures course { IsRight course.new endpoint.new.connection }
+    ensures stepped { IsStepped course.old.rule (take result.0.used piece.now) result.0.outcome (filled result.1 done.new) endpoint.old endpoint.new (ends W.contents S.contents writer.old sink.old)
+        (ends W.contents S.contents writer.new sink.new) }
+{
     endpoint.holds_a_header(); // three laws, for the proof
     are_bytes(piece);
     fills_are_feeds();
     let fed = endpoint.feed(piece);
-    let told = fed.outcome;
-    let done = follow(endpoint, course, &told, writer, sink);
+    let end = follow_into(endpoint, course, &fed.outcome, done, writer, sink);
+    (fed, end)
+}
+
+/// Returns the result of a step, by what the feed came to and how the step ended.
+#[inline(always)]
+pub fn stepped_of(fed: Fed, end: Result<(), ServeFault>, done: &Done) -> Stepped
+    ensures used { result.used ≡ fed.used }
+    ensures told { result.told ≡ fed.outcome }
+    ensures done { result.done ≡ filled end done.now }
+{
     Stepped {
         used: fed.used,
-        told,
-        done,
+        told: fed.outcome,
+        done: match end {
+            Ok(()) => Ok(*done),
+            Err(fault) => Err(fault),
+        },
     }
 }
 
@@ -145,40 +181,13 @@ pub fn serve_read<A: Allocator + Copy, W: Write + HoldsBack + Drop, S: Write + D
     endpoint.spare_is_bytes();
     fills_are_feeds();
     let fed = endpoint.filled(n);
-    let outcome = fed.outcome;
-    let done = follow(endpoint, course, &outcome, writer, sink);
-    Stepped {
-        used: n,
-        told: outcome,
-        done,
-    }
-}
-
-/// Does what follows from a feed that reported `told`. If nothing lacked anything before the feed, `told` names
-/// what may lack something now.
-#[inline(always)]
-fn follow<A: Allocator + Copy, W: Write + HoldsBack + Drop, S: Write + Drop>(
-    endpoint: &mut Endpoint<A>,
-    course: &mut Course,
-    told: &Outcome,
-    writer: &mut Device<W>,
-    sink: &mut Device<S>,
-) -> Result<Done, ServeFault>
-    requires ends { AreOpen (ends W.contents S.contents writer.old sink.old) }
-    requires supplied { course.old.supplied ≡ true → IsSuppliedBut (told_look told.now (is_nil endpoint.old.input.filled)) course.old.rule endpoint.old.connection }
-    ensures rule { course.new.rule ≡ course.old.rule }
-    ensures course { IsRight course.new endpoint.new.connection }
-    ensures follows { Follows course.old.rule told.now result endpoint.old endpoint.new (ends W.contents S.contents writer.old sink.old)
-        (ends W.contents S.contents writer.new sink.new) }
-{
     let mut done = Done::NOTHING;
-    match follow_into(endpoint, course, told, &mut done, writer, sink) {
-        Ok(()) => Ok(done),
-        Err(fault) => Err(fault),
-    }
+    let end = follow_into(endpoint, course, &fed.outcome, &mut done, writer, sink);
+    stepped_of(fed, end, &done)
 }
 
-/// Does what follows from a feed that reported `told`, and stores in `done` what was done.
+/// Does what follows from a feed that reported `told`, and stores in `done` what was done. If nothing lacked anything
+/// before the feed, `told` names what may lack something now.
 // Stored, since a large answer is copied with its gaps: 67 instructions for each message.
 fn follow_into<A: Allocator + Copy, W: Write + HoldsBack + Drop, S: Write + Drop>(
     endpoint: &mut Endpoint<A>,

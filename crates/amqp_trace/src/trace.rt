@@ -214,11 +214,12 @@ impl<S: Write, W: Write + Drop, H: Host + Drop> Write for TracedWriter<'_, S, W,
 
     #[inline(always)]
     fn write(&mut self, buf: &[u8]) -> io::Result<usize> {
+        let Some(trace) = self.trace else {
+            return self.writer.write(buf);
+        };
         let answer = self.writer.write(buf);
-        if let Some(trace) = self.trace {
-            if let Ok(count) = &answer {
-                trace.went(&buf[..*count]);
-            }
+        if let Ok(count) = &answer {
+            trace.went(&buf[..*count]);
         }
         answer
     }

@@ -7,9 +7,10 @@ use Rattle.amqp_serve.proofs.serving.hand_on.Goals as goal
 
 pub returns-clause-goes : goal.returns-clause-goes
 returns-clause-goes g c =
-    let stepped = c.serve_piece-stepped.result in
+    let step = c.serve_piece_into-end in
+    let fed = step.result.0 in
     let r = g.R.Read.remaining (device_inner c.args.reader.now) in
     let r1 = g.R.Read.remaining (device_inner c.took.new.self) in
-    goes_by_step c.args.course.now.rule stepped.told stepped.done c.args.endpoint.now c.serve_piece-stepped.new.endpoint (take stepped.used c.at_hand.result.now) r r1 (has_failed c.took.new.self) _ _
+    goes_by_step c.args.course.now.rule fed.outcome step.result.1 step.new.done c.args.endpoint.now step.new.endpoint (take fed.used c.at_hand.result.now) r r1 (has_failed c.took.new.self) _ _
     (λ failed. false≢true (sym c.took.ensures.failed ∙ failed)) c.requires.alive
-    (subst (λ (l : List ℕ). Consumes r r1 (take stepped.used l)) (sym c.at_hand.ensures) c.took.ensures.bytes) c.serve_piece-stepped.ensures.stepped
+    (subst (λ (l : List ℕ). Consumes r r1 (take fed.used l)) (sym c.at_hand.ensures) c.took.ensures.bytes) step.ensures.stepped
