@@ -87,7 +87,7 @@ impl Marked {
         }
     }
 
-    /// Makes a new device, over `turns 3 1`, say; or reads into this many bytes, writes this many, or
+    /// Makes a new device, over `turns 3 1`, say; or reads into this many bytes, writes or puts this many, or
     /// flushes.
     pub fn call(&mut self, alloc: Global, words: &str) -> Result<String, Miss> {
         let (name, words) = name_of(words);
@@ -105,10 +105,15 @@ impl Marked {
                 let bytes = vec![in alloc; 0u8; parsed(words)?]?;
                 told(alloc, self.device.write(&bytes))
             }
-            "flush" => match self.device.flush() {
-                Ok(()) => Ok(String::from_str(alloc, "()")?),
-                Err(_) => Ok(String::from_str(alloc, "fails")?),
-            },
+            "put" => {
+                let bytes = vec![in alloc; 0u8; parsed(words)?]?;
+                told(alloc, self.device.put(&bytes).ok_or(failure()))
+            }
+            "put-all" => {
+                let bytes = vec![in alloc; 0u8; parsed(words)?]?;
+                told_done(alloc, self.device.put_all(&bytes))
+            }
+            "flush" => told_done(alloc, self.device.flush().is_ok()),
             _ => Err(Miss::Unread("no such call")),
         }
     }
@@ -145,4 +150,9 @@ fn told(alloc: Global, answer: io::Result<usize>) -> Result<String, Miss> {
         Ok(count) => Ok(format!(in alloc; "{count}")?),
         Err(_) => Ok(String::from_str(alloc, "fails")?),
     }
+}
+
+fn told_done(alloc: Global, is_done: bool) -> Result<String, Miss> {
+    let words = if is_done { "()" } else { "fails" };
+    Ok(String::from_str(alloc, words)?)
 }
