@@ -50,6 +50,7 @@ fn in_one_piece<A: Allocator + Copy>(message: &Message<A>) -> Option<&[u8]>
 
 /// Writes all of the bytes to the sink. If the sink fails it returns `Sink`, and the sink has a
 /// beginning of them.
+// For the same reason as `put_all`.
 #[inline(always)]
 fn put_out<S: Write + Drop>(sink: &mut Device<S>, bytes: &[u8]) -> Result<(), ServeFault>
     requires { ¬ (IsTrue (has_failed sink.old)) }

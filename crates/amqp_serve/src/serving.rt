@@ -308,6 +308,7 @@ fn hand_on<
 }
 
 /// Reports a step to a watch that listens.
+// Inlined, so that a step is copied only where a watch listens, not for the call.
 #[inline(always)]
 fn report<T: Watch>(watch: &mut T, fed: Fed, end: Result<(), ServeFault>, done: &Done) {
     if watch.listens() {

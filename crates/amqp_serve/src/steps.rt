@@ -140,6 +140,7 @@ pub fn serve_piece_into<A: Allocator + Copy, W: Write + HoldsBack + Drop, S: Wri
 }
 
 /// Returns the result of a step, by what the feed came to and how the step ended.
+// For the same reason as `report` in `serving.rt`.
 #[inline(always)]
 pub fn stepped_of(fed: Fed, end: Result<(), ServeFault>, done: &Done) -> Stepped
     ensures used { result.used ≡ fed.used }
