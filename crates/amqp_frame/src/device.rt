@@ -410,7 +410,7 @@ impl<W: Write> Device<W> {
 
     /// Writes bytes from the front of `buf` as [`Device::write`] does, and returns how many, or `None` if that
     /// returns an error.
-    // A result that may hold an error has 96 bytes, which caller and callee clear: 50 instructions for each write.
+    // A result that may hold an error has 96 bytes, which caller and callee clear: 50 instructions for each write of a record.
     pub fn put(&mut self, buf: &[u8]) -> Option<usize>
         ensures bound { IfSome result (λ n. n ≤ length buf.now) }
         ensures marked { (result ≡ None) ↔ IsTrue (has_failed self.new) }
