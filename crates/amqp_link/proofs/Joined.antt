@@ -4,15 +4,28 @@ use Rattle.std.specs.Prelude.{slice_get}
 use Rattle.std.specs.List.{AllWithin}
 use Rattle.std.specs.List.Sorted.{IsNonDecreasingBy}
 use Rattle.std.proofs.lemmas.Grind.{flat_map-append}
-use Rattle.std.proofs.lemmas.List.{length-append, drop-append-le, take-append-drop}
-use Rattle.std.proofs.Math.Seq.{drop-append-add, take-suc}
+use Rattle.std.proofs.lemmas.List.{length-append, length-drop, drop-append-le, take-append-drop}
+use Rattle.std.proofs.Math.Seq.{drop-append-add, take-add, take-append_seam}
 use Rattle.std.proofs.lemmas.Option.{same_Some, slice_get_read}
-use Rattle.amqp_link.specs.declared.message.Block.{Block}
+use Rattle.amqp_link.specs.declared.blocks.Block.{Block}
 use Rattle.amqp_link.specs.Pieces.{joined, AreWhole, AreBlocks}
 
 -- a front of what follows a place
 pub front_of : (all bytes rest : List ℕ) (at k : ℕ) → drop at all ≡ bytes ++ rest → (behind : List ℕ) × (drop at all ≡ take k bytes ++ behind)
 front_of all bytes rest at k is = (drop k bytes ++ rest, is ∙ ap (λ (l : List ℕ). l ++ rest) (sym (take-append-drop k bytes)) ∙ append_assoc (take k bytes) (drop k bytes) rest)
+
+-- one block more is a longer front
+pub next_front : (all block behind : List ℕ) (at : ℕ) → drop at all ≡ block ++ behind → take (at + length block) all ≡ take at all ++ block
+next_front all block behind at is =
+    take-add at (length block) all ∙ ap (λ (l : List ℕ). take at all ++ take (length block) l) is ∙ ap (λ (l : List ℕ). take at all ++ l) (take-append_seam block behind)
+
+-- which is within the whole
+pub front_within : (all block behind : List ℕ) (at : ℕ) → drop at all ≡ block ++ behind → at ≤ length all → at + length block ≤ length all
+front_within all block behind at is few = omega (arith, few, length-drop at all, ap length is, length-append block behind)
+
+-- the bytes before a block, its own, and those behind it
+pub around_block : (all block behind : List ℕ) (at : ℕ) → drop at all ≡ block ++ behind → all ≡ (take at all ++ block) ++ behind
+around_block all block behind at is = sym (take-append-drop at all) ∙ ap (λ (l : List ℕ). take at all ++ l) is ∙ sym (append_assoc (take at all) block behind)
 
 -- it has some bytes
 pub some_front : (k : ℕ) (bytes : List ℕ) → 0 < k → 0 < length bytes → 0 < length (take k bytes)
@@ -113,18 +126,3 @@ module _ {A : Type 0} where
   passed blocks searched looked at i same_searched same_looked are low all =
       let on = behind_blocks 0 blocks at i are (omega arith) (subst (λ (l : List (Block A)). AllWithin (λ (x : Block A). x.end ≤ at) l 0 i) same_searched low) (omega (arith, all, ap length same_looked)) in
       omega (arith, on)
-
-  -- the bytes of one block more
-  pub joined_next : (blocks : List (Block A)) (i : ℕ) (b : Block A) → i < length blocks → b ≡ get_or blocks i b → joined (take (i + 1) blocks) ≡ joined (take i blocks) ++ b.bytes.items
-  joined_next blocks i b within is =
-      ap (λ (n : ℕ). joined (take n blocks)) (add-one i)
-      ∙ ap (λ (l : List (Block A)). joined l) (take-suc blocks i b within)
-      ∙ joined_push (take i blocks) (get_or blocks i b)
-      ∙ ap (λ (x : Block A). joined (take i blocks) ++ x.bytes.items) (sym is)
-
-  -- the bytes before a block, its own, and those behind it
-  pub joined_around : (blocks : List (Block A)) (i : ℕ) (b : Block A) → i < length blocks → b ≡ get_or blocks i b → joined blocks ≡ (joined (take i blocks) ++ b.bytes.items) ++ joined (drop (i + 1) blocks)
-  joined_around blocks i b within is =
-      ap (λ (l : List (Block A)). joined l) (sym (take-append-drop (i + 1) blocks))
-      ∙ joined_on (take (i + 1) blocks) (drop (i + 1) blocks)
-      ∙ ap (λ (l : List ℕ). l ++ joined (drop (i + 1) blocks)) (joined_next blocks i b within is)

@@ -8,6 +8,7 @@
 //! that both agree. The tests are in `test_layer_rows`.
 #![tactic(auto)]
 
+mod blocks;
 pub mod laws;
 mod link;
 mod message;

@@ -1,52 +1,26 @@
 //! A message, while it comes and after it was handed up.
-ghost use Rattle.std.specs.Prelude.{◌≡◌, ◌<◌, ◌^◌, ◌++◌, ℕ, List, length, drop, IfOk, IsErr, IsOk, OnOk, OnErr, IsTrue, ◌↔◌, [], false, ◌≤◌, ◌+◌, ◌-◌, ◌%◌, take};
+ghost use Rattle.std.specs.Prelude.{◌≡◌, ◌<◌, ◌^◌, ◌++◌, ℕ, List, length, drop, IfOk, IsErr, IsOk, OnOk, OnErr, IsTrue, ◌↔◌, [], false, take};
 ghost use Rattle.std.specs.Io.KnownBytes.{Appends};
 ghost use Rattle.amqp_frame.specs.Devices.{device_inner, has_failed, has_ended, is_flushed, reads_left, AppendsFront};
-ghost use Rattle.std.specs.List.{AllWithin};
-ghost use Rattle.amqp_link.specs.Pieces.{joined, lacking_of, AreBlocks, ArePieces};
 
+use crate::blocks::{Blocks, PIECE};
 use amqp_frame::Device;
 use std::alloc::{AllocError, Allocator, Global};
 use std::io::{self, Write};
 use std::marker::Model;
-use std::mem;
-
-/// The most bytes that fit into memory.
-const MOST: usize = usize::MAX / 2;
-
-/// The size of a whole piece, in bytes.
-const PIECE: usize = 4096;
 
 /// The bytes of a message, joined from the payloads of its transfers [2.6.14].
-///
-/// They are stored in pieces of 4,096 bytes; only the last piece may be shorter. What a payload brings beyond
-/// the last piece is stored in one block, piece after piece, so that memory is requested once. A message no
-/// longer than a piece is stored in one block, with little spare room.
 #[derive(Drop)]
 pub struct Message<A: Allocator + Copy = Global> {
-    len: usize,
-    /// All blocks but the last one. Only the last one may end with a piece that isn't whole.
-    whole: Vec<Block<A>, A>,
-    last: Vec<u8, A>,
-}
-
-/// A block that another one follows: one or more whole pieces.
-#[derive(Drop)]
-struct Block<A: Allocator + Copy> {
-    /// How many bytes of the message lie before the end of this block, with its own.
-    end: usize,
-    bytes: Vec<u8, A>,
+    blocks: Blocks<A>,
 }
 
 impl<A: Allocator + Copy> Model for Message<A> {
-    ghost use Rattle.std.specs.Prelude.{ℕ, List, ◌≡◌, ◌<◌, ◌^◌, ◌++◌, length};
-    ghost use Rattle.amqp_link.specs.Pieces.{joined, ArePieces};
+    ghost use Rattle.std.specs.Prelude.{ℕ, List, ◌<◌, ◌^◌, length};
 
     ghost Value = { List ℕ };
 
-    ghost view = { λ a. joined a.whole.items ++ a.last.items };
-
-    ghost invariant = { λ a. (a.len ≡ length (joined a.whole.items ++ a.last.items)) × (a.len < 2 ^ 63) × ArePieces a.whole.items a.last.items };
+    ghost view = { λ a. a.blocks.bytes };
 }
 
 impl<A: Allocator + Copy> Message<A> {
@@ -55,9 +29,7 @@ impl<A: Allocator + Copy> Message<A> {
         ensures { result ≡ [] }
     {
         Message {
-            len: 0,
-            whole: Vec::new(alloc),
-            last: Vec::new(alloc),
+            blocks: Blocks::new(alloc),
         }
     }
 
@@ -65,24 +37,15 @@ impl<A: Allocator + Copy> Message<A> {
     pub(crate) fn of(alloc: A, bytes: &[u8]) -> Result<Self, AllocError>
         ensures { IfOk result (λ message. message ≡ bytes.now) }
     {
-        let len = bytes.len();
-        let last = if len <= PIECE {
-            Vec::from_slice(alloc, bytes)?
-        } else {
-            block_of(alloc, bytes)?
-        };
-        Ok(Message {
-            len,
-            whole: Vec::new(alloc),
-            last,
-        })
+        let blocks = Blocks::of(alloc, bytes)?;
+        Ok(Message { blocks })
     }
 
     /// Returns the length of the message, in bytes.
     pub fn len(&self) -> usize
         ensures { result ≡ length self.now }
     {
-        self.len
+        self.blocks.len()
     }
 
     /// Returns the length of the message, in bytes. It is below 2^63, so that a sum with others fits.
@@ -90,42 +53,23 @@ impl<A: Allocator + Copy> Message<A> {
         ensures value { result ≡ length self.now }
         ensures most { result < 2 ^ 63 }
     {
-        self.len as u64
+        self.blocks.len() as u64
     }
 
     /// Returns whether the message is empty.
     pub fn is_empty(&self) -> bool
         ensures { IsTrue result ↔ (self.now ≡ []) }
     {
-        self.len == 0
+        self.blocks.len() == 0
     }
 
-    /// Appends a payload. All memory is taken before anything changes: for a new block, the list of blocks, and
-    /// the last piece. If memory is refused, nothing has changed. An empty payload needs none.
+    /// Appends a payload. If memory is refused, nothing has changed. An empty payload needs none.
     pub(crate) fn extend(&mut self, payload: &[u8]) -> Result<(), AllocError>
         ensures ok { OnOk result (self.new ≡ self.old ++ payload.now) }
         ensures err { OnErr result (self.new ≡ self.old) }
         ensures empty { payload.now ≡ [] → IsOk result }
     {
-        if self.len == 0 && !payload.is_empty() {
-            *self = Message::of(*self.last.allocator(), payload)?;
-            return Ok(());
-        }
-        let len = self.len + payload.len();
-        if len > MOST {
-            return Err(AllocError);
-        }
-        let room = lacking(self.last.len());
-        if payload.len() <= room {
-            extend_last(&mut self.last, payload)?;
-        } else {
-            let (front, rest) = payload.split_at(room);
-            let new = block_of(*self.last.allocator(), rest)?;
-            let end = self.len + room;
-            add_block(&mut self.whole, &mut self.last, end, front, new)?;
-        }
-        self.len = len;
-        Ok(())
+        self.blocks.extend(payload)
     }
 
     /// Returns the message's bytes from `at` on, as many as lie in one piece. There is at least one if `at` is
@@ -134,21 +78,21 @@ impl<A: Allocator + Copy> Message<A> {
         ensures front { (behind : List ℕ) × (drop at self.now ≡ result.now ++ behind) }
         ensures some { at < length self.now → 0 < length result.now }
     {
-        match self.whole.get(block_at(&self.whole, at)) {
-            Some(block) => piece_at(&block.bytes, at - (block.end - block.bytes.len())),
-            None => piece_at(&self.last, at - (self.len - self.last.len())),
-        }
+        first(self.blocks.from(at), PIECE - at % PIECE)
     }
 
     /// Returns the message's bytes in a new vector. It is an error if memory is refused.
     pub fn to_vec<B: Allocator>(&self, alloc: B) -> Result<Vec<u8, B>, AllocError>
         ensures { IfOk result (λ v. v.items ≡ self.now) }
     {
-        let mut bytes = Vec::with_capacity(alloc, self.len)?;
-        for block in &self.whole {
-            bytes.extend_from_slice(&block.bytes)?;
+        let len = self.len();
+        let mut bytes = Vec::with_capacity(alloc, len)?;
+        let mut at = 0;
+        'blocks: while at < len {
+            let block = self.blocks.from(at);
+            bytes.extend_from_slice(block)?;
+            at += block.len();
         }
-        bytes.extend_from_slice(&self.last)?;
         Ok(bytes)
     }
 
@@ -166,93 +110,22 @@ impl<A: Allocator + Copy> Message<A> {
         ensures still { IsTrue (has_failed writer.old) → writer.new ≡ writer.old }
         ensures empty { length self.now ≡ 0 → writer.new ≡ writer.old }
     {
-        for block in &self.whole {
-            writer.write_all(block.bytes.as_slice())?;
+        let first = self.blocks.from(0);
+        writer.write_all(first)?;
+        let len = self.len();
+        let mut at = first.len();
+        'blocks: while at < len {
+            let block = self.blocks.from(at);
+            writer.write_all(block)?;
+            at += block.len();
         }
-        writer.write_all(self.last.as_slice())
+        Ok(())
     }
 }
 
-/// Returns these bytes in a new block with room to make its last piece whole. It is an error if memory is
-/// refused.
-fn block_of<A: Allocator + Copy>(alloc: A, bytes: &[u8]) -> Result<Vec<u8, A>, AllocError>
-    ensures { IfOk result (λ block. block.items ≡ bytes.now) }
+/// Returns the first `most` of these bytes, or all if they are fewer.
+fn first(bytes: &[u8], most: usize) -> &[u8]
+    ensures { result.now ≡ take most bytes.now }
 {
-    let mut block = Vec::with_capacity(alloc, bytes.len().div_ceil(PIECE) * PIECE)?;
-    block.extend_from_slice(bytes)?;
-    Ok(block)
-}
-
-/// Returns how many bytes the last piece of a block of `len` bytes lacks to be whole. An empty block has no
-/// piece, and lacks none.
-fn lacking(len: usize) -> usize
-    ensures value { result ≡ lacking_of len }
-    ensures whole { (len + result) % 4096 ≡ 0 }
-{
-    (PIECE - len % PIECE) % PIECE
-}
-
-/// Returns the index of the first block that ends after `at`, or the number of blocks if none does. A message
-/// may have very many.
-fn block_at<A: Allocator + Copy>(blocks: &[Block<A>], at: usize) -> usize
-    requires { AreBlocks 0 blocks.now }
-    ensures bound { result ≤ length blocks.now }
-    ensures before { AllWithin (λ block. block.end ≤ at) blocks.now 0 result }
-    ensures behind { AllWithin (λ block. at < block.end) blocks.now result (length blocks.now) }
-{
-    blocks.partition_point(|block| block.end <= at)
-}
-
-/// Returns the bytes of a block from `at` on, as many as lie in one piece.
-fn piece_at(block: &[u8], at: usize) -> &[u8]
-    ensures { result.now ≡ take (4096 - at % 4096) (drop at block.now) }
-{
-    let behind = block.get(at..).unwrap_or(&[]);
-    behind.get(..PIECE - at % PIECE).unwrap_or(behind)
-}
-
-/// Appends to the last piece at most what it lacks. A block that was not made by [`block_of`] grows by
-/// doubling, and takes the room of a whole piece once it is past half of one.
-fn extend_last<A: Allocator + Copy>(last: &mut Vec<u8, A>, payload: &[u8]) -> Result<(), AllocError>
-    requires { length payload.now ≤ lacking_of (length last.old.items) }
-    ensures ok { OnOk result (last.new.items ≡ last.old.items ++ payload.now) }
-    ensures err { OnErr result (last.new.items ≡ last.old.items) }
-    ensures empty { payload.now ≡ [] → IsOk result }
-{
-    let wanted = last.len() + payload.len();
-    if wanted > last.capacity() {
-        let room = if wanted <= PIECE / 2 {
-            wanted.max(2 * last.capacity())
-        } else {
-            wanted.div_ceil(PIECE) * PIECE
-        };
-        last.reserve_exact(room - last.len())?;
-    }
-    last.extend_from_slice(payload)
-}
-
-/// Makes the last piece whole, and puts a new block after it. All memory is taken before anything changes. If
-/// memory is refused, nothing has changed.
-fn add_block<A: Allocator + Copy>(
-    blocks: &mut Vec<Block<A>, A>,
-    last: &mut Vec<u8, A>,
-    end: usize,
-    front: &[u8],
-    new: Vec<u8, A>,
-) -> Result<(), AllocError>
-    requires pieces { ArePieces blocks.old.items last.old.items }
-    requires end { end ≡ length (joined blocks.old.items) + length last.old.items + length front.now }
-    requires whole { (length last.old.items + length front.now) % 4096 ≡ 0 }
-    requires some { 0 < length last.old.items }
-    requires new { 0 < length new.items }
-    ensures ok { OnOk result (joined blocks.new.items ++ last.new.items ≡ joined blocks.old.items ++ last.old.items ++ front.now ++ new.items) }
-    ensures err { OnErr result ((blocks.new.items ≡ blocks.old.items) × (last.new.items ≡ last.old.items)) }
-    ensures pieces { ArePieces blocks.new.items last.new.items }
-{
-    blocks.reserve(1)?;
-    last.reserve_exact(front.len())?;
-    last.extend_from_slice(front)?;
-    let bytes = mem::replace(last, new);
-    blocks.push_reserved(Block { end, bytes });
-    Ok(())
+    bytes.get(..most).unwrap_or(bytes)
 }

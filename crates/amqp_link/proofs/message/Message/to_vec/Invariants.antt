@@ -1,6 +1,12 @@
-use Rattle.std.proofs.Common.{◌≡◌, take}
-use Rattle.amqp_link.specs.Pieces.{joined}
+use Rattle.std.proofs.Common.{◌-◌, ◌≡◌, ◌≤◌, take, length}
 use Rattle.amqp_link.proofs.message.Message.to_vec.Given as goal
 
-abbrev pub invariant-loop-block : goal.invariant-loop-block
-invariant-loop-block g l = l.bytes.items ≡ joined (take l.block-index l.block-items)
+abbrev pub invariant-blocks-2 : goal.invariant-blocks-2
+invariant-blocks-2 g l = record {
+  within : l.at ≤ l.len;
+  long : l.len ≡ length l.self-inside.blocks.bytes;
+  copied : l.bytes.items ≡ take l.at l.self-inside.blocks.bytes;
+}
+
+abbrev pub decreases-blocks-2 : goal.decreases-blocks-2
+decreases-blocks-2 g l = l.len - l.at

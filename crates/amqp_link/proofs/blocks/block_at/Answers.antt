@@ -2,7 +2,7 @@ use Rattle.std.proofs.Common.{leb, leb-true, rules}
 use Rattle.std.proofs.lemmas.Bool.{leb-false}
 use Rattle.std.proofs.lemmas.List.Sorted.{IsPartitionPoint-from_clause, IsPartitionedBy-leb}
 use Rattle.amqp_link.proofs.Joined.{rising}
-use Rattle.amqp_link.proofs.message.block_at.Goals as goal
+use Rattle.amqp_link.proofs.blocks.block_at.Goals as goal
 
 pub returns-clause-before : goal.returns-clause-before
 returns-clause-before g c =

@@ -1,10 +1,10 @@
 use Rattle.std.proofs.Common.{◌≡◌, ◌+◌, ◌%◌, ◌<◌, ◌++◌, ◌∷◌, [], ℕ, List, length, Vec, arith, rules, ap, sym, subst, ◌∙◌}
 use Rattle.std.proofs.lemmas.Grind.{common_steps}
 use Rattle.std.proofs.lemmas.List.{length-append}
-use Rattle.amqp_link.specs.declared.message.Block.{Block}
+use Rattle.amqp_link.specs.declared.blocks.Block.{Block}
 use Rattle.amqp_link.specs.Pieces.{AreWhole, AreBlocks}
 use Rattle.amqp_link.proofs.Joined.{blocks_push}
-use Rattle.amqp_link.proofs.message.add_block.Goals as goal
+use Rattle.amqp_link.proofs.blocks.add_block.Goals as goal
 
 pub returns-clause-pieces : goal.returns-clause-pieces
 returns-clause-pieces g c =
