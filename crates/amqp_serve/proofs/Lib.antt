@@ -22,3 +22,4 @@ pub mod Resumed
 pub mod Interrupted
 pub mod Rooms
 pub mod Policies
+pub mod Gifts

@@ -11,7 +11,7 @@ use Rattle.amqp_serve.specs.declared.rules.Rule.{Rule}
 use Rattle.amqp_serve.specs.declared.serving.ServeFault.{ServeFault}
 use Rattle.amqp_serve.specs.declared.serving.ServeFault.TheVariants as fault
 use Rattle.amqp_serve.specs.declared.steps.Done.{Done}
-use Rattle.amqp_serve.specs.Deeds.{Deeds, fed_deeds, rest_deeds, done_deeds, receipt_deeds, topped_deeds, no_deeds, Ends, AreOpen, IsOfEnds, WentOn, WentOff, HasFollowed, HasFailed, filled, Follows, IsStepped}
+use Rattle.amqp_serve.specs.Deeds.{Deeds, fed_deeds, rest_deeds, done_deeds, receipt_deeds, topped_deeds, no_deeds, Ends, AreOpen, IsOfEnds, WentOn, WentOff, HasFollowed, HasFailed, filled, Follows, IsStepped, ReachesBy}
 use Rattle.amqp_serve.specs.Hosting.{lost_by}
 use Rattle.amqp_serve.specs.Serving.{Starved, ToppingUp, all_supplies, reading, stand_told, Served, BrokeOff, IsStarved}
 use Rattle.amqp_serve.specs.Supplied.{IsSuppliedBut, IsOnlyAt, told_look, received_look, look_behind}
@@ -20,6 +20,11 @@ use Rattle.amqp_serve.proofs.Looks.{received_behind}
 use Rattle.amqp_serve.proofs.Resumed.{wanting_waits}
 use Rattle.amqp_serve.proofs.ServingFeeds.{fed_served, fed_idle, fed_starved, waits_before}
 use Rattle.amqp_serve.proofs.Servings.{served_on, served_then, broke_then, works_none, stopped}
+
+-- how far a feed reaches
+pub reached : (over : Bool) (s t : EndpointState) (piece : List ℕ) (used : ℕ) (told : Outcome) → FeedDone over s t piece used told → ReachesBy over s piece used
+reached true s t piece used told fed = fed.1
+reached false s t piece used told fed = (fed.between, fed.taken)
 
 -- What follows. ---------------------------------------------------------------------------------------------------------------
 

@@ -3,6 +3,7 @@ use Rattle.std.specs.Prelude.{◌≡◌, ◌≢◌, ◌↔◌, ℕ, ◌+◌, ◌
 use Rattle.std.specs.List.{flat_map}
 use Rattle.amqp_frame.specs.Devices.{device_inner, has_failed}
 use Rattle.amqp_frame.specs.declared.device.Device.{Device}
+use Rattle.amqp_frame.specs.Splits.{SplitterState, IsTaken}
 use Rattle.amqp_session.specs.Calls.{Widen, Grant, Take, Settle}
 use Rattle.amqp_endpoint.specs.declared.event.Outcome.{Outcome}
 use Rattle.amqp_endpoint.specs.declared.event.Outcome.TheVariants as outcome
@@ -219,6 +220,14 @@ pub record HasStopped (p : Rule) (x : ServeFault) (bytes : List ℕ) (old new : 
 abbrev pub IsStepped : Rule → List ℕ → Outcome → Result Done ServeFault → EndpointState → EndpointState → Ends → Ends → Type 0
 IsStepped p bytes told (Ok d) old new e f = HasStepped p told d bytes old new e f
 IsStepped p bytes told (Err x) old new e f = HasStopped p x bytes old new e f
+
+-- How far a step reaches into a piece: up to the end of the unit that is due, or of the piece. It uses no byte while a unit waits, and none once the connection is over.
+abbrev pub ReachesBy : Bool → EndpointState → List ℕ → ℕ → Type 0
+ReachesBy true s piece used = used ≡ 0
+ReachesBy false s piece used = (between : SplitterState) × IsTaken s.input between piece used
+
+abbrev pub Reaches : EndpointState → List ℕ → ℕ → Type 0
+Reaches s piece used = ReachesBy (is_dead s.connection.phase) s piece used
 
 -- Bytes of a reader were served by steps, and serving broke off.
 pub record IsLost (p : Rule) (x : ServeFault) (old new : EndpointState) (input left : Option (List ℕ)) (reader_failed : Bool) (e f : Ends) : Type 0 where

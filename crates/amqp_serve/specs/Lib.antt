@@ -1,6 +1,7 @@
 pub mod Serving
 pub mod Cuts
 pub mod Supplied
+pub mod Supplying
 pub mod Deeds
 pub mod Hosting
 pub mod Policies

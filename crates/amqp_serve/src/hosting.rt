@@ -1,7 +1,7 @@
 //! A server for a host with a loop of its own.
 ghost use Rattle.std.specs.Prelude.{◌≡◌, ◌≤◌, [], take, length, Err, IfSome, None};
 ghost use Rattle.amqp_endpoint.specs.Runs.{IsFinished, end_of};
-ghost use Rattle.amqp_serve.specs.Deeds.{IsStepped, ends, AreOpen};
+ghost use Rattle.amqp_serve.specs.Deeds.{IsStepped, Reaches, ends, AreOpen};
 ghost use Rattle.amqp_serve.specs.Hosting.{lost_by};
 
 use crate::steps::{Course, Done, Stepped, serve_piece};
@@ -67,6 +67,7 @@ impl<A: Allocator + Copy> Server<A> {
     ) -> Stepped
         requires ends { AreOpen (ends W.contents S.contents writer.old sink.old) }
         ensures bound { result.used ≤ length piece.now }
+        ensures reaches { self.old.lost ≡ None → Reaches self.old.endpoint piece.now result.used }
         ensures rule { self.new.rule ≡ self.old.rule }
         ensures stepped { self.old.lost ≡ None → IsStepped self.old.rule (take result.used piece.now) result.told result.done self.old.endpoint self.new.endpoint
             (ends W.contents S.contents writer.old sink.old) (ends W.contents S.contents writer.new sink.new) }

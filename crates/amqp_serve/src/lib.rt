@@ -18,6 +18,7 @@ mod serving;
 pub mod step_laws;
 mod steps;
 mod supplies;
+mod supplying;
 mod watch;
 
 pub use hosting::Server;
@@ -25,4 +26,5 @@ pub use rules::Rule;
 pub use serving::{Policy, ServeFault, serve, serve_watched};
 pub use steps::{Course, Done, Receipt, Received, Stepped, serve_piece, serve_read};
 pub use supplies::{Supply, Topped};
+pub use supplying::supply_session;
 pub use watch::{Unwatched, Watch};

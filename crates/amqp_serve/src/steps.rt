@@ -4,7 +4,7 @@ ghost use Rattle.amqp_session.specs.Calls.{Take};
 ghost use Rattle.amqp_endpoint.specs.Endpoints.{handed_in};
 ghost use Rattle.amqp_endpoint.specs.Runs.{CallDone, HandedUp};
 ghost use Rattle.amqp_endpoint.specs.Steps.{EndpointState, MayRead, IsKept};
-ghost use Rattle.amqp_serve.specs.Deeds.{received_as, receipt_by, receipt_deeds, filled, Follows, IsStepped, Went, ends, AreOpen};
+ghost use Rattle.amqp_serve.specs.Deeds.{received_as, receipt_by, receipt_deeds, filled, Follows, IsStepped, Reaches, Went, ends, AreOpen};
 ghost use Rattle.amqp_serve.specs.Serving.{ToppingUp, Receiving, all_supplies, stand_told};
 ghost use Rattle.amqp_serve.specs.Supplied.{IsRight, IsSuppliedBut, IsOnlyAt, is_nil, told_look, received_look, look_behind};
 ghost use Rattle.amqp_serve.specs.declared.supplies.Look.TheVariants as look;
@@ -100,6 +100,7 @@ pub fn serve_piece<A: Allocator + Copy, W: Write + HoldsBack + Drop, S: Write + 
     requires sent { endpoint.old.unsent ≡ [] }
     requires course { IsRight course.old endpoint.old.connection }
     ensures bound { result.used ≤ length piece.now }
+    ensures reaches { Reaches endpoint.old piece.now result.used }
     ensures rule { course.new.rule ≡ course.old.rule }
     ensures course { IsRight course.new endpoint.new.connection }
     ensures stepped { IsStepped course.old.rule (take result.used piece.now) result.told result.done endpoint.old endpoint.new (ends W.contents S.contents writer.old sink.old)
@@ -126,6 +127,7 @@ pub fn serve_piece_into<A: Allocator + Copy, W: Write + HoldsBack + Drop, S: Wri
     requires sent { endpoint.old.unsent ≡ [] }
     requires course { IsRight course.old endpoint.old.connection }
     ensures bound { result.0.used ≤ length piece.now }
+    ensures reaches { Reaches endpoint.old piece.now result.0.used }
     ensures rule { course.new.rule ≡ course.old.rule }
     ensures course { IsRight course.new endpoint.new.connection }
     ensures stepped { IsStepped course.old.rule (take result.0.used piece.now) result.0.outcome (filled result.1 done.new) endpoint.old endpoint.new (ends W.contents S.contents writer.old sink.old)

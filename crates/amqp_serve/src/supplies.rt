@@ -189,7 +189,7 @@ fn top_up_session<A: Allocator + Copy, W: Write + HoldsBack + Drop, S: Write + D
 
 /// Returns the first handle from `from` on whose link may lack credit, or `handles` if there is none below that.
 /// No link that is passed lacks credit.
-fn first_lacking<A: Allocator + Copy>(
+pub fn first_lacking<A: Allocator + Copy>(
     endpoint: &Endpoint<A>,
     channel: u16,
     from: u32,
@@ -256,7 +256,7 @@ fn topped_by(supply: Supply, n: u32, given: Result<(), CallFault>) -> Topped
 
 /// Widens a window by `n` places, or grants a link `n` credit.
 #[inline(always)]
-fn give<A: Allocator + Copy>(
+pub fn give<A: Allocator + Copy>(
     endpoint: &mut Endpoint<A>,
     supply: Supply,
     n: u32,
@@ -275,19 +275,18 @@ fn lack<A: Allocator + Copy>(endpoint: &Endpoint<A>, supply: Supply, rule: &Rule
     ensures { result ≡ lack rule.now endpoint.now.connection supply }
 {
     match supply {
-        Supply::WindowOf { channel } => window_lack(endpoint, channel),
+        Supply::WindowOf { channel } => window_lack(endpoint, channel, endpoint.config().window()),
         Supply::CreditOf { channel, handle } => credit_lack(endpoint, channel, handle, rule),
     }
 }
 
-/// Returns how many places the window of the session on a channel lacks; 0 if there is no session.
-fn window_lack<A: Allocator + Copy>(endpoint: &Endpoint<A>, channel: u16) -> u32
-    ensures { result ≡ window_lack endpoint.now.connection.config.window (slot_at endpoint.now.connection channel) }
+/// Returns how many of `window` places the window of the session on a channel lacks; 0 if there is no session.
+pub fn window_lack<A: Allocator + Copy>(endpoint: &Endpoint<A>, channel: u16, window: u32) -> u32
+    ensures { result ≡ window_lack window (slot_at endpoint.now.connection channel) }
 {
     let Some(places) = endpoint.window(channel) else {
         return 0;
     };
-    let window = endpoint.config().window();
     if places <= window / 2 {
         window - places
     } else {
@@ -296,7 +295,7 @@ fn window_lack<A: Allocator + Copy>(endpoint: &Endpoint<A>, channel: u16) -> u32
 }
 
 /// Returns how much credit a link lacks; 0 if there is no link.
-fn credit_lack<A: Allocator + Copy>(
+pub fn credit_lack<A: Allocator + Copy>(
     endpoint: &Endpoint<A>,
     channel: u16,
     handle: u32,

@@ -2,6 +2,7 @@
 
 use amqp_endpoint::{CallFault, Config, Endpoint, Event, Outcome};
 use amqp_perform::Outcome as Settlement;
+use amqp_serve::supply_session;
 use anyhow::{Error, Result, anyhow, bail};
 use std::alloc::Global;
 
@@ -87,26 +88,9 @@ fn receive(rt: &impl Print, endpoint: &mut Endpoint, channel: u16, handle: u32) 
 /// Widens the window of each session of which half is used up, and grants each link credit of which half is.
 fn top_up(endpoint: &mut Endpoint) -> Result<(), CallFault> {
     for channel in 0..=CHANNEL_MAX {
-        let Some(places) = endpoint.window(channel) else {
-            continue;
-        };
-        if places <= WINDOW / 2 {
-            endpoint.widen(channel, WINDOW - places)?;
+        if endpoint.window(channel).is_some() {
+            supply_session(endpoint, channel, CREDIT, WINDOW)?;
         }
-        for handle in 0..=HANDLE_MAX {
-            top_up_link(endpoint, channel, handle)?;
-        }
-    }
-    Ok(())
-}
-
-fn top_up_link(endpoint: &mut Endpoint, channel: u16, handle: u32) -> Result<(), CallFault> {
-    let Some(link) = endpoint.link(channel, handle) else {
-        return Ok(());
-    };
-    let open = link.credit.saturating_add(link.opened);
-    if open <= CREDIT / 2 {
-        endpoint.grant(channel, handle, CREDIT - open)?;
     }
     Ok(())
 }

@@ -8,6 +8,7 @@ pub mod config;
 pub mod endpoint;
 pub mod laws;
 pub mod link;
+pub mod pair;
 pub mod perform;
 pub mod send;
 pub mod serve;

@@ -1,20 +1,21 @@
 //! What `amqp_serve` promises.
 
-ghost use Rattle.std.specs.Prelude.{◌≡◌, ◌↔◌, ◌<◌, ◌≤◌, ◌-◌, [], ℕ, List, true, false, Err, None, min, take, length, IsTrue, IfOk, IfErr, IfSome};
+ghost use Rattle.std.specs.Prelude.{◌≡◌, ◌↔◌, ◌<◌, ◌≤◌, ◌-◌, [], ℕ, suc, List, true, false, Err, None, min, take, length, IsTrue, IfOk, IfErr, IfSome, OnOk};
 ghost use Rattle.std.specs.Io.KnownBytes.{Consumes};
 ghost use Rattle.amqp_link.specs.Links.{open_count};
 ghost use Rattle.amqp_session.specs.Sessions.{LiveLink};
 ghost use Rattle.amqp_session.specs.declared.slot.Slot.TheVariants.{Live};
 ghost use Rattle.amqp_frame.specs.Devices.{device_inner, has_failed, has_ended, is_flushed};
-ghost use Rattle.amqp_endpoint.specs.Connections.{is_dead};
+ghost use Rattle.amqp_endpoint.specs.Connections.{is_dead, slot_at};
 ghost use Rattle.amqp_endpoint.specs.Steps.{EndpointState, MayRead, IsKept};
-ghost use Rattle.amqp_serve.specs.Deeds.{IsStepped, ends, AreOpen};
+ghost use Rattle.amqp_serve.specs.Deeds.{IsStepped, Reaches, ends, AreOpen};
 ghost use Rattle.amqp_serve.specs.Hosting.{lost_by};
 ghost use Rattle.amqp_serve.specs.Policies.{rule_of, BrokeOff, IsServed};
-ghost use Rattle.amqp_serve.specs.Serving.{credit_lack, reading, IsStarved, HasAllTaken};
+ghost use Rattle.amqp_serve.specs.Serving.{credit_lack, reading, session_supplies, IsStarved, HasAllTaken};
 ghost use Rattle.amqp_serve.specs.Supplied.{IsRight};
+ghost use Rattle.amqp_serve.specs.Supplying.{half_rule, GaveIn, LacksNothing};
 
-use amqp_endpoint::{End, Endpoint, Outcome};
+use amqp_endpoint::{CallFault, End, Endpoint, Outcome};
 use amqp_frame::{AtHand, Device, HoldsBack};
 use amqp_serve::{Course, Policy, ServeFault, Server, Stepped};
 use std::alloc::Allocator;
@@ -72,6 +73,7 @@ pub fn serve_piece<A: Allocator + Copy, W: Write + HoldsBack + Drop, S: Write + 
     requires sent { endpoint.old.unsent ≡ [] }
     requires course { IsRight course.old endpoint.old.connection }
     ensures bound { result.used ≤ length piece.now }
+    ensures reaches { Reaches endpoint.old piece.now result.used }
     ensures rule { course.new.rule ≡ course.old.rule }
     ensures course { IsRight course.new endpoint.new.connection }
     ensures stepped { IsStepped course.old.rule (take result.used piece.now) result.told result.done endpoint.old endpoint.new (ends W.contents S.contents writer.old sink.old)
@@ -112,6 +114,7 @@ pub fn step<A: Allocator + Copy, W: Write + HoldsBack + Drop, S: Write + Drop>(
 ) -> Stepped
     requires ends { AreOpen (ends W.contents S.contents writer.old sink.old) }
     ensures bound { result.used ≤ length piece.now }
+    ensures reaches { server.old.lost ≡ None → Reaches server.old.endpoint piece.now result.used }
     ensures rule { server.new.rule ≡ server.old.rule }
     ensures stepped { server.old.lost ≡ None → IsStepped server.old.rule (take result.used piece.now) result.told result.done server.old.endpoint server.new.endpoint
         (ends W.contents S.contents writer.old sink.old) (ends W.contents S.contents writer.new sink.new) }
@@ -119,6 +122,19 @@ pub fn step<A: Allocator + Copy, W: Write + HoldsBack + Drop, S: Write + Drop>(
     ensures refused { IfSome server.old.lost (λ x. (result ≡ record { used = 0; told = Outcome.More; done = Err x }) × (server.new ≡ server.old)) }
 {
     server.step(piece, writer, sink)
+}
+
+/// Gives a session and its links what they lack, for a host that makes all other calls itself.
+pub fn supply_session<A: Allocator + Copy>(
+    endpoint: &mut Endpoint<A>,
+    channel: u16,
+    credit: u32,
+    window: u32,
+) -> Result<(), CallFault>
+    ensures gave { GaveIn (slot_at endpoint.old.connection channel) result (half_rule credit) window (session_supplies (suc endpoint.old.connection.config.handle_max) channel) endpoint.old endpoint.new }
+    ensures supplied { OnOk result (LacksNothing (half_rule credit) window (suc endpoint.old.connection.config.handle_max) channel endpoint.new.connection) }
+{
+    amqp_serve::supply_session(endpoint, channel, credit, window)
 }
 
 /// A law: under a policy, a link lacks as much as its credit is below the policy's, but at most what it is
