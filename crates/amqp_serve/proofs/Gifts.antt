@@ -1,31 +1,33 @@
 -- What a session and its links are given by calls of a host.
-use Rattle.std.proofs.Common.{arith, ◌≡◌, ℕ, zero, suc, ◌+◌, ◌-◌, ◌<◌, ◌≤◌, Bool, true, false, List, [], ◌∷◌, ◌++◌, Result, Ok, Err, refl, sym, ap, subst, ◌∙◌, Some, None, Option, option_map, is_some}
-use Rattle.std.specs.Prelude.{nat_eq}
-use Rattle.std.proofs.lemmas.Bool.{eq-eqb, eqb-true}
+use Rattle.std.proofs.Common.{arith, ◌≡◌, ℕ, zero, suc, ◌+◌, ◌-◌, ◌<◌, ◌≤◌, Bool, true, false, List, [], ◌∷◌, ◌++◌, Result, Ok, Err, refl, sym, ap, subst, ◌∙◌, Option, option_map}
+use Rattle.std.specs.Prelude.{◌≢◌, nat_eq, nat_lt, is_none}
+use Rattle.std.proofs.lemmas.Bool.{eq-eqb, eqb-true, ltb-true, ltb-false, true≢false}
 use Rattle.amqp_session.specs.declared.slot.Slot.{Slot}
 use Rattle.amqp_session.specs.declared.slot.Slot.TheVariants.{Free, Live, Waits as Awaits}
 use Rattle.amqp_session.specs.Places.{tabulate, live_in}
 use Rattle.amqp_session.specs.Sessions.{SessionState}
 use Rattle.amqp_endpoint.specs.declared.fault.CallFault.{CallFault}
-use Rattle.amqp_endpoint.specs.declared.fault.CallFault.TheVariants.{NoSession}
 use Rattle.amqp_endpoint.specs.Calls.{slot_event}
 use Rattle.amqp_endpoint.specs.Configs.{Configured}
 use Rattle.amqp_endpoint.specs.Connections as event
 use Rattle.amqp_endpoint.specs.Connections.{ConnectionState, ConnectionEvent, connection_after, slot_at}
-use Rattle.amqp_endpoint.specs.Endpoints.{accepted_by}
 use Rattle.amqp_endpoint.specs.Runs.{Accepted, Refused, Answer, CallDone, Does}
 use Rattle.amqp_endpoint.specs.Steps.{EndpointState}
 use Rattle.amqp_serve.specs.declared.rules.Rule.{Rule}
 use Rattle.amqp_serve.specs.declared.supplies.Supply.{Supply}
 use Rattle.amqp_serve.specs.declared.supplies.Supply.TheVariants.{WindowOf, CreditOf}
 use Rattle.amqp_serve.specs.Cuts.{supply_channel, call_for}
-use Rattle.amqp_serve.specs.Serving.{Step, top_up_by}
-use Rattle.amqp_serve.specs.Supplying.{lack_by, Supplies, Rests, Passes, Gives, GaveAll, GaveSome, Gave, GaveIn}
+use Rattle.amqp_serve.specs.Serving.{Step, session_supplies, top_up_by}
+use Rattle.amqp_serve.specs.Supplying.{lack_by, Supplies, Rests, Passes, Gives, GaveSome, Gave, GaveIn, LacksNothing}
 use Rattle.amqp_serve.proofs.CutTops.{went, slot_went, lack_in, gift, lives_there, event_is, lack_after}
-use Rattle.amqp_serve.proofs.ServingTops.{tabulate_step}
+use Rattle.amqp_serve.proofs.ServingTops.{tabulate_step, tabulate_none, tabulate_all}
 use Rattle.amqp_serve.proofs.Supplied.{elsewhere_at, went_other}
 
 -- What a supply lacks. ------------------------------------------------------------------------------------------------------
+
+abbrev handle_of : Supply → ℕ
+handle_of (WindowOf channel) = 0
+handle_of (CreditOf channel handle) = handle
 
 -- by what stands at its channel
 by_slot : (p : Rule) (config : Configured) (s : ConnectionState) (x : Supply) → lack_by p config.window s x ≡ lack_in p config (slot_at s (supply_channel x)) x
@@ -73,10 +75,6 @@ given_all p window s t x (suc n) some is d =
     ∙ ap (λ (b : Bool). lack_in p config (went b (gift x (suc n)) there) x) (eq-eqb c c refl)
     ∙ lack_after p config there x n lacks
 
--- it keeps the configuration
-pub config_left : (s t : EndpointState) (x : Supply) (n : ℕ) → CallDone s t (supply_channel x) (call_for x n) Accepted → t.connection.config ≡ s.connection.config
-config_left s t x n d = ap (λ (k : ConnectionState). k.config) d.1.connection
-
 -- Supplies one after the other. -----------------------------------------------------------------------------------------------
 
 pub supplies_on : {p : Rule} {window : ℕ} {a b c : List Supply} {s t u : EndpointState} {steps more : List Step} → Supplies p window a s steps b t → Supplies p window b t more c u
@@ -116,9 +114,9 @@ gave_first p window x xs s t (suc n) is none some =
     }
 
 -- it is refused it
-pub first_refused : (p : Rule) (window : ℕ) (a xs : List Supply) (x : Supply) (f : CallFault) (s t u : EndpointState) (n : ℕ) → n ≡ lack_by p window t.connection x → (n ≡ 0 → Err f ≡ Ok tt → ⊥) → 0 < n
+pub first_refused : (p : Rule) (window : ℕ) (a xs : List Supply) (x : Supply) (f : CallFault) (s t u : EndpointState) (n : ℕ) → n ≡ lack_by p window t.connection x → 0 < n
     → CallDone t u (supply_channel x) (call_for x n) (Refused f) → GaveTo p window a s (x ∷ xs) t → GaveSome p window a f s u
-first_refused p window a xs x f s t u n is never some done before = record {
+first_refused p window a xs x f s t u n is some done before = record {
   steps = before.steps;
   supply = x;
   left = xs;
@@ -155,14 +153,89 @@ passed_to p window s channel n i j few within none =
 
 -- A session. ------------------------------------------------------------------------------------------------------------------
 
-pub gave_none : (f : SessionState → ℕ) (x : Slot SessionState) (shown : Option ℕ) (p : Rule) (window : ℕ) (a : List Supply) (s : EndpointState) → shown ≡ option_map f (live_in x) → is_some shown ≡ false
-    → GaveIn x (Err NoSession) p window a s s
-gave_none f Free shown p window a s is none = (refl, refl)
-gave_none f (Live u) shown p window a s is none = absurd (grind (arith, is, none))
-gave_none f Awaits shown p window a s is none = (refl, refl)
+-- its window and the links at handles below one lack nothing, and the other links are left
+pub record HasCome (p : Rule) (window n channel : ℕ) (s : EndpointState) (i : ℕ) (t : EndpointState) : Type 0 where
+  pub lacks_nothing : LacksNothing p window i channel t.connection
+  pub gave : GaveTo p window (session_supplies n channel) s (tabulate i (n - i) (λ handle. CreditOf channel handle)) t
 
-pub gave_live : (f : SessionState → ℕ) (x : Slot SessionState) (shown : Option ℕ) (r : Result (Unit {0}) CallFault) (p : Rule) (window : ℕ) (a : List Supply) (s t : EndpointState) → shown ≡ option_map f (live_in x)
-    → is_some shown ≡ true → Gave r p window a s t → GaveIn x r p window a s t
-gave_live f Free shown r p window a s t is some gave = absurd (grind (arith, is, some))
-gave_live f (Live u) shown r p window a s t is some gave = gave
-gave_live f Awaits shown r p window a s t is some gave = absurd (grind (arith, is, some))
+-- what a call for one supply left, or no call where it lacked nothing
+pub record IsGiven (x : Supply) (n : ℕ) (t u : EndpointState) : Type 0 where
+  pub nothing : n ≡ 0 → u ≡ t
+  pub given : 0 < n → CallDone t u (supply_channel x) (call_for x n) Accepted
+
+others_kept : (p : Rule) (window : ℕ) (t u : EndpointState) (x : Supply) (n : ℕ) → IsGiven x n t u → (y : Supply) → (y ≡ x → ⊥) → lack_by p window u.connection y ≡ lack_by p window t.connection y
+others_kept p window t u x zero given y away = ap (λ (k : EndpointState). lack_by p window k.connection y) (given.nothing refl)
+others_kept p window t u x (suc n) given y away = others_left p window t u x (suc n) (given.given (omega arith)) y away
+
+none_left : (p : Rule) (window : ℕ) (t u : EndpointState) (x : Supply) (n : ℕ) → n ≡ lack_by p window t.connection x → IsGiven x n t u → lack_by p window u.connection x ≡ 0
+none_left p window t u x zero is given = ap (λ (k : EndpointState). lack_by p window k.connection x) (given.nothing refl) ∙ sym is
+none_left p window t u x (suc n) is given = given_all p window t u x (suc n) (omega arith) is (given.given (omega arith))
+
+gave_one : (p : Rule) (window : ℕ) (x : Supply) (xs : List Supply) (t u : EndpointState) (n : ℕ) → n ≡ lack_by p window t.connection x → IsGiven x n t u → GaveTo p window (x ∷ xs) t xs u
+gave_one p window x xs t u n is given = gave_first p window x xs t u n is given.nothing given.given
+
+-- the window is given, and links that lack nothing are passed
+pub window_come : (p : Rule) (window n channel j k : ℕ) (s t : EndpointState) → k ≡ lack_by p window s.connection (WindowOf channel) → IsGiven (WindowOf channel) k s t → j ≤ n
+    → ((h : ℕ) → 0 ≤ h → h < j → lack_by p window t.connection (CreditOf channel h) ≡ 0) → HasCome p window n channel s j t
+window_come p window n channel j k s t is given within passed =
+    let credit = λ (h : ℕ). CreditOf channel h in
+    record {
+      lacks_nothing = record { places = none_left p window s t (WindowOf channel) k is given; credit = λ h less. passed h (omega arith) less };
+      gave = then_to (gave_one p window (WindowOf channel) (tabulate 0 n credit) s t k is given)
+          (subst (λ (l : List Supply). GaveTo p window l t (tabulate j (n - j) credit) t) (sym (tabulate_all credit n)) (passed_to p window t channel n 0 j (omega arith) within passed));
+    }
+
+-- a link is given, and links that lack nothing are passed
+pub link_come : (p : Rule) (window n channel i j k : ℕ) (s t u : EndpointState) → i < n → k ≡ lack_by p window t.connection (CreditOf channel i) → IsGiven (CreditOf channel i) k t u → i + 1 ≤ j → j ≤ n
+    → ((h : ℕ) → i + 1 ≤ h → h < j → lack_by p window u.connection (CreditOf channel h) ≡ 0) → HasCome p window n channel s i t → HasCome p window n channel s j u
+link_come p window n channel i j k s t u less is given few within passed before =
+    let x = CreditOf channel i in
+    let credit = λ (h : ℕ). CreditOf channel h in
+    record {
+      lacks_nothing = record {
+        places = others_kept p window t u x k given (WindowOf channel) (λ e. absurd (grind (arith, e))) ∙ before.lacks_nothing.places;
+        credit = λ h low. by h low (nat_lt h i) (nat_eq h i) refl refl;
+      };
+      gave = then_to (subst (λ (l : List Supply). GaveTo p window (session_supplies n channel) s l t) (tabulate_step credit i n less) before.gave)
+          (then_to (gave_one p window x (tabulate (i + 1) (n - (i + 1)) credit) t u k is given) (passed_to p window u channel n (i + 1) j few within passed));
+    }
+  where
+    by : (h : ℕ) → h < j → (a b : Bool) → nat_lt h i ≡ a → nat_eq h i ≡ b → lack_by p window u.connection (CreditOf channel h) ≡ 0
+    by h low true b first second =
+        let away : CreditOf channel h ≡ CreditOf channel i → ⊥ = λ e. absurd (omega (arith, ltb-true h i first, ap (λ (y : Supply). handle_of y) e)) in
+        others_kept p window t u (CreditOf channel i) k given (CreditOf channel h) away ∙ before.lacks_nothing.credit h (ltb-true h i first)
+    by h low false true first second =
+        ap (λ (m : ℕ). lack_by p window u.connection (CreditOf channel m)) (eqb-true h i second) ∙ none_left p window t u (CreditOf channel i) k is given
+    by h low false false first second = passed h (omega (arith, ltb-false h i first, apart second)) low
+      where
+        apart : nat_eq h i ≡ false → h ≢ i
+        apart off same = absurd (true≢false (sym (eq-eqb h i same) ∙ off))
+
+-- a number that is not 0
+pub some_of : (n : ℕ) → (n ≡ 0 → ⊥) → 0 < n
+some_of zero none = absurd (none refl)
+some_of (suc n) none = omega arith
+
+-- The whole session. ----------------------------------------------------------------------------------------------------------
+
+-- if its window is shown it is live
+is_live : (f : SessionState → ℕ) (x : Slot SessionState) (shown : Option ℕ) → shown ≡ option_map f (live_in x) → is_none shown ≡ false → (u : SessionState) × (x ≡ Live u)
+is_live f Free shown is some = absurd (true≢false (sym (ap (λ (o : Option ℕ). is_none o) is) ∙ some))
+is_live f (Live u) shown is some = (u, refl)
+is_live f Awaits shown is some = absurd (true≢false (sym (ap (λ (o : Option ℕ). is_none o) is) ∙ some))
+
+-- it was given all that it lacks
+pub gave_all : (f : SessionState → ℕ) (x : Slot SessionState) (shown : Option ℕ) (p : Rule) (window n channel i : ℕ) (s t : EndpointState) → shown ≡ option_map f (live_in x) → is_none shown ≡ false → n ≤ i
+    → HasCome p window n channel s i t → GaveIn x (Ok tt) p window (session_supplies n channel) s t
+gave_all f x shown p window n channel i s t is some all come =
+    let live = is_live f x shown is some in
+    let to = subst (λ (l : List Supply). GaveTo p window (session_supplies n channel) s l t) (tabulate_none (λ (h : ℕ). CreditOf channel h) i n all) come.gave in
+    subst (λ (y : Slot SessionState). GaveIn y (Ok tt) p window (session_supplies n channel) s t) (sym live.1) (record { steps = to.steps; given = to.given })
+
+-- or a part of it, and was refused the next
+pub gave_some : (f : SessionState → ℕ) (x : Slot SessionState) (shown : Option ℕ) (r : Result (Unit {0}) CallFault) (e k : CallFault) (p : Rule) (window : ℕ) (a : List Supply) (s t : EndpointState)
+    → shown ≡ option_map f (live_in x) → is_none shown ≡ false → r ≡ Err e → e ≡ k → GaveSome p window a k s t → GaveIn x r p window a s t
+gave_some f x shown r e k p window a s t is some err same gave =
+    let live = is_live f x shown is some in
+    subst (λ (y : Slot SessionState). GaveIn y r p window a s t) (sym live.1)
+    (subst (λ (q : Result (Unit {0}) CallFault). Gave q p window a s t) (sym err) (subst (λ (d : CallFault). GaveSome p window a d s t) (sym same) gave))

@@ -100,7 +100,7 @@ given_other p config u (CreditOf c h) (CreditOf k j) n same away =
     ap (λ (y : Slot LiveLink). credit_lack p y)
     (lives.slot_elsewhere u j (one.Called h (Granted n)) (λ e. away (ap (λ (i : ℕ). CreditOf i j) (sym same) ∙ ap (λ (i : ℕ). CreditOf c i) (sym e))))
 
-went_other : (p : Rule) (config : Configured) (b : Bool) (x : Slot SessionState) (supply other : Supply) (n : ℕ) → (b ≡ true → supply_channel supply ≡ supply_channel other) →
+pub went_other : (p : Rule) (config : Configured) (b : Bool) (x : Slot SessionState) (supply other : Supply) (n : ℕ) → (b ≡ true → supply_channel supply ≡ supply_channel other) →
     (other ≡ supply → ⊥) → lack_in p config (went b (gift supply n) x) other ≡ lack_in p config x other
 went_other p config false x supply other n same away = refl
 went_other p config true Free supply other n same away = refl
