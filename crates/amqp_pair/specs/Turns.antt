@@ -100,6 +100,23 @@ pub record IsToSender (old new : Ends) (n used : ℕ) (news : Option News) : Typ
   pub other : new.to_endpoint ≡ old.to_endpoint
   pub taken : new.taken ≡ old.taken
 
+-- The first half of that: the endpoint's bytes went into the pipe.
+pub record IsAnswered (old new : Ends) (n : ℕ) : Type 0 where
+  pub moved : List ℕ
+  pub out : of_endpoint.Does old.endpoint new.endpoint (of_endpoint.Output (room_for n old.to_sender)) (of_endpoint.MovedOut moved)
+  pub pipe : new.to_sender ≡ old.to_sender ++ moved
+  pub sender : new.sender ≡ old.sender
+  pub other : new.to_endpoint ≡ old.to_endpoint
+  pub taken : new.taken ≡ old.taken
+
+-- The second half: the whole pipe was fed.
+pub record IsHeardWhole (old new : Ends) (used : ℕ) (news : Option News) : Type 0 where
+  pub fed : of_sender.Does old.sender new.sender (of_sender.Feed old.to_sender) (of_sender.Fed used news)
+  pub pipe : new.to_sender ≡ drop used old.to_sender
+  pub endpoint : new.endpoint ≡ old.endpoint
+  pub other : new.to_endpoint ≡ old.to_endpoint
+  pub taken : new.taken ≡ old.taken
+
 -- nothing but the endpoint has changed, and this was handed up
 pub record IsEndpointAlone (old new : Ends) (handed : List Handed) : Type 0 where
   pub sender : new.sender ≡ old.sender

@@ -1,7 +1,7 @@
 //! A sender, an endpoint, and the two pipes between them.
 ghost use Rattle.std.specs.Prelude.{◌≡◌, ◌≤◌, length, take, drop, IfOk, OnOk};
 ghost use Rattle.amqp_endpoint.specs.Runs as of_endpoint;
-ghost use Rattle.amqp_pair.specs.Turns.{Offer, ToEndpoint, ToSender, Ask, turn_of, AreStart, TurnDone, IsFilled, IsFedWhole};
+ghost use Rattle.amqp_pair.specs.Turns.{Offer, ToEndpoint, ToSender, Ask, turn_of, AreStart, TurnDone, IsFilled, IsFedWhole, IsAnswered, IsHeardWhole};
 ghost use Rattle.amqp_session.specs.Calls.{Widen, Grant, Drain, Take, Settle};
 ghost use Rattle.amqp_send.specs.Keeping.{terms_of};
 ghost use Rattle.std.specs.String.{string_bytes};
@@ -11,7 +11,7 @@ use amqp_endpoint::laws::are_bytes;
 use amqp_endpoint::{Config, Endpoint, Fed};
 use amqp_link::Taken;
 use amqp_perform::Outcome;
-use amqp_send::{SendConfig, Sender};
+use amqp_send::{News, SendConfig, Sender};
 use std::alloc::{AllocError, Allocator, Global};
 use std::marker::Model;
 
@@ -118,13 +118,29 @@ impl<A: Allocator + Copy> Pair<A> {
     fn to_sender(&mut self, alloc: A, n: usize) -> Result<TurnAnswer, AllocError>
         ensures { IfOk result (λ answer. TurnDone self.old self.new (ToSender n) answer) }
     {
+        self.answer(alloc, n)?;
+        let (used, news) = self.hear();
+        Ok(TurnAnswer::SenderFed { used, news })
+    }
+
+    /// Moves bytes of the endpoint into its pipe.
+    fn answer(&mut self, alloc: A, n: usize) -> Result<(), AllocError>
+        ensures { OnOk result (IsAnswered self.old self.new n) }
+    {
         let room = n.min(PIPE_SIZE - self.to_sender.len());
         let mut bytes = Vec::from_elem(alloc, 0, room)?;
         let count = output_of(&mut self.endpoint, bytes.as_mut_slice());
         self.to_sender.extend_from_slice(&bytes[..count])?;
+        Ok(())
+    }
+
+    /// Feeds the whole pipe to the sender, once.
+    fn hear(&mut self) -> (usize, Option<News>)
+        ensures { IsHeardWhole self.old self.new result.0 result.1 }
+    {
         let (used, news) = self.sender.feed(&self.to_sender);
         drop_front(&mut self.to_sender, used);
-        Ok(TurnAnswer::SenderFed { used, news })
+        (used, news)
     }
 
     /// Takes the first ready delivery, and keeps it.
