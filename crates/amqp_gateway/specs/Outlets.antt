@@ -22,7 +22,7 @@ waiting s = drop s.written s.blocks.bytes
 abbrev pub WritesOn : OutletState → OutletState → Type 0
 WritesOn old new = (went : List ℕ) × Appends old.sink new.sink went × (waiting old ≡ went ++ waiting new)
 
--- Each record that came is written and, if `sync` is set, on the disk: so its sender may hear of it.
+-- Each record that came is written, flushed and, if `sync` is set, on the disk: so its sender may hear of it.
 pub record IsSettled (sync : Bool) (s : OutletState) : Type 0 where
   pub none : s.blocks.bytes ≡ []
   pub written : s.written ≡ 0
@@ -34,6 +34,12 @@ abbrev pub WhereOut : Progress → Type 0 → Type 0
 WhereOut progress.Out P = P
 WhereOut progress.Stuck P = Unit {0}
 WhereOut progress.Failed P = Unit {0}
+
+-- what holds if the sink takes nothing now
+abbrev pub WhereStuck : Progress → Type 0 → Type 0
+WhereStuck progress.Out P = Unit {0}
+WhereStuck progress.Stuck P = P
+WhereStuck progress.Failed P = Unit {0}
 
 -- it has failed exactly if it says so
 abbrev pub has_failed_by : Progress → Bool

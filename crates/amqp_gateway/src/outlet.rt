@@ -3,7 +3,7 @@
 ghost use Rattle.std.specs.Prelude.{◌≡◌, ◌≢◌, ◌<◌, ◌^◌, ◌↔◌, [], List, true, false, length, drop, None, IsTrue, IfSome, OnOk, OnErr};
 ghost use Rattle.std.specs.Io.KnownBytes.{Keeps};
 ghost use Rattle.amqp_records.specs.Blocks.{Block, AreBlocks, with_records};
-ghost use Rattle.amqp_gateway.specs.Outlets.{IsSettled, WritesOn, waiting, WhereOut, has_failed_by};
+ghost use Rattle.amqp_gateway.specs.Outlets.{IsSettled, WritesOn, waiting, WhereOut, WhereStuck, has_failed_by};
 
 use amqp_records::Blocks;
 use std::alloc::{AllocError, Global};
@@ -43,7 +43,7 @@ const MOST: usize = 262_144;
 /// How far writing has come.
 #[derive(Clone, Copy, Debug, PartialEq, Eq)]
 pub enum Progress {
-    /// All that waited was written.
+    /// All that waited was written and flushed.
     Out,
     /// The sink takes nothing now.
     Stuck,
@@ -112,7 +112,7 @@ impl<S: Sink + Drop> Outlet<S> {
         self.blocks.as_bytes().len().saturating_sub(self.written) >= MOST
     }
 
-    /// Returns whether nothing waits, the sink has not failed and, if `sync` is set, all is on the disk.
+    /// Returns whether the sink took and flushed all, has not failed and, if `sync` is set, has it on the disk.
     pub fn is_settled(&self, sync: bool) -> bool
         ensures { IsTrue result ↔ IsSettled sync self.now }
     {
@@ -122,11 +122,13 @@ impl<S: Sink + Drop> Outlet<S> {
             && !self.has_failed
     }
 
-    /// Writes what waits, and syncs it to the disk if `sync` is set. `Out` means that nothing waits any more.
+    /// Writes and flushes what waits, and syncs it to the disk if `sync` is set. `Out` means that nothing waits any
+    /// more. Until then the blocks stay, so that it is not settled.
     pub fn settle(&mut self, sync: bool) -> Progress
         ensures stays { self.old.has_failed ≡ true → (result ≡ Progress.Failed) × (self.new ≡ self.old) }
         ensures went { WritesOn self.old self.new }
         ensures out { WhereOut result (IsSettled sync self.new) }
+        ensures stuck { WhereStuck result (self.new.blocks ≡ self.old.blocks) }
         ensures failed { self.new.has_failed ≡ has_failed_by result }
     {
         match self.write_out() {
@@ -135,12 +137,14 @@ impl<S: Sink + Drop> Outlet<S> {
         }
     }
 
-    /// Writes what waits, without syncing it to the disk. `Out` means that nothing waits any more.
+    /// Writes and flushes what waits, without syncing it to the disk. `Out` means that nothing waits any more. Until
+    /// then the blocks stay.
     #[tactic(auto, using(crate::proofs::Outs::on_here))]
     pub fn write_out(&mut self) -> Progress
         ensures stays { self.old.has_failed ≡ true → (result ≡ Progress.Failed) × (self.new ≡ self.old) }
         ensures went { WritesOn self.old self.new }
         ensures out { WhereOut result ((self.new.blocks.bytes ≡ []) × (self.new.written ≡ 0)) }
+        ensures stuck { WhereStuck result (self.new.blocks ≡ self.old.blocks) }
         ensures failed { self.new.has_failed ≡ has_failed_by result }
     {
         if self.has_failed {
@@ -156,12 +160,14 @@ impl<S: Sink + Drop> Outlet<S> {
     }
 
     /// Writes once from what waits. Returns `None` if it can go on.
-    #[tactic(auto, using(crate::proofs::Outs::on_here, crate::proofs::Outs::on_still, crate::proofs::Outs::on_flushed, crate::proofs::Outs::on_more))]
+    #[tactic(auto, using(crate::proofs::Outs::on_here, crate::proofs::Outs::on_still, crate::proofs::Outs::on_more))]
     fn write_once(&mut self) -> Option<Progress>
         requires { self.old.has_failed ≡ false }
         ensures went { WritesOn self.old self.new }
         ensures goes_on { result ≡ None → self.new.has_failed ≡ false }
+        ensures same { result ≡ None → self.new.blocks ≡ self.old.blocks }
         ensures out { IfSome result (λ progress. WhereOut progress ((self.new.blocks.bytes ≡ []) × (self.new.written ≡ 0))) }
+        ensures stuck { IfSome result (λ progress. WhereStuck progress (self.new.blocks ≡ self.old.blocks)) }
         ensures failed { IfSome result (λ progress. self.new.has_failed ≡ has_failed_by progress) }
     {
         let rest = rest_of(&self.blocks, self.written);
@@ -202,13 +208,31 @@ impl<S: Sink + Drop> Outlet<S> {
         }
     }
 
-    /// Flushes the sink after all that waited was written. If that was much, its memory is given back.
+    /// Flushes the sink after all that waited was written, and drops the blocks once it has.
+    #[tactic(auto, using(crate::proofs::Outs::on_here, crate::proofs::Outs::on_still, crate::proofs::Outs::on_flushed))]
     fn flush(&mut self) -> Progress
-        requires { self.old.has_failed ≡ false }
-        ensures bytes { self.new.blocks.bytes ≡ [] }
-        ensures written { self.new.written ≡ 0 }
-        ensures kept { Keeps self.old.sink self.new.sink }
+        requires well { self.old.has_failed ≡ false }
+        requires all { waiting self.old ≡ [] }
+        ensures went { WritesOn self.old self.new }
+        ensures out { WhereOut result ((self.new.blocks.bytes ≡ []) × (self.new.written ≡ 0)) }
+        ensures stuck { WhereStuck result (self.new.blocks ≡ self.old.blocks) }
         ensures failed { self.new.has_failed ≡ has_failed_by result }
+    {
+        match self.sink.flush() {
+            Ok(()) => {
+                self.clear();
+                Progress::Out
+            }
+            Err(error) if error.kind() == ErrorKind::WouldBlock => Progress::Stuck,
+            Err(error) if error.kind() == ErrorKind::Interrupted => Progress::Stuck,
+            Err(_) => self.fail(),
+        }
+    }
+
+    /// Drops the blocks. If they were many, their memory is given back.
+    fn clear(&mut self)
+        ensures bytes { self.new.blocks.bytes ≡ [] }
+        ensures rest { self.new ≡ record self.old { blocks = self.new.blocks; written = 0 } }
     {
         if self.written > MOST {
             self.blocks = Blocks::new(self.alloc);
@@ -216,12 +240,6 @@ impl<S: Sink + Drop> Outlet<S> {
             self.blocks.clear();
         }
         self.written = 0;
-        match self.sink.flush() {
-            Ok(()) => Progress::Out,
-            Err(error) if error.kind() == ErrorKind::WouldBlock => Progress::Stuck,
-            Err(error) if error.kind() == ErrorKind::Interrupted => Progress::Stuck,
-            Err(_) => self.fail(),
-        }
     }
 
     fn fail(&mut self) -> Progress

@@ -93,21 +93,25 @@ pub enum Taking {
     All,
     /// Nothing now.
     Nothing,
+    /// What is written, but it does not flush it now.
+    Unflushed,
     /// It fails.
     Failing,
     /// What is written, but it fails to bring it to the disk.
     Unsynced,
 }
 
-/// What a sink was given.
+/// What a sink was given. It buffers what is written until it is flushed.
 #[derive(Drop)]
 pub struct Store {
+    /// What was flushed.
     pub bytes: Vec<u8>,
+    buffered: Vec<u8>,
     pub syncs: usize,
     pub taking: Taking,
     /// How many bytes it takes before it takes nothing.
     pub room: usize,
-    /// How many writes and syncs it takes before it fails.
+    /// How many writes, flushes of what is buffered, and syncs it takes before it fails.
     pub calls: usize,
 }
 
@@ -115,6 +119,7 @@ impl Store {
     pub fn new(alloc: Global) -> Store {
         Store {
             bytes: Vec::new(alloc),
+            buffered: Vec::new(alloc),
             syncs: 0,
             taking: Taking::All,
             room: usize::MAX,
@@ -127,6 +132,22 @@ impl Store {
         let fails = self.calls == 0;
         self.calls = self.calls.saturating_sub(1);
         fails
+    }
+
+    /// Flushes what is buffered.
+    fn flush(&mut self) -> io::Result<()> {
+        if self.buffered.is_empty() {
+            return Ok(());
+        }
+        if self.taking == Taking::Unflushed {
+            return Err(io::Error::from(ErrorKind::WouldBlock));
+        }
+        if self.fails() {
+            return Err(io::Error::from(ErrorKind::Other));
+        }
+        self.bytes.extend_from_slice(&self.buffered)?;
+        self.buffered.clear();
+        Ok(())
     }
 }
 
@@ -142,7 +163,7 @@ impl Write for Shared<'_> {
         match store.taking {
             Taking::Nothing => Err(io::Error::from(ErrorKind::WouldBlock)),
             Taking::Failing => Err(io::Error::from(ErrorKind::BrokenPipe)),
-            Taking::All | Taking::Unsynced => {
+            Taking::All | Taking::Unflushed | Taking::Unsynced => {
                 if store.fails() {
                     return Err(io::Error::from(ErrorKind::Other));
                 }
@@ -151,7 +172,7 @@ impl Write for Shared<'_> {
                     return Err(io::Error::from(ErrorKind::WouldBlock));
                 }
                 store
-                    .bytes
+                    .buffered
                     .extend_from_slice(buf.get(..count).unwrap_or(&[]))?;
                 store.room = store.room.saturating_sub(count);
                 Ok(count)
@@ -160,7 +181,10 @@ impl Write for Shared<'_> {
     }
 
     fn flush(&mut self) -> io::Result<()> {
-        Ok(())
+        match self.0.try_borrow_mut() {
+            Ok(mut store) => store.flush(),
+            Err(_) => Err(io::Error::from(ErrorKind::Other)),
+        }
     }
 }
 

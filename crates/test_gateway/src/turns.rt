@@ -129,12 +129,19 @@ fn asks_for_it_in(rt: &impl Abort, host: &HostRuntime, scene: &mut Scene<'_>) ->
     Ok(())
 }
 
-/// While its records are not taken no peer is read, no answer is sent, and no time counts.
+/// While its records are not taken, or not flushed, no peer is read, no answer is sent, and no time counts.
 #[test]
 fn a_sink_that_takes_nothing_holds_all_up(rt: HostRuntime) -> Result<(), Fail> {
-    let store = RefCell::new(Store::new(rt.alloc()));
-    holds_all_up_in(&rt, &rt, &store, &mut Scene::new(&rt, &store, 3)?)?;
-    assert_records(&rt, &store.into_inner());
+    for taking in [Taking::Nothing, Taking::Unflushed] {
+        holds_all_up_by(&rt, &rt, taking)?;
+    }
+    Ok(())
+}
+
+fn holds_all_up_by(rt: &impl Abort, host: &HostRuntime, taking: Taking) -> Result<(), Fail> {
+    let store = RefCell::new(Store::new(host.alloc()));
+    holds_all_up_in(rt, host, &store, &mut Scene::new(host, &store, 3)?, taking)?;
+    assert_records(rt, &store.into_inner());
     Ok(())
 }
 
@@ -143,9 +150,10 @@ fn holds_all_up_in(
     host: &HostRuntime,
     store: &RefCell<Store>,
     scene: &mut Scene<'_>,
+    taking: Taking,
 ) -> Result<(), Fail> {
     let mut peer = scene.peer(host, STREAM.get(..DELIVERED).unwrap_or(&[]))?;
-    set(store, Taking::Nothing);
+    set(store, taking);
     assert!(rt; scene.turns(4, 1).is_ok());
     send(&mut peer, CLOSE)?;
     assert!(rt; scene.turns(40, 1000).is_ok());
@@ -156,10 +164,10 @@ fn holds_all_up_in(
     Ok(())
 }
 
-/// No sender hears of a record that is not written, or not on the disk, at whichever write or sync the sink fails.
+/// No sender hears of a record that is not written, not flushed or not on the disk, at whichever call the sink fails.
 #[test]
 fn a_sink_that_fails_ends_it(rt: HostRuntime) -> Result<(), Fail> {
-    for calls in 0..4 {
+    for calls in 0..6 {
         a_sink_that_fails_behind(&rt, &rt, calls)?;
     }
     Ok(())
@@ -180,8 +188,8 @@ fn a_sink_that_fails_in(
     let mut peer = scene.peer(host, STREAM.get(..ATTACHED).unwrap_or(&[]))?;
     fail_behind(store, calls);
     it_ends(rt, scene, &mut peer, calls)?;
-    assert_eq!(rt; dispositions(host.alloc(), &mut peer)?, calls / 2);
-    assert_eq!(rt; records_in(store)?, calls.div_ceil(2));
+    assert_eq!(rt; dispositions(host.alloc(), &mut peer)?, calls / 3);
+    assert_eq!(rt; records_in(store)?, calls.saturating_add(1) / 3);
     Ok(())
 }
 
@@ -194,7 +202,7 @@ fn it_ends(
     assert!(rt; scene.turns(4, 1).is_ok());
     send(peer, STREAM.get(ATTACHED..FIRST).unwrap_or(&[]))?;
     let first = scene.turns(4, 1);
-    assert_eq!(rt; first.is_err(), calls < 2);
+    assert_eq!(rt; first.is_err(), calls < 3);
     send(peer, STREAM.get(FIRST..DELIVERED).unwrap_or(&[]))?;
     if first.is_ok() {
         assert_eq!(rt; scene.turns(4, 1), Err(GatewayFault::Sink));
@@ -203,11 +211,18 @@ fn it_ends(
     Ok(())
 }
 
-/// After the time of grace it ends also where its records are not taken, and no sender hears of one.
+/// After the time of grace it ends also where its records are not taken, or not flushed, and no sender hears of one.
 #[test]
 fn a_sink_that_takes_nothing_is_not_awaited_at_the_end(rt: HostRuntime) -> Result<(), Fail> {
-    let store = RefCell::new(Store::new(rt.alloc()));
-    is_not_awaited_in(&rt, &rt, &store, &mut Scene::new(&rt, &store, 3)?)
+    for taking in [Taking::Nothing, Taking::Unflushed] {
+        is_not_awaited_by(&rt, &rt, taking)?;
+    }
+    Ok(())
+}
+
+fn is_not_awaited_by(rt: &impl Abort, host: &HostRuntime, taking: Taking) -> Result<(), Fail> {
+    let store = RefCell::new(Store::new(host.alloc()));
+    is_not_awaited_in(rt, host, &store, &mut Scene::new(host, &store, 3)?, taking)
 }
 
 fn is_not_awaited_in(
@@ -215,9 +230,10 @@ fn is_not_awaited_in(
     host: &HostRuntime,
     store: &RefCell<Store>,
     scene: &mut Scene<'_>,
+    taking: Taking,
 ) -> Result<(), Fail> {
     let mut peer = scene.peer(host, STREAM.get(..DELIVERED).unwrap_or(&[]))?;
-    set(store, Taking::Nothing);
+    set(store, taking);
     assert!(rt; scene.turns(4, 1).is_ok());
     scene.gateway.stop();
     assert!(rt; scene.turns(3, 500).is_ok());
@@ -442,7 +458,7 @@ fn give_room(store: &RefCell<Store>, room: usize) {
     }
 }
 
-/// A store fails after this many writes and syncs.
+/// A store fails after this many calls.
 fn fail_behind(store: &RefCell<Store>, calls: usize) {
     if let Ok(mut store) = store.try_borrow_mut() {
         store.calls = calls;

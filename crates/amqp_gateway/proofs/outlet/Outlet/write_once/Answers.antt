@@ -5,13 +5,6 @@ use Rattle.amqp_gateway.specs.Outlets.{OutletState, WritesOn, waiting}
 use Rattle.amqp_gateway.proofs.Outs.{on_here, on_flushed, on_more}
 use Rattle.amqp_gateway.proofs.outlet.Outlet.write_once.Goals as goal
 
-pub returns-then-is_empty-clause-went : goal.returns-then-is_empty-clause-went
-returns-then-is_empty-clause-went g c =
-    let now = c.args.self.now in
-    let none : c.rest_of-rest.result.now ≡ [] = grind (arith, common_steps, c.is_empty.ensures, c.if-is_empty.true) in
-    on_flushed now now c.flush.new.self (on_here now) (subst (λ (s : OutletState). waiting s ≡ []) c.self.view_is (sym c.rest_of-rest.ensures.rest ∙ none))
-    c.flush.ensures.kept c.flush.ensures.bytes c.flush.ensures.written
-
 pub returns-in-Ok-clause-went : goal.returns-in-Ok-clause-went
 returns-in-Ok-clause-went g c =
     let now : OutletState = record { sink = g.S.Write.contents c.self.inside.sink; blocks = c.self.inside.blocks; written = c.self.inside.written; is_fresh = c.self.inside.is_fresh; has_failed = c.self.inside.has_failed } in

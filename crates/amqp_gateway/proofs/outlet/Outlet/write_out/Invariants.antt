@@ -6,4 +6,5 @@ abbrev pub invariant-loop : goal.invariant-loop
 invariant-loop g l = record {
   goes_on : l.self.has_failed ≡ false;
   went : WritesOn l.fn.self l.self;
+  blocks : l.self.blocks ≡ l.fn.self.blocks;
 }
