@@ -80,6 +80,9 @@ pub struct GatewaySettings {
     pub every: u32,
     pub sync: bool,
     pub until_eof: bool,
+    /// How many sessions a peer may have at a time, and how many links each.
+    pub sessions: u32,
+    pub links: u32,
     pub max_frame: u32,
     pub allowed: u32,
     pub max_message: u32,
@@ -122,7 +125,10 @@ fn recv_line<'a>(alloc: Global) -> Result<Command<'a>, AllocError> {
     let recv = recv.arg(number(alloc, "idle", 0, 86400, "0").help(
         "A peer that says nothing, or takes nothing, for so many seconds is left; 0 is never",
     ))?;
-    with_told(alloc, with_bounds(alloc, recv, "65536", "1048576", "2048")?)
+    with_told(
+        alloc,
+        with_bounds(alloc, recv, ["65536", "16", "1048576", "2048"])?,
+    )
 }
 
 /// Makes the option that names where to listen.
@@ -153,18 +159,17 @@ fn with_told<'a>(alloc: Global, line: Command<'a>) -> Result<Command<'a>, AllocE
     ))
 }
 
-/// Adds the limits of what its peers may send, of which these three differ in their defaults.
+/// Adds the limits of what its peers may send, with these defaults in their order.
 fn with_bounds<'a>(
     alloc: Global,
     line: Command<'a>,
-    max_frame: &'a str,
-    max_message: &'a str,
-    window: &'a str,
+    defaults: [&'a str; 4],
 ) -> Result<Command<'a>, AllocError> {
+    let [max_frame, allowed, max_message, window] = defaults;
     let line = line.arg(number(alloc, "max-frame", 512, 1048576, max_frame).help(
         "The longest frame that is accepted, in bytes",
     ))?;
-    let line = line.arg(number(alloc, "allowed", 1, 1024, "16").help(
+    let line = line.arg(number(alloc, "allowed", 1, 1024, allowed).help(
         "The deliveries that a link may have open, and its credit",
     ))?;
     let line = line.arg(number(alloc, "max-message", 1, 1073741824, max_message).help(
@@ -185,7 +190,7 @@ fn gateway_line<'a>(alloc: Global) -> Result<Command<'a>, AllocError> {
     );
     let gateway = gateway.arg(listen_at(alloc))?;
     let gateway = gateway.arg(number(alloc, "open", 1, 65536, "250").help(
-        "How many peers are served at a time; by default each holds at most 4.3 MB, and all 1.07 GB",
+        "How many peers are served at a time; by default each holds at most 4.3 MB, and all 1.08 GB",
     ))?;
     let gateway = gateway.arg(number(alloc, "connections", 0, 4294967295, "0").help(
         "How many are served before it ends; 0 is without end",
@@ -193,8 +198,21 @@ fn gateway_line<'a>(alloc: Global) -> Result<Command<'a>, AllocError> {
     let gateway = gateway.arg(flag(alloc, "until-eof").help(
         "Ends it at the end of standard input",
     ))?;
-    let gateway = with_files(alloc, with_times(alloc, gateway)?)?;
-    with_told(alloc, with_bounds(alloc, gateway, "16384", "65536", "256")?)
+    let gateway = with_places(alloc, with_files(alloc, with_times(alloc, gateway)?)?)?;
+    with_told(
+        alloc,
+        with_bounds(alloc, gateway, ["16384", "8", "32768", "256"])?,
+    )
+}
+
+/// Adds how many sessions and links a peer may have.
+fn with_places<'a>(alloc: Global, gateway: Command<'a>) -> Result<Command<'a>, AllocError> {
+    let gateway = gateway.arg(number(alloc, "sessions", 1, 8, "2").help(
+        "How many sessions a peer may have at a time",
+    ))?;
+    gateway.arg(number(alloc, "links", 1, 64, "8").help(
+        "How many links a session may have at a time",
+    ))
 }
 
 /// Adds the time-outs.
@@ -238,6 +256,8 @@ fn gateway_settings(gateway: &ArgMatches<'_>) -> Option<GatewaySettings> {
         every: gateway.get_one("every")?,
         sync: gateway.get_flag("sync"),
         until_eof: gateway.get_flag("until-eof"),
+        sessions: gateway.get_one("sessions")?,
+        links: gateway.get_one("links")?,
         max_frame: gateway.get_one("max-frame")?,
         allowed: gateway.get_one("allowed")?,
         max_message: gateway.get_one("max-message")?,

@@ -338,9 +338,6 @@ fn seconds(count: u32) -> Option<Duration> {
     }
 }
 
-/// The highest channel and handle that a gateway offers: two sessions of two links each.
-const GATEWAY_MOST: u32 = 1;
-
 /// Serves many peers at a time, with the records in blocks on standard output or at the end of a file. The file is
 /// checked after the listener is had, so that a second program at the same address touches nothing.
 fn serve_many<R: Print + Eprint + Input + Files + Net + Clock + AllocGlobal>(
@@ -451,8 +448,8 @@ fn gateway_config(alloc: Global, settings: GatewaySettings) -> Result<Option<Con
     let Some(config) = Config::checked(
         name,
         settings.max_frame,
-        GATEWAY_MOST,
-        GATEWAY_MOST,
+        settings.sessions.saturating_sub(1),
+        settings.links.saturating_sub(1),
         settings.allowed,
         settings.max_message,
         settings.window,

@@ -9,6 +9,8 @@ mod limits_tests;
 #[cfg(test)]
 mod loopback_tests;
 #[cfg(test)]
+mod places_tests;
+#[cfg(test)]
 mod recv_tests;
 #[cfg(test)]
 mod run_tests;

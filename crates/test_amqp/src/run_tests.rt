@@ -436,12 +436,13 @@ fn host_fed<'a>(alloc: Global, words: &'a [&'a str], input: &'a [u8]) -> Host<'a
     }
 }
 
-/// A host with these words and this file if any, to which a peer comes.
+/// A host with these words and this file if any, to which a peer comes that sends these bytes.
 fn host_called<'a>(
     rt: &'a HostRuntime,
     words: &'a [&'a str],
     file: Option<Bytes<'a>>,
     address: SocketAddr,
+    bytes: &'a [u8],
 ) -> Host<'a> {
     Host {
         alloc: rt.alloc(),
@@ -454,7 +455,7 @@ fn host_called<'a>(
         caller: Some(Caller {
             rt,
             address,
-            bytes: STREAM,
+            bytes,
             stream: RefCell::new(None),
         }),
         out: RefCell::new(String::new(rt.alloc())),
@@ -779,7 +780,7 @@ fn answers_a_command_line(rt: HostRuntime) {
     let alloc = rt.alloc();
     let host = host_of(alloc, &["amqp", "--version"], None);
     assert_ends(&rt, host, ExitCode::SUCCESS, "amqp 0.1.0\n", "");
-    let lines: [&[&str]; 12] = [
+    let lines: [&[&str]; 17] = [
         &["amqp"],
         &["amqp", "records"],
         &["amqp", "records", "a", "--only", "0"],
@@ -792,6 +793,11 @@ fn answers_a_command_line(rt: HostRuntime) {
         &["amqp", "recv", "--listen", "a:1", "--allowed", "0"],
         &["amqp", "recv", "--listen", "a:1", "--connections", "1001"],
         &["amqp", "recv", "--listen", "a:1", "--max-frame", "x"],
+        &["amqp", "gateway", "--listen", "a:1", "--sessions", "0"],
+        &["amqp", "gateway", "--listen", "a:1", "--sessions", "9"],
+        &["amqp", "gateway", "--listen", "a:1", "--links", "0"],
+        &["amqp", "gateway", "--listen", "a:1", "--links", "65"],
+        &["amqp", "gateway", "--listen", "a:1", "--links", "x"],
     ];
     for words in lines {
         let host = host_of(alloc, words, None);
@@ -883,16 +889,16 @@ fn free_port(rt: &HostRuntime) -> io::Result<SocketAddr> {
 }
 
 /// Whether a text has this line.
-fn has_line(text: &str, line: &str) -> bool {
+pub fn has_line(text: &str, line: &str) -> bool {
     text.split('\n').any(|other| other == line)
 }
 
 /// What the program left: how it ended, and what it printed and told.
 #[derive(Drop)]
-struct Left {
-    status: ExitCode,
+pub struct Left {
+    pub status: ExitCode,
     printed: String,
-    told: String,
+    pub told: String,
 }
 
 /// Returns a copy of what a stream took.
@@ -915,20 +921,14 @@ fn ran(host: &Host<'_>) -> io::Result<Left> {
     })
 }
 
-/// Runs the program with these words, to which one peer comes, on a disk whose one file has these bytes.
-fn ran_with<'a>(
-    rt: &'a HostRuntime,
-    words: &'a [&'a str],
-    address: SocketAddr,
-    disk: &'a Disk,
-    bytes: &'a [u8],
+/// Runs a gateway with two words more, to which one peer comes that sends a stream, on a disk whose one file has these bytes.
+fn gateway_heard(
+    rt: &HostRuntime,
+    more: [&str; 2],
+    stream: &[u8],
+    disk: &Disk,
+    bytes: &[u8],
 ) -> io::Result<Left> {
-    let host = host_called(rt, words, kept(disk, bytes), address);
-    ran(&host)
-}
-
-/// Runs a gateway with two words more, to which one peer comes, on a disk whose one file has these bytes.
-fn gateway_ran(rt: &HostRuntime, more: [&str; 2], disk: &Disk, bytes: &[u8]) -> io::Result<Left> {
     let address = free_port(rt)?;
     let at = format!(in rt.alloc(); "{address}")?;
     let words = [
@@ -941,7 +941,30 @@ fn gateway_ran(rt: &HostRuntime, more: [&str; 2], disk: &Disk, bytes: &[u8]) -> 
         more[0],
         more[1],
     ];
-    ran_with(rt, &words, address, disk, bytes)
+    ran_with(rt, &words, address, stream, kept(disk, bytes))
+}
+
+/// Runs the program with these words on this file, to which one peer comes that sends a stream.
+fn ran_with<'a>(
+    rt: &'a HostRuntime,
+    words: &'a [&'a str],
+    address: SocketAddr,
+    stream: &'a [u8],
+    file: Option<Bytes<'a>>,
+) -> io::Result<Left> {
+    let host = host_called(rt, words, file, address, stream);
+    ran(&host)
+}
+
+/// Runs a gateway with two words more, to which the peer comes that sends [`STREAM`].
+fn gateway_ran(rt: &HostRuntime, more: [&str; 2], disk: &Disk, bytes: &[u8]) -> io::Result<Left> {
+    gateway_heard(rt, more, STREAM, disk, bytes)
+}
+
+/// Runs a gateway with two words more, whose file of records is empty, to which a peer comes that sends a stream.
+pub fn gateway_served(rt: &HostRuntime, more: [&str; 2], stream: &[u8]) -> io::Result<Left> {
+    let disk = Disk::new(rt.alloc());
+    gateway_heard(rt, more, stream, &disk, b"")
 }
 
 /// The bound that is told is that of the largest link that a table of limits allows.
@@ -951,8 +974,8 @@ fn a_gateway_tells_the_bound_of_its_limits(rt: HostRuntime) -> Result<(), Fail> 
     let limits = b"telemetry/ 64 4096\nfirmware/ 1 268435456\n";
     let left = gateway_ran(&rt, ["--limits", "a.amqp"], &disk, limits)?;
     assert!(rt; left.status == ExitCode::SUCCESS);
-    // 16384 + 48832 + 4 * (1407 + 268435456 + 96) for a peer, and 250 peers
-    let line = "a peer holds at most 1073813052 bytes, and all together 268453263000";
+    // 16384 + 79552 + 16 * (1407 + 268435456 + 96) for a peer, and 250 peers
+    let line = "a peer holds at most 4295087280 bytes, and all together 1073771820000";
     assert!(rt; has_line(&left.told, line));
     Ok(())
 }
@@ -1008,7 +1031,7 @@ fn pass_to(lines: &mut Split<'_, char>, line: &str) -> bool {
 fn assert_served(rt: &impl Abort, told: &str) {
     let mut lines = told.split('\n');
     for line in [
-        "a peer holds at most 4271292 bytes, and all together 1067823000",
+        "a peer holds at most 4325040 bytes, and all together 1081260000",
         "connection 1: opened by \"a\"",
         "1 0ms <- header id=0 version=1.0.0",
         "1 0ms -> header id=0 version=1.0.0",
@@ -1077,7 +1100,7 @@ fn assert_counted(rt: &impl Abort, text: &str) {
         ("messages_total", 2),
         ("message_bytes_total", 2),
         ("held_bytes", 0),
-        ("held_bytes_bound", 1_067_823_000),
+        ("held_bytes_bound", 1_081_260_000),
         ("longest_turn_milliseconds", 0),
     ] {
         assert_eq!(rt; metric(text, name), Some(value), "{name}");
