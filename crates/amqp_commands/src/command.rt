@@ -123,7 +123,7 @@ fn recv_line<'a>(alloc: Global) -> Result<Command<'a>, AllocError> {
         "How many connections are served, one after the other",
     ))?;
     let recv = recv.arg(number(alloc, "idle", 0, 86400, "0").help(
-        "A peer that says nothing, or takes nothing, for so many seconds is left; 0 is never",
+        "A peer that says nothing, or takes nothing, for so many seconds is dropped; 0 is never",
     ))?;
     with_told(
         alloc,

@@ -194,6 +194,7 @@ impl<S: Sink + Drop> Outlet<S> {
         ensures written { self.new.written ≡ self.old.written }
         ensures kept { Keeps self.old.sink self.new.sink }
         ensures out { WhereOut result (self.new.is_fresh ≡ false) }
+        ensures stuck { WhereStuck result ⊥ }
         ensures failed { self.new.has_failed ≡ has_failed_by result }
     {
         if !self.is_fresh {

@@ -231,6 +231,16 @@ impl<'a> Scene<'a> {
         store: &'a RefCell<Store>,
         open: usize,
     ) -> Result<Scene<'a>, Fail> {
+        Scene::with(rt, store, open, true)
+    }
+
+    /// One with this many peers at a time, which brings records to the disk if `sync` is set.
+    pub fn with(
+        rt: &HostRuntime,
+        store: &'a RefCell<Store>,
+        open: usize,
+        sync: bool,
+    ) -> Result<Scene<'a>, Fail> {
         let alloc = rt.alloc();
         let listener = net::TcpListener::bind(rt, SocketAddr::from((Ipv4Addr::LOCALHOST, 0)))?;
         let address = listener.local_addr()?;
@@ -246,6 +256,7 @@ impl<'a> Scene<'a> {
         let listener = TcpListener::from_std(listener);
         let settings = Settings {
             peers: open,
+            sync,
             ..SETTINGS
         };
         let gateway = Gateway::new(

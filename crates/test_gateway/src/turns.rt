@@ -214,15 +214,30 @@ fn it_ends(
 /// After the time of grace it ends also where its records are not taken, or not flushed, and no sender hears of one.
 #[test]
 fn a_sink_that_takes_nothing_is_not_awaited_at_the_end(rt: HostRuntime) -> Result<(), Fail> {
-    for taking in [Taking::Nothing, Taking::Unflushed] {
-        is_not_awaited_by(&rt, &rt, taking)?;
+    for (taking, sync) in [
+        (Taking::Nothing, true),
+        (Taking::Unflushed, true),
+        (Taking::Unflushed, false),
+    ] {
+        is_not_awaited_by(&rt, &rt, taking, sync)?;
     }
     Ok(())
 }
 
-fn is_not_awaited_by(rt: &impl Abort, host: &HostRuntime, taking: Taking) -> Result<(), Fail> {
+fn is_not_awaited_by(
+    rt: &impl Abort,
+    host: &HostRuntime,
+    taking: Taking,
+    sync: bool,
+) -> Result<(), Fail> {
     let store = RefCell::new(Store::new(host.alloc()));
-    is_not_awaited_in(rt, host, &store, &mut Scene::new(host, &store, 3)?, taking)
+    is_not_awaited_in(
+        rt,
+        host,
+        &store,
+        &mut Scene::with(host, &store, 3, sync)?,
+        taking,
+    )
 }
 
 fn is_not_awaited_in(

@@ -1,8 +1,8 @@
-use Rattle.std.proofs.Common.{arith, ap, refl, sym, subst, ◌≡◌, ◌∙◌, ◌<◌, ◌≤◌, ◌^◌, ◌-◌, length, take, List, [], ℕ, true}
+use Rattle.std.proofs.Common.{arith, ap, refl, subst, ◌<◌, length, take, List, ℕ, true}
 use Rattle.std.proofs.lemmas.Grind.{common_steps}
 use Rattle.std.specs.Io.KnownBytes.{Appends}
-use Rattle.amqp_gateway.specs.Outlets.{OutletState, WritesOn, waiting}
-use Rattle.amqp_gateway.proofs.Outs.{on_here, on_flushed, on_more}
+use Rattle.amqp_gateway.specs.Outlets.{OutletState, WritesOn}
+use Rattle.amqp_gateway.proofs.Outs.{on_here, on_more}
 use Rattle.amqp_gateway.proofs.outlet.Outlet.write_once.Goals as goal
 
 pub returns-in-Ok-clause-went : goal.returns-in-Ok-clause-went

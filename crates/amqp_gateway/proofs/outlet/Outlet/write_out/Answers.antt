@@ -1,4 +1,4 @@
-use Rattle.std.proofs.Common.{◌≡◌, ◌∙◌, false}
+use Rattle.std.proofs.Common.{◌∙◌}
 use Rattle.amqp_gateway.proofs.Outs.{on_and_on}
 use Rattle.amqp_gateway.proofs.outlet.Outlet.write_out.Goals as goal
 
