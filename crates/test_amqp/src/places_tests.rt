@@ -10,25 +10,26 @@ use std::test::Fail;
 const OPEN: &[u8] =
     b"AMQP\x00\x01\x00\x00\x00\x00\x00\x11\x02\x00\x00\x00\x00\x53\x10\xc0\x04\x01\xa1\x01\x61";
 
-/// A begin, up to its channel and after that.
-const BEGIN: (&[u8], &[u8]) = (
-    b"\x00\x00\x00\x14\x02\x00\x00",
-    b"\x00\x53\x11\xc0\x07\x04\x40\x43\x52\x64\x52\x64",
-);
+/// A begin, an attach of a sender, and a message of one byte, on channel 0 and with handle and id 0.
+const BEGIN: [u8; 20] =
+    *b"\x00\x00\x00\x14\x02\x00\x00\x00\x00\x53\x11\xc0\x07\x04\x40\x43\x52\x64\x52\x64";
 
-/// An attach on channel 0 of a sender, up to its name of one byte, between that and the handle, and after that.
-const ATTACH: (&[u8], &[u8], &[u8]) = (
-    b"\x00\x00\x00\x21\x02\x00\x00\x00\x00\x53\x12\xc0\x14\x0a\xa1\x01",
-    b"\x52",
-    b"\x42\x40\x40\x00\x53\x28\x45\x00\x53\x29\x45\x40\x40\x43",
-);
+const ATTACH: [u8; 33] =
+    *b"\x00\x00\x00\x21\x02\x00\x00\x00\x00\x53\x12\xc0\x14\x0a\xa1\x01a\x52\x00\x42\x40\x40\x00\x53\x28\x45\x00\x53\x29\x45\x40\x40\x43";
 
-/// A message of one byte on channel 0, up to the handle of its link, between that and its id, and after that.
-const TRANSFER: (&[u8], &[u8], &[u8]) = (
-    b"\x00\x00\x00\x16\x02\x00\x00\x00\x00\x53\x14\xc0\x08\x03\x52",
-    b"\x52",
-    b"\xa0\x01\x74x",
-);
+const TRANSFER: [u8; 22] =
+    *b"\x00\x00\x00\x16\x02\x00\x00\x00\x00\x53\x14\xc0\x08\x03\x52\x00\x52\x00\xa0\x01tx";
+
+/// Where the channel is in a begin, name and handle in an attach, and handle and id in a transfer.
+const CHANNEL: usize = 7;
+
+const NAME: usize = 16;
+
+const HANDLE: usize = 18;
+
+const OF_LINK: usize = 15;
+
+const ID: usize = 17;
 
 const CLOSE: &[u8] = b"\x00\x00\x00\x0c\x02\x00\x00\x00\x00\x53\x18\x45";
 
@@ -38,23 +39,21 @@ fn stream_of(alloc: Global, sessions: u8, links: u8) -> io::Result<Vec<u8>> {
     let mut stream = Vec::new(alloc);
     stream.extend_from_slice(OPEN)?;
     for channel in 0..sessions {
-        stream.extend_from_slice(BEGIN.0)?;
-        stream.push(channel)?;
-        stream.extend_from_slice(BEGIN.1)?;
+        let mut begin = BEGIN;
+        begin[CHANNEL] = channel;
+        stream.extend_from_slice(&begin)?;
     }
     for handle in 0..links {
-        stream.extend_from_slice(ATTACH.0)?;
-        stream.push(b'a'.saturating_add(handle % 26))?;
-        stream.extend_from_slice(ATTACH.1)?;
-        stream.push(handle)?;
-        stream.extend_from_slice(ATTACH.2)?;
+        let mut attach = ATTACH;
+        attach[NAME] = b'a'.saturating_add(handle % 26);
+        attach[HANDLE] = handle;
+        stream.extend_from_slice(&attach)?;
     }
     for handle in 0..links {
-        stream.extend_from_slice(TRANSFER.0)?;
-        stream.push(handle)?;
-        stream.extend_from_slice(TRANSFER.1)?;
-        stream.push(handle)?;
-        stream.extend_from_slice(TRANSFER.2)?;
+        let mut transfer = TRANSFER;
+        transfer[OF_LINK] = handle;
+        transfer[ID] = handle;
+        stream.extend_from_slice(&transfer)?;
     }
     stream.extend_from_slice(CLOSE)?;
     Ok(stream)
