@@ -13,7 +13,7 @@ use std::alloc::Global;
 /// Takes bytes of the peer, up to the end of one unit at most. `fed` says what they resulted in. Returns `OK`, or
 /// `NO_ENDPOINT` with `fed` unchanged.
 #[unsafe(no_mangle)]
-pub extern "C" fn wule_feed(
+pub extern "C" fn wuleshomia_feed(
     alloc: Global,
     endpoint: &mut EndpointHandle,
     bytes: &[u8],
@@ -32,7 +32,7 @@ pub extern "C" fn wule_feed(
 
 /// Moves bytes for the peer into `room`, and returns how many: 0 if the handle holds no endpoint.
 #[unsafe(no_mangle)]
-pub extern "C" fn wule_output(
+pub extern "C" fn wuleshomia_output(
     alloc: Global,
     endpoint: &mut EndpointHandle,
     room: &mut [u8],
@@ -96,7 +96,11 @@ pub extern "C" fn wule_heartbeat(alloc: Global, endpoint: &mut EndpointHandle) -
 /// Ends the input, and returns the code of how the connection stood then; 0 if the handle holds no endpoint. If
 /// bytes of a unit waited, code 3, `inside` says how many; else it is unchanged.
 #[unsafe(no_mangle)]
-pub extern "C" fn wule_finish(alloc: Global, endpoint: &mut EndpointHandle, inside: &mut u64) -> u32
+pub extern "C" fn wuleshomia_finish(
+    alloc: Global,
+    endpoint: &mut EndpointHandle,
+    inside: &mut u64,
+) -> u32
     ensures done { Did endpoint.old.held endpoint.new.held (λ before after. Makes Finish (Ended (end_at result inside.new)) before after × (0 < result)) (result ≡ 0) }
     ensures code { result < 5 }
     ensures kept { (result ≡ 3 → ⊥) → inside.new ≡ inside.old }

@@ -1,7 +1,7 @@
 //! The receiving endpoint for C: a static library of exports alone. Begin reading with its header,
 //! `c/wuleshomia.h`, which says what each does.
 //!
-//! C holds an [`handle::EndpointHandle`], sixteen bytes that are all zero before [`opening::wule_open`] and after
+//! C holds an [`handle::EndpointHandle`], sixteen bytes that are all zero before [`opening::wuleshomia_open`] and after
 //! [`opening::wule_free`]. If it holds no endpoint, an export does nothing and says so. If it holds one, an export
 //! makes exactly its call of the endpoint. No export lends bytes to C or keeps bytes of C's.
 //!

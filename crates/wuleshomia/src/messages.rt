@@ -12,10 +12,10 @@ use amqp_link::{Message, Taken};
 use std::alloc::Global;
 
 /// Takes the first ready message of a link, and copies its first bytes into `room`, as many as fit.
-/// [`wule_message_read`] gives the others, until the next take. Returns `OK`, the code of a refusal, or
+/// [`wuleshomia_message_read`] gives the others, until the next take. Returns `OK`, the code of a refusal, or
 /// `NO_ENDPOINT`; `taken` and `room` change only at `OK`.
 #[unsafe(no_mangle)]
-pub extern "C" fn wule_take(
+pub extern "C" fn wuleshomia_take(
     alloc: Global,
     endpoint: &mut EndpointHandle,
     channel: u32,
@@ -59,7 +59,7 @@ pub extern "C" fn wule_take(
 
 /// Copies bytes of the message that was taken last, from `at` on, as many as fit, and returns how many.
 #[unsafe(no_mangle)]
-pub extern "C" fn wule_message_read(
+pub extern "C" fn wuleshomia_message_read(
     alloc: Global,
     endpoint: &mut EndpointHandle,
     at: usize,

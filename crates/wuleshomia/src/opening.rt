@@ -26,7 +26,7 @@ pub extern "C" fn wule_version() -> u32
 /// Sets an endpoint up, with these settings, this container-id and this table of limits. Returns `OK`, or the code
 /// of a refusal: the handle is unchanged then, and if a row of the limits is at fault, `row` says which.
 #[unsafe(no_mangle)]
-pub extern "C" fn wule_open(
+pub extern "C" fn wuleshomia_open(
     alloc: Global,
     endpoint: &mut EndpointHandle,
     settings: &Settings,

@@ -13,14 +13,14 @@ use std::alloc::Global;
 
 /// Serves a piece of what the peer sent, up to the end of one unit, which is acted upon. A message that is ready
 /// then is taken, recorded, and settled unless its sender settled it. What lacks something by the rule is topped
-/// up. The answers and the records then wait to be moved out, by [`crate::bytes::wule_output`] and
-/// [`wule_records`], before the next step.
+/// up. The answers and the records then wait to be moved out, by [`crate::bytes::wuleshomia_output`] and
+/// [`wuleshomia_records`], before the next step.
 ///
 /// If an answer or a record was lost before, or bytes still wait, the step is refused and nothing changes. The
 /// code and `step` say what a step that was made resulted in. Returns `BAD_OUTCOME` or `NO_ENDPOINT` without
 /// making one.
 #[unsafe(no_mangle)]
-pub extern "C" fn wule_serve_step(
+pub extern "C" fn wuleshomia_serve_step(
     alloc: Global,
     endpoint: &mut EndpointHandle,
     rule: &ServeRule,
@@ -50,7 +50,7 @@ pub extern "C" fn wule_serve_step(
 
 /// Moves records of the last step into `room`, and returns how many bytes: 0 if the handle holds no endpoint.
 #[unsafe(no_mangle)]
-pub extern "C" fn wule_records(
+pub extern "C" fn wuleshomia_records(
     alloc: Global,
     endpoint: &mut EndpointHandle,
     room: &mut [u8],

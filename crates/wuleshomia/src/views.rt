@@ -52,7 +52,7 @@ pub extern "C" fn wule_window(
 /// Stores the state of a link in `link`, and the first bytes of its name in `name`, as many as fit.
 /// Returns `OK`, `NO_LINK` or `NO_ENDPOINT`; both change only at `OK`.
 #[unsafe(no_mangle)]
-pub extern "C" fn wule_link(
+pub extern "C" fn wuleshomia_link(
     alloc: Global,
     endpoint: &mut EndpointHandle,
     channel: u32,
@@ -101,7 +101,7 @@ fn count_of(bytes: &[u8]) -> u32
 /// Copies the first bytes of a link's source, as its attach spells it, as many as fit. Returns
 /// `OK`, `NO_LINK` or `NO_ENDPOINT`; `room` changes only at `OK`.
 #[unsafe(no_mangle)]
-pub extern "C" fn wule_link_source(
+pub extern "C" fn wuleshomia_link_source(
     alloc: Global,
     endpoint: &mut EndpointHandle,
     channel: u32,
@@ -116,7 +116,7 @@ pub extern "C" fn wule_link_source(
 /// Copies the first bytes of a link's target, as its attach spells it, as many as fit. Returns
 /// `OK`, `NO_LINK` or `NO_ENDPOINT`; `room` changes only at `OK`.
 #[unsafe(no_mangle)]
-pub extern "C" fn wule_link_target(
+pub extern "C" fn wuleshomia_link_target(
     alloc: Global,
     endpoint: &mut EndpointHandle,
     channel: u32,
