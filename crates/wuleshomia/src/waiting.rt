@@ -1,6 +1,8 @@
 //! Bytes that wait in memory until their host moves them out.
-ghost use Rattle.std.specs.Prelude.{◌≡◌, ◌==◌, ◌++◌, ◌^◌, ◌-◌, [], min, length, take, drop, Some};
-ghost use Rattle.wuleshomia.specs.Waiting.{gathered};
+ghost use Rattle.std.specs.Prelude.{◌≡◌, ◌==◌, ◌++◌, ◌^◌, ◌-◌, [], min, length, take, drop, Some, IfOk, OnErr, IsOk};
+ghost use Rattle.std.specs.Io.{WritesAtMost};
+ghost use Rattle.std.specs.Io.KnownBytes.{Keeps, WriteAppends};
+ghost use Rattle.wuleshomia.specs.Waiting.{gathered, NeedsMemory};
 
 use amqp_frame::HoldsBack;
 use std::alloc::Global;
@@ -99,11 +101,21 @@ impl Gathered {
 impl Write for Gathered {
     ghost contents = { λ w. Some (gathered w) };
 
-    fn write(&mut self, buf: &[u8]) -> io::Result<usize> {
-        self.bytes.write(buf)
+    /// Writes all bytes, or none if memory for them is refused.
+    fn write(&mut self, buf: &[u8]) -> io::Result<usize>
+        ensures bound { WritesAtMost result buf.now }
+        ensures bytes { WriteAppends (Some (gathered self.old)) (Some (gathered self.new)) result buf.now }
+        ensures all { IfOk result (λ n. n ≡ length buf.now) }
+        ensures refused { OnErr result (NeedsMemory self.old buf.now) }
+    {
+        self.bytes.extend_from_slice(buf)?;
+        Ok(buf.len())
     }
 
-    fn flush(&mut self) -> io::Result<()> {
+    fn flush(&mut self) -> io::Result<()>
+        ensures bytes { Keeps (Some (gathered self.old)) (Some (gathered self.new)) }
+        ensures ok { IsOk result }
+    {
         Ok(())
     }
 }
