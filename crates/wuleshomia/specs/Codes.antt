@@ -1,5 +1,5 @@
 -- What the numbers that C and the library exchange stand for.
-use Rattle.std.specs.Prelude.{◌≡◌, ◌<◌, ◌⊎◌, ℕ, true, false, nat_eq, if◌then◌else◌, Option, None, Some, Result, Ok, Err}
+use Rattle.std.specs.Prelude.{◌≡◌, ℕ, true, false, nat_eq, if◌then◌else◌, Option, None, Some, Result, Ok, Err}
 use Rattle.amqp_perform.specs.declared.condition.Condition.{Condition}
 use Rattle.amqp_perform.specs.declared.condition.Condition.TheVariants as condition
 use Rattle.amqp_perform.specs.declared.outcome.Outcome.{Outcome as Settlement}
@@ -30,7 +30,7 @@ use Rattle.wuleshomia.specs.declared.data.StepReport.{StepReport}
 
 -- Calls. --------------------------------------------------------------------------------------------------------------
 
--- the fault that a code stands for
+-- The fault that a code stands for. Numbers that are no code never come: see `answer_code`.
 abbrev pub fault_at : ℕ → CallFault
 fault_at n =
     if nat_eq n 1 then fault.Dead
@@ -61,9 +61,10 @@ fault_code fault.TooMuchCredit = 10
 fault_code fault.WindowTooWide = 11
 fault_code fault.Full = 12
 
--- the codes of a call of the endpoint: OK, a fault's code, or that there is no endpoint
-abbrev pub IsCallCode : ℕ → Type 0
-IsCallCode code = (code < 13) ⊎ (code ≡ 20)
+-- the code of a call's answer: 0, or that of the fault for which it was refused
+abbrev pub answer_code : Answer → ℕ
+answer_code (Refused f) = fault_code f
+answer_code answer = 0
 
 -- the answer that the code of a call that gives nothing stands for
 abbrev pub accepted_at : ℕ → Answer

@@ -1,7 +1,8 @@
 -- What the exports do to the endpoint that C holds, and what they return.
-use Rattle.std.specs.Prelude.{◌≡◌, ◌<◌, ℕ, Bool, true, false, nat_eq, nat_le, if◌then◌else◌, List, [], ◌∷◌, ◌++◌, length, take, drop, min, Option, None, Some}
+use Rattle.std.specs.Prelude.{◌≡◌, ◌<◌, ◌≤◌, ℕ, Bool, true, false, nat_eq, nat_le, if◌then◌else◌, List, [], ◌∷◌, ◌++◌, length, take, drop, min, Option, None, Some}
 use Rattle.std.specs.Str.{IsUtf8}
 use Rattle.amqp_link.specs.Links.{open_count}
+use Rattle.amqp_link.specs.Tags.{padded}
 use Rattle.amqp_session.specs.declared.slot.Slot.{Slot}
 use Rattle.amqp_session.specs.declared.slot.Slot.TheVariants.{Free, Live, Waits}
 use Rattle.amqp_session.specs.declared.view.LinkView.{LinkView}
@@ -19,7 +20,7 @@ use Rattle.wuleshomia.specs.declared.data.TakenReport.{TakenReport}
 use Rattle.wuleshomia.specs.declared.held.Held.{Held}
 use Rattle.wuleshomia.specs.declared.views.Terminus.{Terminus}
 use Rattle.wuleshomia.specs.declared.views.Terminus.TheVariants as terminus
-use Rattle.wuleshomia.specs.Codes.{fault_at}
+use Rattle.wuleshomia.specs.Codes.{fault_at, answer_code}
 
 -- What happens. -------------------------------------------------------------------------------------------------------
 
@@ -34,6 +35,11 @@ Did (Some before) (Some after) Happens NoEndpoint = Happens before after
 pub record Makes (call : Call) (answer : Answer) (before after : Held) : Type 0 where
   pub rest : after ≡ record before { endpoint = after.endpoint }
   pub does : Does before.endpoint after.endpoint call answer
+
+-- its endpoint makes this call with this answer, of which this is the code
+pub record Answers (call : Call) (answer : Answer) (code : ℕ) (before after : Held) : Type 0 where
+  pub makes : Makes call answer before after
+  pub told : code ≡ answer_code answer
 
 -- Bytes for the peer. -------------------------------------------------------------------------------------------------
 
@@ -120,9 +126,13 @@ message_in (Some held) = bytes_in held.message
 abbrev pub without_message : Held → Held
 without_message held = record held { message = None }
 
+-- the tag in a report
+abbrev pub tag_at : TakenReport → List ℕ
+tag_at t = take t.tag_len t.tag
+
 -- what a take handed up
 abbrev pub handed_at : TakenReport → List ℕ → Answer
-handed_at t message = HandedUp (record { delivery_id = t.id; delivery_tag = take t.tag_len t.tag; message_format = t.format; settled = nat_eq t.settled 1; message = message })
+handed_at t message = HandedUp (record { delivery_id = t.id; delivery_tag = tag_at t; message_format = t.format; settled = nat_eq t.settled 1; message = message })
 
 -- A message is taken, and replaces the one before it. Or the take is refused, and nothing has changed except bytes of the endpoint's buffer that do not count.
 pub record IsTaken (channel handle : ℕ) (t : TakenReport) (before after : Held) : Type 0 where
@@ -131,10 +141,14 @@ pub record IsTaken (channel handle : ℕ) (t : TakenReport) (before after : Held
   pub does : Does before.endpoint after.endpoint (InSession channel (Take handle)) (handed_at t (bytes_in after.message))
   pub len : t.len ≡ length (bytes_in after.message)
   pub settled : t.settled < 2
+  -- the tag's length, and 0 in the bytes after the tag
+  pub tag_len : t.tag_len ≡ length (tag_at t)
+  pub tag_most : t.tag_len ≤ 32
+  pub tag_rest : t.tag ≡ padded (tag_at t)
 
 abbrev pub TakesIf : Bool → ℕ → ℕ → ℕ → TakenReport → Held → Held → Type 0
 TakesIf true code channel handle t before after = IsTaken channel handle t before after
-TakesIf false code channel handle t before after = Makes (InSession channel (Take handle)) (Refused (fault_at code)) before after
+TakesIf false code channel handle t before after = Answers (InSession channel (Take handle)) (Refused (fault_at code)) code before after
 
 abbrev pub Takes : ℕ → ℕ → ℕ → TakenReport → Held → Held → Type 0
 Takes code channel handle t before after = TakesIf (nat_eq code 0) code channel handle t before after

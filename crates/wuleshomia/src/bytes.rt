@@ -2,8 +2,8 @@
 ghost use Rattle.std.specs.Prelude.{◌≡◌, ◌<◌, ◌++◌, nat_lt, min, length, take, drop, if◌then◌else◌};
 ghost use Rattle.amqp_endpoint.specs.Connections.{is_dead};
 ghost use Rattle.amqp_endpoint.specs.Runs.{Feed, Fed, Close, Heartbeat, Finish, Ended};
-ghost use Rattle.wuleshomia.specs.Codes.{accepted_at, dropped_at, end_at, outcome_at, IsAllTold, IsCallCode};
-ghost use Rattle.wuleshomia.specs.Exports.{Did, Makes, Moves, waiting_in};
+ghost use Rattle.wuleshomia.specs.Codes.{accepted_at, dropped_at, end_at, outcome_at, IsAllTold};
+ghost use Rattle.wuleshomia.specs.Exports.{Did, Makes, Answers, Moves, waiting_in};
 
 use crate::codes::{NO_ENDPOINT, OK, of_count, of_done, of_end, of_fed};
 use crate::data::FedReport;
@@ -67,8 +67,7 @@ pub extern "C" fn wule_has_output(alloc: Global, endpoint: &mut EndpointHandle) 
 /// a refusal, or `NO_ENDPOINT`; `dropped` changes only at `OK`.
 #[unsafe(no_mangle)]
 pub extern "C" fn wule_close(alloc: Global, endpoint: &mut EndpointHandle, dropped: &mut u32) -> u32
-    ensures done { Did endpoint.old.held endpoint.new.held (Makes Close (dropped_at result dropped.new)) (result ≡ 20) }
-    ensures code { IsCallCode result }
+    ensures done { Did endpoint.old.held endpoint.new.held (Answers Close (dropped_at result dropped.new) result) (result ≡ 20) }
     ensures kept { 0 < result → dropped.new ≡ dropped.old }
 {
     let Some(mut held) = endpoint.take(alloc) else {
@@ -82,8 +81,7 @@ pub extern "C" fn wule_close(alloc: Global, endpoint: &mut EndpointHandle, dropp
 /// Writes an empty frame. Returns `OK`, the code of a refusal, or `NO_ENDPOINT`.
 #[unsafe(no_mangle)]
 pub extern "C" fn wule_heartbeat(alloc: Global, endpoint: &mut EndpointHandle) -> u32
-    ensures done { Did endpoint.old.held endpoint.new.held (Makes Heartbeat (accepted_at result)) (result ≡ 20) }
-    ensures code { IsCallCode result }
+    ensures done { Did endpoint.old.held endpoint.new.held (Answers Heartbeat (accepted_at result) result) (result ≡ 20) }
 {
     let Some(mut held) = endpoint.take(alloc) else {
         return NO_ENDPOINT;

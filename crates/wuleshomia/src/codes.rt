@@ -4,7 +4,7 @@ ghost use Rattle.amqp_endpoint.specs.Endpoints.{accepted_by, dropped_by, named_b
 ghost use Rattle.amqp_endpoint.specs.declared.event.Event.TheVariants as event;
 ghost use Rattle.amqp_endpoint.specs.declared.event.Outcome.TheVariants as outcome;
 ghost use Rattle.amqp_perform.specs.declared.outcome.Outcome.TheVariants as settlement;
-ghost use Rattle.wuleshomia.specs.Codes.{fault_at, fault_code, accepted_at, dropped_at, named_at, Found, settlement_at, condition_at, outcome_at, end_at, open_fault_at, receipt_at, done_at, lost_code, IsDoneAs, condition_code, failure_report, report_of_event, report_of, report_of_receipt, IsAllTold, IsStepTold};
+ghost use Rattle.wuleshomia.specs.Codes.{fault_at, fault_code, answer_code, accepted_at, dropped_at, named_at, Found, settlement_at, condition_at, outcome_at, end_at, open_fault_at, receipt_at, done_at, lost_code, IsDoneAs, condition_code, failure_report, report_of_event, report_of, report_of_receipt, IsAllTold, IsStepTold};
 
 use crate::data::{FedReport, StepReport};
 use amqp_endpoint::{CallFault, End, Event, Fed, LimitFault, Outcome, Scope};
@@ -81,7 +81,6 @@ pub fn of_fault(fault: CallFault) -> u32
     ensures code { result ≡ fault_code fault }
     ensures fault { fault_at result ≡ fault }
     ensures some { 0 < result }
-    ensures few { result < 13 }
 {
     match fault {
         CallFault::Dead => 1,
@@ -102,7 +101,7 @@ pub fn of_fault(fault: CallFault) -> u32
 /// Returns the code of a call that gives nothing.
 pub fn of_done(done: Result<(), CallFault>) -> u32
     ensures accepted { accepted_at result ≡ accepted_by done }
-    ensures few { result < 13 }
+    ensures code { result ≡ answer_code (accepted_by done) }
 {
     match done {
         Ok(()) => OK,
@@ -114,8 +113,9 @@ pub fn of_done(done: Result<(), CallFault>) -> u32
 pub fn of_count(given: Result<u32, CallFault>, count: &mut u32) -> u32
     ensures dropped { dropped_at result count.new ≡ dropped_by given }
     ensures named { named_at result count.new ≡ named_by given }
+    ensures dropped_code { result ≡ answer_code (dropped_by given) }
+    ensures named_code { result ≡ answer_code (named_by given) }
     ensures kept { 0 < result → count.new ≡ count.old }
-    ensures few { result < 13 }
 {
     match given {
         Ok(number) => {

@@ -1,7 +1,7 @@
 //! Messages.
 ghost use Rattle.std.specs.Prelude.{◌≡◌, ◌<◌, ◌≤◌, ◌+◌, ◌-◌, ◌++◌, min, length, take, drop};
 ghost use Rattle.std.specs.Option.{option_map};
-ghost use Rattle.wuleshomia.specs.Codes.{IsCallCode};
+ghost use Rattle.amqp_link.specs.Tags.{padded};
 ghost use Rattle.wuleshomia.specs.Exports.{Did, Takes, message_in, without_message, IsCopied};
 
 use crate::codes::{NO_ENDPOINT, OK, of_fault};
@@ -24,7 +24,6 @@ pub extern "C" fn wuleshomia_take(
     room: &mut [u8],
 ) -> u32
     ensures took { Did endpoint.old.held endpoint.new.held (Takes result (min channel 65535) handle taken.new) (result ≡ 20) }
-    ensures code { IsCallCode result }
     ensures bytes { result ≡ 0 → IsCopied (message_in endpoint.new.held) room.old room.new }
     ensures kept { 0 < result → (taken.new ≡ taken.old) × (room.new ≡ room.old) }
 {
@@ -46,7 +45,7 @@ pub extern "C" fn wuleshomia_take(
             taken.settled = if settled { 1 } else { 0 };
             let tag = delivery_tag.as_bytes();
             taken.tag_len = tag.len() as u32;
-            taken.tag[..tag.len()].copy_from_slice(tag);
+            taken.tag = padded(tag);
             let _ = read(&message, 0, room);
             held.as_mut().message = Some(message);
             OK
@@ -89,6 +88,16 @@ pub extern "C" fn wule_message_drop(alloc: Global, endpoint: &mut EndpointHandle
         held.as_mut().message = None;
         endpoint.put_back(alloc, held);
     }
+}
+
+/// Returns a tag in its room. The bytes after it are 0.
+fn padded(tag: &[u8]) -> [u8; 32]
+    requires { length tag.now ≤ 32 }
+    ensures { result ≡ padded tag.now }
+{
+    let mut room = [0; 32];
+    room[..tag.len()].copy_from_slice(tag);
+    room
 }
 
 /// Copies the bytes of a message from `at` on, as many as there is room for, and returns how many.

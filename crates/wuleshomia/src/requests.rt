@@ -1,9 +1,9 @@
 //! What an application requests of a session and its links.
-ghost use Rattle.std.specs.Prelude.{◌≡◌, ◌<◌, ◌⊎◌, min, MatchOption};
+ghost use Rattle.std.specs.Prelude.{◌≡◌, ◌<◌, min, MatchOption};
 ghost use Rattle.amqp_session.specs.Calls.{Widen, Grant, Drain, Settle, SettleRange, Detach};
 ghost use Rattle.amqp_endpoint.specs.Runs.{InSession};
-ghost use Rattle.wuleshomia.specs.Codes.{accepted_at, dropped_at, named_at, settlement_at, IsCallCode};
-ghost use Rattle.wuleshomia.specs.Exports.{Did, Makes};
+ghost use Rattle.wuleshomia.specs.Codes.{accepted_at, dropped_at, named_at, settlement_at};
+ghost use Rattle.wuleshomia.specs.Exports.{Did, Answers};
 
 use crate::codes::{BAD_OUTCOME, NO_ENDPOINT, of_count, of_done, settlement};
 use crate::handle::EndpointHandle;
@@ -25,8 +25,7 @@ pub extern "C" fn wule_grant(
     handle: u32,
     n: u32,
 ) -> u32
-    ensures done { Did endpoint.old.held endpoint.new.held (Makes (InSession (min channel 65535) (Grant handle n)) (accepted_at result)) (result ≡ 20) }
-    ensures code { IsCallCode result }
+    ensures done { Did endpoint.old.held endpoint.new.held (Answers (InSession (min channel 65535) (Grant handle n)) (accepted_at result) result) (result ≡ 20) }
 {
     let Some(mut held) = endpoint.take(alloc) else {
         return NO_ENDPOINT;
@@ -45,8 +44,7 @@ pub extern "C" fn wule_widen(
     channel: u32,
     n: u32,
 ) -> u32
-    ensures done { Did endpoint.old.held endpoint.new.held (Makes (InSession (min channel 65535) (Widen n)) (accepted_at result)) (result ≡ 20) }
-    ensures code { IsCallCode result }
+    ensures done { Did endpoint.old.held endpoint.new.held (Answers (InSession (min channel 65535) (Widen n)) (accepted_at result) result) (result ≡ 20) }
 {
     let Some(mut held) = endpoint.take(alloc) else {
         return NO_ENDPOINT;
@@ -65,8 +63,7 @@ pub extern "C" fn wule_drain(
     channel: u32,
     handle: u32,
 ) -> u32
-    ensures done { Did endpoint.old.held endpoint.new.held (Makes (InSession (min channel 65535) (Drain handle)) (accepted_at result)) (result ≡ 20) }
-    ensures code { IsCallCode result }
+    ensures done { Did endpoint.old.held endpoint.new.held (Answers (InSession (min channel 65535) (Drain handle)) (accepted_at result) result) (result ≡ 20) }
 {
     let Some(mut held) = endpoint.take(alloc) else {
         return NO_ENDPOINT;
@@ -86,8 +83,7 @@ pub extern "C" fn wule_settle(
     id: u32,
     outcome: u32,
 ) -> u32
-    ensures done { MatchOption (settlement_at outcome) ((result ≡ 27) × (endpoint.new.held ≡ endpoint.old.held)) (λ o. Did endpoint.old.held endpoint.new.held (Makes (InSession (min channel 65535) (Settle id o)) (accepted_at result)) (result ≡ 20)) }
-    ensures code { IsCallCode result ⊎ (result ≡ 27) }
+    ensures done { MatchOption (settlement_at outcome) ((result ≡ 27) × (endpoint.new.held ≡ endpoint.old.held)) (λ o. Did endpoint.old.held endpoint.new.held (Answers (InSession (min channel 65535) (Settle id o)) (accepted_at result) result) (result ≡ 20)) }
 {
     let Some(outcome) = settlement(outcome) else {
         return BAD_OUTCOME;
@@ -112,8 +108,7 @@ pub extern "C" fn wule_settle_range(
     outcome: u32,
     named: &mut u32,
 ) -> u32
-    ensures done { MatchOption (settlement_at outcome) ((result ≡ 27) × (endpoint.new.held ≡ endpoint.old.held)) (λ o. Did endpoint.old.held endpoint.new.held (Makes (InSession (min channel 65535) (SettleRange first last o)) (named_at result named.new)) (result ≡ 20)) }
-    ensures code { IsCallCode result ⊎ (result ≡ 27) }
+    ensures done { MatchOption (settlement_at outcome) ((result ≡ 27) × (endpoint.new.held ≡ endpoint.old.held)) (λ o. Did endpoint.old.held endpoint.new.held (Answers (InSession (min channel 65535) (SettleRange first last o)) (named_at result named.new) result) (result ≡ 20)) }
     ensures kept { 0 < result → named.new ≡ named.old }
 {
     let Some(outcome) = settlement(outcome) else {
@@ -142,8 +137,7 @@ pub extern "C" fn wule_detach(
     handle: u32,
     dropped: &mut u32,
 ) -> u32
-    ensures done { Did endpoint.old.held endpoint.new.held (Makes (InSession (min channel 65535) (Detach handle)) (dropped_at result dropped.new)) (result ≡ 20) }
-    ensures code { IsCallCode result }
+    ensures done { Did endpoint.old.held endpoint.new.held (Answers (InSession (min channel 65535) (Detach handle)) (dropped_at result dropped.new) result) (result ≡ 20) }
     ensures kept { 0 < result → dropped.new ≡ dropped.old }
 {
     let Some(mut held) = endpoint.take(alloc) else {

@@ -181,8 +181,7 @@ pub extern "C" fn wule_first_lacking(
     credit: u32,
     found: &mut u32,
 ) -> u32
-    ensures first { Did endpoint.old.held endpoint.new.held (λ before after. (after ≡ before) × IsFirstLacking credit from (link_at before.endpoint.connection (min channel 65535)) (found_at result found.new)) (result ≡ 20) }
-    ensures code { (result ≡ 0) ⊎ (result ≡ 4) ⊎ (result ≡ 20) }
+    ensures first { Did endpoint.old.held endpoint.new.held (λ before after. (after ≡ before) × IsFirstLacking credit from (link_at before.endpoint.connection (min channel 65535)) (found_at result found.new) × ((result ≡ 0) ⊎ (result ≡ 4))) (result ≡ 20) }
     ensures kept { 0 < result → found.new ≡ found.old }
 {
     let Some(held) = endpoint.take(alloc) else {
