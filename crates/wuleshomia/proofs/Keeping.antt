@@ -1,5 +1,5 @@
 -- What bytes stand in the room of an endpoint's buffer changes no call, and so no run.
-use Rattle.std.proofs.Common.{◌≡◌, ℕ, ◌+◌, List, [], ◌∷◌, ◌++◌, take, drop, Some, None, refl, sym, ap, ◌∙◌, subst}
+use Rattle.std.proofs.Common.{◌≡◌, ℕ, ◌+◌, List, [], ◌∷◌, ◌++◌, take, drop, None, refl, sym, ap, ◌∙◌, subst}
 use Rattle.std.specs.Prelude.{length, if◌then◌else◌}
 use Rattle.amqp_frame.specs.Splits.{SplitterState, IsUnchanged}
 use Rattle.amqp_session.specs.Calls as session

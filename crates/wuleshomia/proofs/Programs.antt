@@ -1,13 +1,15 @@
 -- A program's calls on one handle, one behind another.
-use Rattle.std.proofs.Common.{◌≡◌, ℕ, List, [], ◌∷◌, ◌++◌, refl, subst}
+use Rattle.std.proofs.Common.{ℕ, List, [], ◌∷◌, ◌++◌, refl, subst}
 use Rattle.amqp_endpoint.specs.declared.event.Outcome.{Outcome}
 use Rattle.amqp_endpoint.specs.Runs.{Call, Feed, Answer, Fed, Does, Run}
 use Rattle.amqp_endpoint.specs.Steps.{EndpointState, IsKept, IsFed}
 use Rattle.amqp_serve.specs.declared.rules.Rule.{Rule}
 use Rattle.amqp_serve.specs.Serving as by
 use Rattle.amqp_serve.specs.Serving.{Stand, Step, calls_of, answers_of}
+use Rattle.amqp_serve.specs.declared.supplies.Supply.{Supply}
+use Rattle.amqp_serve.specs.Supplying.{Supplies, Rests, Passes, Gives}
 use Rattle.wuleshomia.specs.declared.held.Held.{Held}
-use Rattle.wuleshomia.specs.Programs.{Exports, Ends, Calls, Takes, Reads, Serves, IsRunTo}
+use Rattle.wuleshomia.specs.Programs.{Exports, Ends, Calls, Takes, TopsUp, TopsUpTo, Reads, Serves, IsRunTo}
 use Rattle.wuleshomia.proofs.Keeping.{kept_same, kept_on, run_on}
 
 -- one run behind another
@@ -23,10 +25,23 @@ module _ (fed_on : (s read new : EndpointState) (piece : List ℕ) (used : ℕ) 
   one_more : {s next t : EndpointState} {calls : List Call} {answers : List Answer} (c : Call) (a : Answer) → Does s next c a → IsRunTo next calls answers t → IsRunTo s (c ∷ calls) (a ∷ answers) t
   one_more {s} {next} c a x y = record { last = y.last; run = (next, x, y.run); same = y.same }
 
+  -- supplies that were given what they lacked
+  supplies_run : {r : Rule} {window : ℕ} {supplies left : List Supply} {s t : EndpointState} {steps : List Step} → Supplies r window supplies s steps left t → Run s (calls_of steps) (answers_of steps) t
+  supplies_run Rests = refl
+  supplies_run (Passes supply supplies none x) = supplies_run x
+  supplies_run (Gives next supply supplies some d x) = (next, d, supplies_run x)
+
+  -- these calls, and then others
+  more : {s next t : EndpointState} {calls : List Call} {answers : List Answer} (steps : List Step) → Run s (calls_of steps) (answers_of steps) next → IsRunTo next calls answers t
+      → IsRunTo s (calls_of steps ++ calls) (answers_of steps ++ answers) t
+  more {s} {next} {t} {calls} {answers} steps x y = record { last = y.last; run = run_joins s next y.last (calls_of steps) calls (answers_of steps) answers x y.run; same = y.same }
+
   pub exports_run : {s t : Held} {calls : List Call} {answers : List Answer} → Exports s calls answers t → IsRunTo s.endpoint calls answers t.endpoint
   exports_run (Ends {s}) = record { last = s.endpoint; run = refl; same = kept_same s.endpoint }
   exports_run (Calls next call answer x rest) = one_more call answer x.does (exports_run rest)
   exports_run (Takes next channel handle t x rest) = one_more _ _ x.does (exports_run rest)
+  exports_run (TopsUp next r window supplies x rest) = more x.steps (supplies_run x.given) (exports_run rest)
+  exports_run (TopsUpTo next r window supplies f x rest) = more x.steps (supplies_run x.given) (one_more _ _ x.refused (exports_run rest))
   exports_run (Reads {s} {last} {calls} {answers} next same rest) = subst (λ (m : EndpointState). IsRunTo m calls answers last.endpoint) same (exports_run rest)
   exports_run (Serves {s} {last} {calls} {answers} next r a b steps left x same rest) =
       let y = exports_run rest in

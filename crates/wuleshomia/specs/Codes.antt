@@ -70,6 +70,10 @@ answer_code answer = 0
 abbrev pub accepted_at : ℕ → Answer
 accepted_at code = if nat_eq code 0 then Accepted else Refused (fault_at code)
 
+-- the same as a result
+abbrev pub given_at : ℕ → Result (Unit {0}) CallFault
+given_at code = if nat_eq code 0 then Ok tt else Err (fault_at code)
+
 -- the answer that the code of a call that gives a count stands for
 abbrev pub dropped_at : ℕ → ℕ → Answer
 dropped_at code count = if nat_eq code 0 then Dropped count else Refused (fault_at code)

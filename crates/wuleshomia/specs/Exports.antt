@@ -1,5 +1,5 @@
 -- What the exports do to the endpoint that C holds, and what they return.
-use Rattle.std.specs.Prelude.{◌≡◌, ◌<◌, ◌≤◌, ℕ, Bool, true, false, nat_eq, nat_le, if◌then◌else◌, List, [], ◌∷◌, ◌++◌, length, take, drop, min, Option, None, Some}
+use Rattle.std.specs.Prelude.{◌≡◌, ◌<◌, ◌≤◌, ℕ, suc, Bool, true, false, nat_eq, nat_le, if◌then◌else◌, List, [], ◌∷◌, ◌++◌, length, take, drop, min, Option, None, Some}
 use Rattle.std.specs.Str.{IsUtf8}
 use Rattle.amqp_link.specs.Links.{open_count}
 use Rattle.amqp_link.specs.Tags.{padded}
@@ -8,9 +8,12 @@ use Rattle.amqp_session.specs.declared.slot.Slot.TheVariants.{Free, Live, Waits}
 use Rattle.amqp_session.specs.declared.view.LinkView.{LinkView}
 use Rattle.amqp_session.specs.Calls.{Take}
 use Rattle.amqp_session.specs.Sessions.{LiveLink}
+use Rattle.amqp_endpoint.specs.Connections.{slot_at}
 use Rattle.amqp_endpoint.specs.Configs.{Configured, MayBeConfigured, time_out}
 use Rattle.amqp_endpoint.specs.Limits.{Limit, IsTable, IsFault}
 use Rattle.amqp_endpoint.specs.Runs.{Call, InSession, Output, Answer, HandedUp, Refused, MovedOut, IsStart, Does}
+use Rattle.amqp_serve.specs.Serving.{session_supplies}
+use Rattle.amqp_serve.specs.Supplying.{half_rule, GaveIn, LacksNothing}
 use Rattle.wuleshomia.specs.declared.codes.OpenFault.{OpenFault}
 use Rattle.wuleshomia.specs.declared.codes.OpenFault.TheVariants as refused
 use Rattle.wuleshomia.specs.declared.data.Settings.{Settings}
@@ -20,7 +23,7 @@ use Rattle.wuleshomia.specs.declared.data.TakenReport.{TakenReport}
 use Rattle.wuleshomia.specs.declared.held.Held.{Held}
 use Rattle.wuleshomia.specs.declared.views.Terminus.{Terminus}
 use Rattle.wuleshomia.specs.declared.views.Terminus.TheVariants as terminus
-use Rattle.wuleshomia.specs.Codes.{fault_at, answer_code}
+use Rattle.wuleshomia.specs.Codes.{fault_at, answer_code, accepted_at, given_at}
 
 -- What happens. -------------------------------------------------------------------------------------------------------
 
@@ -40,6 +43,16 @@ pub record Makes (call : Call) (answer : Answer) (before after : Held) : Type 0 
 pub record Answers (call : Call) (answer : Answer) (code : ℕ) (before after : Held) : Type 0 where
   pub makes : Makes call answer before after
   pub told : code ≡ answer_code answer
+
+-- Topping up. ---------------------------------------------------------------------------------------------------------
+
+-- The session on a channel and its links are given what they lack, one by one, until one is refused it. This is the code, and nothing else has changed.
+pub record TopsUp (channel credit window code : ℕ) (before after : Held) : Type 0 where
+  pub rest : after ≡ record before { endpoint = after.endpoint }
+  pub gave : GaveIn (slot_at before.endpoint.connection channel) (given_at code) (half_rule credit) window (session_supplies (suc before.endpoint.connection.config.handle_max) channel)
+      before.endpoint after.endpoint
+  pub told : code ≡ answer_code (accepted_at code)
+  pub supplied : code ≡ 0 → LacksNothing (half_rule credit) window (suc before.endpoint.connection.config.handle_max) channel after.endpoint.connection
 
 -- Bytes for the peer. -------------------------------------------------------------------------------------------------
 

@@ -2,12 +2,15 @@
 use Rattle.std.specs.Prelude.{◌≡◌, ℕ, List, [], ◌∷◌, ◌++◌}
 use Rattle.amqp_session.specs.Calls.{Take}
 use Rattle.amqp_endpoint.specs.Configs.{Configured}
-use Rattle.amqp_endpoint.specs.Runs.{Call, InSession, Answer, Run}
+use Rattle.amqp_endpoint.specs.declared.fault.CallFault.{CallFault}
+use Rattle.amqp_endpoint.specs.Runs.{Call, InSession, Answer, Refused, Run}
 use Rattle.amqp_endpoint.specs.Steps.{EndpointState, IsKept}
 use Rattle.amqp_endpoint.specs.Traces.{IsWholeRun}
 use Rattle.amqp_serve.specs.declared.rules.Rule.{Rule}
 use Rattle.amqp_serve.specs.Serving as by
-use Rattle.amqp_serve.specs.Serving.{Stand, Step, calls_of, answers_of}
+use Rattle.amqp_serve.specs.Serving.{Stand, Step, calls_of, answers_of, top_up_by}
+use Rattle.amqp_serve.specs.Supplying.{GaveAll, GaveSome, lack_by}
+use Rattle.amqp_serve.specs.declared.supplies.Supply.{Supply}
 use Rattle.wuleshomia.specs.declared.data.TakenReport.{TakenReport}
 use Rattle.wuleshomia.specs.declared.held.Held.{Held}
 use Rattle.wuleshomia.specs.Exports.{Makes, IsTaken, bytes_in, handed_at}
@@ -22,6 +25,14 @@ pub data Exports : Held → List Call → List Answer → Held → Type 0 where
   Takes : {s last : Held} {calls : List Call} {answers : List Answer} (next : Held) (channel handle : ℕ) (t : TakenReport)
       → IsTaken channel handle t s next → Exports next calls answers last
       → Exports s (InSession channel (Take handle) ∷ calls) (handed_at t (bytes_in next.message) ∷ answers) last
+  -- a session and its links are given what they lack
+  TopsUp : {s last : Held} {calls : List Call} {answers : List Answer} (next : Held) (r : Rule) (window : ℕ) (supplies : List Supply)
+      → (x : GaveAll r window supplies s.endpoint next.endpoint) → Exports next calls answers last
+      → Exports s (calls_of x.steps ++ calls) (answers_of x.steps ++ answers) last
+  -- one of them is refused it, after those before it were given it
+  TopsUpTo : {s last : Held} {calls : List Call} {answers : List Answer} (next : Held) (r : Rule) (window : ℕ) (supplies : List Supply) (f : CallFault)
+      → (x : GaveSome r window supplies f s.endpoint next.endpoint) → Exports next calls answers last
+      → Exports s (calls_of x.steps ++ top_up_by x.supply (lack_by r window x.last.connection x.supply) ∷ calls) (answers_of x.steps ++ Refused f ∷ answers) last
   -- the endpoint is looked at alone, or bytes that wait for C are read, moved out or given back
   Reads : {s last : Held} {calls : List Call} {answers : List Answer} (next : Held)
       → next.endpoint ≡ s.endpoint → Exports next calls answers last → Exports s calls answers last

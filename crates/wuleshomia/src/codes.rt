@@ -4,7 +4,7 @@ ghost use Rattle.amqp_endpoint.specs.Endpoints.{accepted_by, dropped_by, named_b
 ghost use Rattle.amqp_endpoint.specs.declared.event.Event.TheVariants as event;
 ghost use Rattle.amqp_endpoint.specs.declared.event.Outcome.TheVariants as outcome;
 ghost use Rattle.amqp_perform.specs.declared.outcome.Outcome.TheVariants as settlement;
-ghost use Rattle.wuleshomia.specs.Codes.{fault_at, fault_code, answer_code, accepted_at, dropped_at, named_at, Found, settlement_at, condition_at, outcome_at, end_at, open_fault_at, receipt_at, done_at, lost_code, IsDoneAs, condition_code, failure_report, report_of_event, report_of, report_of_receipt, IsAllTold, IsStepTold};
+ghost use Rattle.wuleshomia.specs.Codes.{fault_at, fault_code, answer_code, accepted_at, given_at, dropped_at, named_at, Found, settlement_at, condition_at, outcome_at, end_at, open_fault_at, receipt_at, done_at, lost_code, IsDoneAs, condition_code, failure_report, report_of_event, report_of, report_of_receipt, IsAllTold, IsStepTold};
 
 use crate::data::{FedReport, StepReport};
 use amqp_endpoint::{CallFault, End, Event, Fed, LimitFault, Outcome, Scope};
@@ -101,6 +101,7 @@ pub fn of_fault(fault: CallFault) -> u32
 /// Returns the code of a call that gives nothing.
 pub fn of_done(done: Result<(), CallFault>) -> u32
     ensures accepted { accepted_at result ≡ accepted_by done }
+    ensures given { given_at result ≡ done }
     ensures code { result ≡ answer_code (accepted_by done) }
 {
     match done {

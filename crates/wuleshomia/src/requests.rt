@@ -3,10 +3,11 @@ ghost use Rattle.std.specs.Prelude.{◌≡◌, ◌<◌, min, MatchOption};
 ghost use Rattle.amqp_session.specs.Calls.{Widen, Grant, Drain, Settle, SettleRange, Detach};
 ghost use Rattle.amqp_endpoint.specs.Runs.{InSession};
 ghost use Rattle.wuleshomia.specs.Codes.{accepted_at, dropped_at, named_at, settlement_at};
-ghost use Rattle.wuleshomia.specs.Exports.{Did, Answers};
+ghost use Rattle.wuleshomia.specs.Exports.{Did, Answers, TopsUp};
 
 use crate::codes::{BAD_OUTCOME, NO_ENDPOINT, of_count, of_done, settlement};
 use crate::handle::EndpointHandle;
+use amqp_serve::supply_session;
 use std::alloc::Global;
 
 /// Returns a channel. A number that is no channel stands for the highest, which no endpoint offers.
@@ -50,6 +51,28 @@ pub extern "C" fn wule_widen(
         return NO_ENDPOINT;
     };
     let code = of_done(held.as_mut().endpoint.widen(number(channel), n));
+    endpoint.put_back(alloc, held);
+    code
+}
+
+/// Gives a session and its links what they lack. If at most half of `window` places are left, the session's window
+/// gets the others. Each link with at most half of `credit` gets what it is short of `credit`, within what it is
+/// allowed. Returns `OK`, the code of the first refusal, or `NO_ENDPOINT`; what was given before a refusal stays.
+#[unsafe(no_mangle)]
+pub extern "C" fn wule_top_up(
+    alloc: Global,
+    endpoint: &mut EndpointHandle,
+    channel: u32,
+    credit: u32,
+    window: u32,
+) -> u32
+    ensures { Did endpoint.old.held endpoint.new.held (TopsUp (min channel 65535) credit window result) (result ≡ 20) }
+{
+    let Some(mut held) = endpoint.take(alloc) else {
+        return NO_ENDPOINT;
+    };
+    let to = &mut held.as_mut().endpoint;
+    let code = of_done(supply_session(to, number(channel), credit, window));
     endpoint.put_back(alloc, held);
     code
 }
