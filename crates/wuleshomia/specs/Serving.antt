@@ -1,10 +1,11 @@
 -- What a step of serving does to the endpoint that C holds, and to the records and the answers that wait for C.
-use Rattle.std.specs.Prelude.{◌≡◌, ℕ, ◌≤◌, ◌++◌, Bool, false, true, nat_lt, if◌then◌else◌, List, [], length, take, drop, Option, None, Some, Result, Ok, Err}
+use Rattle.std.specs.Prelude.{◌≡◌, ℕ, ◌≤◌, ◌++◌, Bool, false, true, nat_lt, if◌then◌else◌, List, [], length, take, drop, Option, None, Some, Result, Err}
 use Rattle.amqp_serve.specs.declared.rules.Rule.{Rule}
 use Rattle.amqp_serve.specs.declared.serving.ServeFault.{ServeFault}
+use Rattle.amqp_serve.specs.declared.serving.ServeFault.TheVariants as fault
 use Rattle.amqp_serve.specs.declared.steps.Done.{Done}
 use Rattle.amqp_serve.specs.declared.steps.Stepped.{Stepped}
-use Rattle.amqp_serve.specs.Deeds.{Ends, IsStepped}
+use Rattle.amqp_serve.specs.Deeds.{IsStepped, Reaches}
 use Rattle.amqp_serve.specs.Hosting.{lost_by}
 use Rattle.amqp_perform.specs.declared.outcome.Outcome.{Outcome as Settlement}
 use Rattle.wuleshomia.specs.declared.data.ServeRule.{ServeRule}
@@ -37,16 +38,24 @@ lost_refusal (Some x) otherwise = Some (lost_code x)
 abbrev pub serve_refusal : Held → Option ℕ
 serve_refusal held = lost_refusal held.lost (unsent_refusal (next_of held.answers held.endpoint.unsent ++ held.records))
 
--- A step was made with the first bytes of a piece. What it wrote are the answers that wait then, what it recorded the records.
+-- an answer was lost, or a record
+abbrev pub loses_an_answer : Result Done ServeFault → Bool
+loses_an_answer (Err fault.Write) = true
+loses_an_answer _ = false
+
+abbrev pub loses_a_record : Result Done ServeFault → Bool
+loses_a_record (Err fault.Sink) = true
+loses_a_record _ = false
+
+-- A step was made with the first bytes of a piece, up to the end of the unit that is due or of the piece. What it wrote are the answers that wait then, what it recorded the records.
 pub record HasServed (r : Rule) (piece : List ℕ) (s : Stepped) (before after : Held) : Type 0 where
   pub rest : after.message ≡ before.message
   pub lost : after.lost ≡ lost_by s.done
   pub bound : s.used ≤ length piece
-  pub answers_lost : Bool
-  pub records_lost : Bool
+  pub reaches : Reaches before.endpoint piece s.used
   pub stepped : IsStepped r (take s.used piece) s.told s.done before.endpoint after.endpoint
       (record { writer = Some []; sink = Some []; writer_failed = false; sink_failed = false })
-      (record { writer = Some after.answers; sink = Some after.records; writer_failed = answers_lost; sink_failed = records_lost })
+      (record { writer = Some after.answers; sink = Some after.records; writer_failed = loses_an_answer s.done; sink_failed = loses_a_record s.done })
 
 -- A step was made with the first bytes of a piece, and is reported so.
 pub record IsServed (r : Rule) (piece : List ℕ) (code : ℕ) (report : StepReport) (before after : Held) : Type 0 where
