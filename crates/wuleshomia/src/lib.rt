@@ -3,7 +3,10 @@
 //!
 //! C holds an [`handle::EndpointHandle`], sixteen bytes that are all zero before [`opening::wuleshomia_open`] and after
 //! [`opening::wule_free`]. If it holds no endpoint, an export does nothing and says so. If it holds one, an export
-//! makes exactly its call of the endpoint. No export lends bytes to C or keeps bytes of C's.
+//! makes exactly its calls of the endpoint. No export lends bytes to C or keeps bytes of C's.
+//!
+//! C may pass NULL to some calls. These are `wule_NAME` in `c/calls.c`, over an export `wuleshomia_NAME`, which never
+//! gets NULL. The other exports are C's calls themselves.
 //!
 //! `handle` has what the sixteen bytes own, and with `unboxed` the only raw pointers. `data` has the structs,
 //! `codes` the numbers for enums, `held` what a handle holds. The exports are in `opening`, `bytes`, `requests`,
