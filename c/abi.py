@@ -1,12 +1,14 @@
 #!/usr/bin/env python3
-"""Holds the exports, the header and the Python package to each other, and the soname's number to the interface.
+"""Holds the exports, the C functions over them, the header and the Python package to each other, and the soname's number to the interface.
 
     abi.py             says what differs; status 1 where something does
     abi.py --record    writes abi.txt anew, unless the soname's number has to be raised first
     abi.py --plant     tries that each kind of change is found
 
-It reads text alone: the exports and structs in crates/wuleshomia/src, what its numbers stand for in specs/Codes.antt, wuleshomia.h,
-_native.py and _endpoint.py. It needs no compiler, no proof and no library.
+It reads text alone: the exports and structs in crates/wuleshomia/src, what its numbers stand for in specs/Codes.antt, calls.c,
+wuleshomia.h, _native.py and _endpoint.py. It needs no compiler, no proof and no library.
+
+A call that may get NULL is exported as wuleshomia_NAME, and calls.c has wule_NAME over it.
 """
 
 from __future__ import annotations
@@ -35,6 +37,8 @@ PYTHON_WORDS = {
     "uint8_t[256]": "c_uint8 * 256", "uint32_t *": "POINTER(u32)", "uint64_t *": "POINTER(c_uint64)", "size_t *": "POINTER(c_size_t)",
     "const uint8_t *": "c_void_p", "uint8_t *": "c_void_p", "const char *": "c_char_p",
 }
+INNER = "wuleshomia_"  # begins the names of the exports that calls.c hands on to
+IN_C = {"WULE_NULL": 31}  # the codes that calls.c alone returns
 SIZES = {"uint32_t": (4, 4), "uint64_t": (8, 8), "void *": (8, 8), "uint8_t": (1, 1)}
 TEXTS = {"container_id"}  # bytes that C writes as a text
 
@@ -71,6 +75,7 @@ class Sources:
 
     def __init__(self) -> None:
         self.exports = "\n".join(path.read_text() for path in sorted((CRATE / "src").glob("*.rt")) if path.name != "tests.rt")
+        self.calls = (HERE / "calls.c").read_text()
         self.codes = (CRATE / "specs" / "Codes.antt").read_text()
         self.header = (HERE / "wuleshomia.h").read_text()
         self.native = (PYTHON / "_native.py").read_text()
@@ -98,6 +103,11 @@ def type_in_c(name: str, word: str) -> list[tuple[str, str]]:
     if struct:
         return [(name, f"{WORDS[struct[2]]} *")]
     return [(name, WORDS[word])]
+
+
+def public(name: str) -> str:
+    """The name that a host calls."""
+    return "wule_" + name.removeprefix(INNER) if name.startswith(INNER) else name
 
 
 def exported(text: str) -> dict[str, tuple]:
@@ -147,9 +157,10 @@ def c_type(words: str) -> str:
     return re.sub(r" ?\* ?$", " *", re.sub(r"\s+", " ", words.strip()))
 
 
-def declared(header: str) -> dict[str, tuple]:
+def declared(header: str, after: str = ";") -> dict[str, tuple]:
+    """The functions whose heads stand in a text, with what follows a head."""
     found = {}
-    for result, name, words in re.findall(r"^(uint32_t|uint64_t|size_t|void) (wule_\w+)\(([^)]*)\)(?: WULE_\w+)?;", plain(header), re.M):
+    for result, name, words in re.findall(rf"^(uint32_t|uint64_t|size_t|void) (wule\w+)\(([^)]*)\)(?: WULE_\w+)?{after}", plain(header), re.M):
         given = []
         for word in [] if words.strip() == "void" else words.split(","):
             parts = re.fullmatch(r"\s*(.*?)(\w+)\s*", word, re.S)
@@ -239,7 +250,16 @@ def compared(s: Sources) -> list[str]:
         if left != right:
             bad.append(f"{what}: {sides}: {left} and {right}")
 
-    exports, header, native = exported(s.exports), declared(s.header), python_functions(s.native)
+    all_exports, header, native = exported(s.exports), declared(s.header), python_functions(s.native)
+    exports = {public(name): export for name, export in all_exports.items()}
+    inner = {name for name in all_exports if name.startswith(INNER)}
+    asked, made = declared(s.calls), declared(s.calls, r" \{")
+    same("calls.c", sorted(inner), sorted(asked), "exports of inner names, and what it asks for")
+    same("calls.c", sorted(map(public, inner)), sorted(made), "exports of inner names, and what it has")
+    for name in sorted(asked):
+        same(name, asked[name], header.get(public(name)), "calls.c and header")
+    for name in sorted(made):
+        same(name, made[name], header.get(name), "calls.c and header")
     for name in sorted({*exports, *header, *native}):
         if name not in exports or name not in header or name not in native:
             bad.append(f"{name}: it is not exported, declared and in Python")
@@ -265,7 +285,11 @@ def compared(s: Sources) -> list[str]:
         same(name, number, enums["wule_code"].get(name), "constant and header")
     for c_name in enums:
         known = {p + n for d, c, p, _, last in ENUMS if c == c_name for n in numbers_of_specs(s.codes, d, last)}
-        same(c_name, sorted(known | (set(constants) if c_name == "wule_code" else set())), sorted(enums[c_name]), "names in specs and crate, and in the header")
+        named = known | ({*constants, *IN_C} if c_name == "wule_code" else set())
+        same(c_name, sorted(named), sorted(enums[c_name]), "names in specs and crate, and in the header")
+    same("calls.c", sorted(set(re.findall(r"\bWULE_\w+", plain(s.calls)))), sorted(IN_C), "the codes that it returns, and those that are its own")
+    for name, number in IN_C.items():
+        same(name, number, enums["wule_code"].get(name), "a code of C, and the header")
     same("wule_code", {n.removeprefix("WULE_"): v for n, v in enums["wule_code"].items() if v}, python_numbers["Code"], "header and Python")
     same("wule_event", {n.removeprefix("WULE_"): v for n, v in enums["wule_event"].items()}, python_events(s.endpoint), "header and Python")
     major, minor, patch = (int(re.search(rf"#define WULE_VERSION_{w} (\d+)", s.header)[1]) for w in ("MAJOR", "MINOR", "PATCH"))
@@ -314,7 +338,11 @@ PLANTS = [
     ("a struct's size", "header", "    uint32_t refused; /*", "    uint32_t most;\n    uint32_t refused; /*"),
     ("a field's order", "header", "    uint32_t id;      /* the delivery-id, for wule_settle() */\n    uint32_t format;", "    uint32_t format;\n    uint32_t id;"),
     ("a type in an export", "exports", "    at: usize,\n    room: &mut [u8],\n) -> usize", "    at: u32,\n    room: &mut [u8],\n) -> usize"),
-    ("a constant of the crate", "exports", "pub const UNSENT: u32 = 28;", "pub const UNSENT: u32 = 31;"),
+    ("a constant of the crate", "exports", "pub const UNSENT: u32 = 28;", "pub const UNSENT: u32 = 32;"),
+    ("an export that a host is to call itself", "exports", "fn wuleshomia_take(", "fn wule_take("),
+    ("an export that calls.c leaves out", "exports", "fn wule_has_output(", "fn wuleshomia_has_output("),
+    ("a type in calls.c", "calls", "size_t wuleshomia_records(wule_endpoint *e, uint8_t *room, size_t len);", "uint32_t wuleshomia_records(wule_endpoint *e, uint8_t *room, size_t len);"),
+    ("another code in calls.c", "calls", "    if (is_lacking(name, len)) return WULE_NULL;", "    if (is_lacking(name, len)) return WULE_NO_LINK;"),
     ("a number in the specs", "codes", "if nat_eq n 1 then Some settlement.Rejected", "if nat_eq n 1 then Some settlement.Released"),
     ("a type in Python", "native", '"wule_held": (c_uint64,', '"wule_held": (u32,'),
     ("a field in Python", "native", '("tag_len", u32),', '("tag_size", u32),'),

@@ -27,6 +27,7 @@ RECEIVE = ROOT / "crates" / "example_receive"
 SHOP = RECEIVE / "data" / "shop.amqp"
 STREAMS = sorted((ROOT / "crates" / "test_layer_rows" / "data").glob("*.amqp"))
 SECONDS = 300
+ENDS = ("", "Failed", "Closed", "Inside", "Between")  # as tests/receive.c prints them
 ENVIRONMENT = {**os.environ, "WULESHOMIA_LIBRARY": str(BUILD / "libwuleshomia.so"), "PYTHONPATH": str(PYTHON / "src"), "PYTHONDONTWRITEBYTECODE": "1"}
 PROTON_PYTHON = next((p for p in (sys.executable, "/usr/bin/python3") if subprocess.run([p, "-c", "import proton"], capture_output=True).returncode == 0), None)
 
@@ -88,16 +89,6 @@ def _() -> None:
             output_of(Path(folder) / "header")
 
 
-@test("the example at the header's top compiles")
-def _() -> None:
-    lines = (HERE / "wuleshomia.h").read_text().split("A whole receiver, over a socket that is open:\n")[1].split(" *\n * What is promised")[0]
-    text = "\n".join(line[7:] for line in lines.splitlines())
-    with tempfile.TemporaryDirectory() as folder:
-        source = Path(folder) / "example.c"
-        source.write_text(text + "\nint main(void) { receive(0); return 0; }\n")
-        output_of(os.environ.get("CC", "cc"), "-std=gnu99", "-Wall", "-Werror", "-Wno-comment", f"-I{HERE}", source, BUILD / "libwuleshomia.a", "-o", Path(folder) / "example")
-
-
 @test("the archive asks for nothing but what is listed, and the library exports the calls alone")
 def _() -> str:
     undefined = {line.split()[-1] for line in output_of("nm", "-u", ROOT / "crates/wuleshomia/out/libwuleshomia.a").decode().splitlines() if " U " in line}
@@ -140,6 +131,20 @@ def _() -> None:
     output_of(needs("valgrind"), "--quiet", "--error-exitcode=9", "--leak-check=full", BUILD / "receive", SHOP, 7)
 
 
+@test("NULL is no bytes with the length 0, and refused with another, by a pointer to each call and by its name")
+def _() -> None:
+    calls = {line.split(":")[0].split("wule_")[1] for line in (HERE / "abi.txt").read_text().splitlines() if line.startswith("function")}
+    tried = set(re.findall(r"X\((\w+)\)", (HERE / "tests/nulls.c").read_text())) - {"X"}
+    assert tried == calls, f"{sorted(tried ^ calls)}"
+    output_of(BUILD / "nulls", SHOP)
+    output_of(BUILD / "nulls-by-name", SHOP, BUILD / "libwuleshomia.so")
+
+
+@test("the same by a pointer, under valgrind")
+def _() -> None:
+    output_of(needs("valgrind"), "--quiet", "--error-exitcode=9", "--leak-check=full", BUILD / "nulls", SHOP)
+
+
 @test("Python refuses wrong types and ranges, what was freed, and a second thread")
 def _() -> str:
     done = subprocess.run([sys.executable, PYTHON / "tests/misuse.py", SHOP], env=ENVIRONMENT, capture_output=True, timeout=SECONDS)
@@ -159,11 +164,38 @@ def served(stream: Path, *words: object) -> tuple[bytes, bytes]:
         return records.read_bytes(), answers.read_bytes()
 
 
+def records_in(data: bytes) -> list[bytes]:
+    found, at = [], 0
+    while at < len(data):
+        size = int.from_bytes(data[at + 14 : at + 18], "big")
+        found.append(data[at + 18 : at + 18 + size])
+        at += 18 + size
+    return found
+
+
 @test("steps come to the same however the stream is cut")
 def _() -> None:
     whole = served(SHOP)
     for piece in (1, 2, 3, 7, 13, 64):
         assert served(SHOP, piece) == whole, f"in pieces of {piece}"
+
+
+@test("the programs of the header run over a socket, also with each request for memory refused")
+def _() -> str:
+    told = []
+    for stream in (SHOP, *STREAMS):
+        records, answers = served(stream, 1 << 24, 16, "gateway")
+        end = output_of(BUILD / "receive", stream).decode().split()[-1]
+        with tempfile.TemporaryDirectory() as folder:
+            up, out = Path(folder) / "up", Path(folder) / "out"
+            for program, wanted in (("receive", b"".join(records_in(records))), ("serve", records)):
+                line = output_of(BUILD / "programs", program, stream, up, out).decode().strip()
+                whole = output_of(BUILD / "programs", program, stream, up, out, "whole").decode().strip()
+                assert up.read_bytes() == wanted, f"{program}, {stream.name}"
+                assert program == "receive" or out.read_bytes() == answers, f"answers to {stream.name}"
+                assert whole == f"end {ENDS.index(end)}", f"{program}, {stream.name}: {whole}, not {end}"
+                told.append(line)
+    return told[0]
 
 
 def free_port() -> int:
@@ -190,15 +222,6 @@ def spoken_to(port: int, data: bytes) -> bytes:
         except ConnectionRefusedError:
             time.sleep(0.1)
     raise AssertionError(f"nothing listens on {port}")
-
-
-def records_in(data: bytes) -> list[bytes]:
-    found, at = [], 0
-    while at < len(data):
-        size = int.from_bytes(data[at + 14 : at + 18], "big")
-        found.append(data[at + 18 : at + 18 + size])
-        at += 18 + size
-    return found
 
 
 @test("streams of real peers come to the same in C and Python, whole and in pieces, and by steps")
@@ -281,7 +304,7 @@ def certificate(folder: str) -> tuple[str, str]:
 
 
 def hosts(folder: str | None) -> list[tuple[str, list[object]]]:
-    """Both hosts, that end behind two connections: one that waits until they listen, and the sender's."""
+    """Both hosts, that end after two connections: one that waits until they listen, and the sender's."""
     port = str(free_port())
     if folder is None:
         return [(port, [BUILD / "gateway", port, 2]), (port, [sys.executable, PYTHON / "examples/gateway.py", port, "--connections", 2])]

@@ -10,48 +10,79 @@
  *     #include <wuleshomia.h>
  *     #include <unistd.h>
  *
- *     static void receive(int fd) {
- *         static uint8_t in[65536], out[8192], message[1048576];
+ *     void process(const uint8_t *message, size_t len);                      // yours
+ *
+ *     // Writes what waits for the peer. 0: the socket took all of it.
+ *     static int send_all(int fd, wule_endpoint *e) {
+ *         uint8_t out[4096];
+ *         size_t len, at;
+ *         ssize_t n;
+ *         while ((len = wule_output(e, out, sizeof out)) > 0)
+ *             for (at = 0; at < len; at += (size_t)n)
+ *                 if ((n = write(fd, out + at, len - at)) <= 0) return -1;
+ *         return 0;
+ *     }
+ *
+ *     // Receives until the connection is over. Returns a wule_end, or 0 if it gave the connection up.
+ *     static uint32_t receive(int fd) {
+ *         static uint8_t in[65536], message[1048576];
  *         wule_endpoint e = WULE_ENDPOINT_INIT;
  *         wule_settings settings = WULE_SETTINGS_INIT;
  *         wule_fed fed = {0};
  *         wule_taken taken;
+ *         uint32_t end = 0;
  *         ssize_t n;
- *         if (wule_open(&e, &settings, "gateway", 7, NULL, 0, NULL) != WULE_OK) return;
+ *         if (wule_open(&e, &settings, "gateway", 7, NULL, 0, NULL) != WULE_OK) return 0;
  *         while (fed.outcome != WULE_DEAD && (n = read(fd, in, sizeof in)) > 0)
- *             for (size_t at = 0; at < (size_t)n && fed.outcome != WULE_DEAD; at += fed.used) {
+ *             for (size_t at = 0; at < (size_t)n && fed.outcome != WULE_DEAD; at += (size_t)fed.used) {
  *                 wule_feed(&e, in + at, (size_t)n - at, &fed);              // to the end of one frame at most
+ *                 if (fed.outcome == WULE_STARVED) goto over;                // no memory: see below
  *                 if (fed.event == WULE_ATTACHED) wule_top_up(&e, fed.channel, 16, 2048);
- *                 if (fed.event == WULE_READY && wule_take(&e, fed.channel, fed.handle, &taken, message, sizeof message) == WULE_OK) {
- *                     // here the message is processed: taken.len bytes of `message`
+ *                 if (fed.event == WULE_READY
+ *                     && wule_take(&e, fed.channel, fed.handle, &taken, message, sizeof message) == WULE_OK) {
+ *                     process(message, (size_t)taken.len);
  *                     if (!taken.settled) wule_settle(&e, fed.channel, taken.id, WULE_ACCEPTED);
  *                     wule_top_up(&e, fed.channel, 16, 2048);
  *                 }
- *                 for (size_t k; (k = wule_output(&e, out, sizeof out)) > 0;)
- *                     if (write(fd, out, k) != (ssize_t)k) break;
+ *                 if (send_all(fd, &e) != 0) goto over;
  *             }
- *         wule_finish(&e, NULL);
+ *         end = wule_finish(&e, NULL);
+ *     over:
  *         wule_free(&e);
+ *         return end;
  *     }
  *
+ * If memory is refused, the frame waits and nothing is lost. This program gives the connection up. Another one waits for memory,
+ * and then feeds what follows the fed.used bytes, or 0 bytes; a loop that feeds again at once may never end.
+ *
  * What is promised. Whatever bytes the peer sends, in whatever pieces, and whatever calls the host makes in whatever order: no call
- * reads or writes outside what it was handed and what it allocated, each returns, and wule_held() never answers more than
+ * reads or writes outside what it was handed and what it allocated, each returns, and wule_held() never returns more than
  *     max_frame + 8192 + 64 * sessions + for each link (1407 + allowed * (max_message + 96)).
  * Messages are those that the peer sent, whole, in order, each once. Beside that there is the message that was taken last, and of
  * wule_serve_step() the answers and the records of one step.
  *
  * What the host owes. Nothing checks it.
- *  1. An endpoint is all zero before wule_open() and behind wule_free(), and only these functions change it. Each that was opened is
- *     freed once by wule_free(); freeing it again does nothing. It may be moved by memcpy(), if the old place is not used again, and
- *     is never copied: two copies of one would be freed twice.
+ *  1. An endpoint is all zero before wule_open() and after wule_free(), and only these functions change it. Each that was opened is
+ *     freed once by wule_free(); freeing it again does nothing. It may be moved by memcpy(), if the old place is not used again,
+ *     and is never copied: two copies of one would be freed twice.
  *  2. One call at a time on one endpoint. Calls on different endpoints run side by side. An endpoint may go from one thread to
- *     another, where the host orders what both do.
- *  3. A pointer points to what its type says, is aligned for it, and is not NULL but where that is said; a pointer to bytes or rows
- *     may be NULL where their number is 0. What a call writes overlaps nothing else that it was handed. All that is handed in is the
- *     caller's, and is not used behind the call; nothing that a call hands out has to be freed.
- *  4. malloc, realloc and free are those of one C library, or all three of another allocator, and align as the C library's do. No
- *     call comes from a signal handler, nor behind fork() in the child of a process with threads.
- *  5. 16 KiB of stack below each call.
+ *     another, if the host orders what both do.
+ *  3. A pointer points to what its type says, and is aligned for it. It is not NULL, unless this header says that it may be. A
+ *     length is at most PTRDIFF_MAX. What a call writes overlaps nothing else that it was handed.
+ *  4. wule_settings, wule_limit and wule_rule are set before the call, every byte of them. What a call fills in need not be set.
+ *  5. All that is handed in is the caller's. Nothing changes it during the call: no other thread or process, no device. The library
+ *     doesn't use it after the call, and nothing that a call hands out has to be freed.
+ *  6. malloc, realloc and free are those of one C library, or all three of another allocator, and align as the C library's do. They
+ *     return: no longjmp(), no exception and no cancellation of the thread leaves a call.
+ *  7. No call comes from a signal handler, nor after fork() in the child of a process with threads.
+ *  8. 16 KiB of stack below each call.
+ *
+ * A pointer to bytes, to a room for bytes or to rows may be NULL. With the length 0 that is none of them. With another length the
+ * call does nothing, and returns WULE_NULL before any other code, or 0 if it returns how many bytes. So does a call by a pointer to
+ * the function, or from another language.
+ *
+ * wule_output(), wule_has_output(), wule_records(), wule_message_read() and wule_held() return 0 if there is nothing, and 0 if the
+ * handle holds no endpoint. wule_window() tells which: it returns WULE_NO_ENDPOINT exactly then.
  *
  * Each call is bounded by what is fed to it. None blocks. A call that is refused has changed nothing, but for what it says below.
  */
@@ -81,14 +112,14 @@ extern "C" {
 
 /* ------------------------------------------------------------------------------------------------------------------- Numbers */
 
-/* What a call answers; see wule_code_text(). Of 1 to 12 it is the first of this order that is so. */
+/* What a call returns; see wule_code_text(). Of 1 to 12 it is the first of this order that is so. */
 typedef enum wule_code {
     WULE_OK = 0,
     WULE_CONNECTION_OVER = 1,  /* the connection is over, or this side has closed it */
     WULE_NOT_OPEN = 2,         /* the peer's open has not come */
     WULE_NO_SESSION = 3,       /* no session is live on the channel */
     WULE_NO_LINK = 4,          /* no link is live at the handle */
-    WULE_NO_DELIVERY = 5,      /* no open delivery has the id, or the last of a range is behind its first */
+    WULE_NO_DELIVERY = 5,      /* no open delivery has the id, or the last of a range is before its first */
     WULE_NOT_TAKEN = 6,        /* a delivery that is named was not taken */
     WULE_ALREADY_TOLD = 7,     /* the sender was told, and has to settle it [2.8.3] */
     WULE_MIXED_MODES = 8,      /* a range names deliveries of both receiver settle modes */
@@ -106,7 +137,8 @@ typedef enum wule_code {
     WULE_BAD_OUTCOME = 27,     /* no wule_outcome */
     WULE_UNSENT = 28,          /* bytes for the peer or records wait to be moved out */
     WULE_ANSWER_LOST = 29,     /* memory for an answer was refused: it is lost, and so is the connection */
-    WULE_RECORD_LOST = 30      /* the same of a record */
+    WULE_RECORD_LOST = 30,     /* the same of a record */
+    WULE_NULL = 31             /* a pointer is NULL, but its length is not 0: nothing was done */
 } wule_code;
 
 /* What bytes came to. */
@@ -184,7 +216,7 @@ typedef enum wule_receipt {
 
 /* ------------------------------------------------------------------------------------------------------------------- Structs */
 
-/* An endpoint, or none. Opaque; the host keeps it where it likes. */
+/* An endpoint, or none. Opaque; the host keeps it at any place. */
 typedef struct wule_endpoint {
     void *wule_at;
     uint64_t wule_live;
@@ -217,7 +249,7 @@ typedef struct wule_limit {
 typedef struct wule_fed {
     uint64_t used;      /* so many were taken; the rest is fed again */
     uint32_t outcome;   /* a wule_fed_outcome */
-    uint32_t event;     /* a wule_event, where the outcome is WULE_EVENT; else 0 */
+    uint32_t event;     /* a wule_event, if the outcome is WULE_EVENT; else 0 */
     uint32_t channel;
     uint32_t handle;
     uint32_t count;
@@ -226,14 +258,14 @@ typedef struct wule_fed {
     uint32_t reserved;
 } wule_fed;
 
-/* A message that was taken, but its bytes. */
+/* A message that was taken, without its bytes. */
 typedef struct wule_taken {
     uint64_t len;     /* how many bytes it has */
     uint32_t id;      /* the delivery-id, for wule_settle() */
     uint32_t format;  /* the message-format: 0 for the sections of the standard [3.2] */
     uint32_t settled; /* 1: the sender has settled it, and wants no wule_settle(); else 0 */
     uint32_t tag_len;
-    uint8_t tag[32];
+    uint8_t tag[32];  /* the delivery-tag, tag_len bytes, and then 0 */
 } wule_taken;
 
 /* How a live link stands. */
@@ -251,7 +283,7 @@ typedef struct wule_link_state {
 /* By what rule an endpoint is served. */
 typedef struct wule_rule {
     uint32_t credit;  /* a link is topped up to so much, within what it is allowed, */
-    uint32_t mark;    /* where its credit is at most that */
+    uint32_t mark;    /* if its credit is at most that */
     uint32_t outcome; /* a wule_outcome: what becomes of each message that its sender has not settled */
 } wule_rule;
 
@@ -276,28 +308,28 @@ uint32_t wule_version(void);
 /* Sets an endpoint up, before the peer's header. It takes memory for a frame, for 8192 bytes of output, and for its places.
  *   container_id  id_len bytes, 1 to 255, in UTF-8
  *   limits        rows, at most 16; NULL for none
- *   row           where a row of the limits is at fault, its number from 0 goes there; may be NULL
+ *   row           if a row of the limits is at fault, its number from 0 goes there; may be NULL
  * WULE_OK; else the endpoint is as it was: WULE_IN_USE, WULE_NO_MEMORY, WULE_BAD_SETTINGS, WULE_TOO_MANY_LIMITS, WULE_BAD_LIMIT,
- * WULE_SAME_PREFIX. */
+ * WULE_SAME_PREFIX, WULE_NULL. */
 uint32_t wule_open(wule_endpoint *e, const wule_settings *settings, const char *container_id, size_t id_len,
                    const wule_limit *limits, size_t limit_count, size_t *row) WULE_CHECKED;
 
-/* Frees all that an endpoint has; it is all zero then. Of a handle that holds none nothing happens. */
+/* Frees all that an endpoint has; it is all zero then. Does nothing on an empty handle. */
 void wule_free(wule_endpoint *e);
 
 /* --------------------------------------------------------------------------------------------- Bytes of the peer, and for it */
 
-/* Takes bytes of the peer, to the end of a frame at most, and acts upon it. Where a frame waits none are taken. A frame is acted
+/* Takes bytes of the peer, to the end of a frame at most, and acts upon it. If a frame waits, none are taken. A frame is acted
  * upon, and its event told, before the next is looked at, so that each call between two feeds finds what the peer said so far.
- * WULE_OK, and *fed says what it came to, want of memory too; or WULE_NO_ENDPOINT, and *fed is as it was. */
+ * WULE_OK, and *fed says what it came to, want of memory too; else *fed is as it was: WULE_NO_ENDPOINT, WULE_NULL. */
 uint32_t wule_feed(wule_endpoint *e, const uint8_t *bytes, size_t len, wule_fed *fed);
 
-/* Moves bytes for the peer out, at most `len`, and answers how many: some, where some wait and there is room, and 0 where none wait or
- * there is no endpoint. They are written to the peer in this order. Call it until it answers 0, behind each feed and before waiting
+/* Moves bytes for the peer out, at most `len`, and returns how many: some, if some wait and there is room; 0 if none wait, and if
+ * there is no endpoint. They are written to the peer in this order. Call it until it returns 0, after each feed and before waiting
  * for the peer. */
 size_t wule_output(wule_endpoint *e, uint8_t *room, size_t len) WULE_CHECKED;
 
-/* 1 where bytes for the peer wait; else 0. */
+/* 1 if bytes for the peer wait; 0 if none wait, and if there is no endpoint. */
 uint32_t wule_has_output(wule_endpoint *e);
 
 /* Closes the connection, by the close that it writes [2.4.3]; how many ready messages were dropped goes to *dropped. Of what the
@@ -309,16 +341,16 @@ uint32_t wule_close(wule_endpoint *e, uint32_t *dropped);
  * WULE_OK, WULE_CONNECTION_OVER, WULE_NOT_OPEN, WULE_FULL, WULE_NO_ENDPOINT. */
 uint32_t wule_heartbeat(wule_endpoint *e);
 
-/* The input has ended: a wule_end, or 0 where there is no endpoint. At WULE_END_INSIDE the number of bytes of the frame that came
+/* The input has ended: a wule_end, or 0 if there is no endpoint. At WULE_END_INSIDE the number of bytes of the frame that came
  * goes to *inside, which may be NULL. The connection is over then; what waits for the peer is left. */
 uint32_t wule_finish(wule_endpoint *e, uint64_t *inside);
 
-/* 1 where the connection is over, or there is no endpoint; else 0. */
+/* 1 if the connection is over, or there is no endpoint; else 0. */
 uint32_t wule_is_over(wule_endpoint *e);
 
 /* ---------------------------------------------------------------------------------------------------- Sessions and their links */
 
-/* Lets the sender on a link send n messages more [2.6.7]. It is then no longer asked to use its credit up, where n is 0 too.
+/* Lets the sender on a link send n messages more [2.6.7]. It is then no longer asked to use its credit up, also if n is 0.
  * WULE_OK, WULE_CONNECTION_OVER, WULE_NO_SESSION, WULE_NO_LINK, WULE_TOO_MUCH_CREDIT, WULE_FULL, WULE_NO_ENDPOINT. */
 uint32_t wule_grant(wule_endpoint *e, uint32_t channel, uint32_t handle, uint32_t n);
 
@@ -340,19 +372,27 @@ uint32_t wule_settle(wule_endpoint *e, uint32_t channel, uint32_t id, uint32_t o
  * deliveries. The codes of wule_settle(), and WULE_MIXED_MODES. */
 uint32_t wule_settle_range(wule_endpoint *e, uint32_t channel, uint32_t first, uint32_t last, uint32_t outcome, uint32_t *named);
 
+/* Gives each link of a session whose credit is at most half of `credit` what it lacks of `credit`, but at most what the link is
+ * allowed less its credit and its open deliveries; and the session's window what it lacks of `window`, if at most half is left.
+ * Call it when a link attached and after each message.
+ * WULE_OK; else the first code that is none, with what went before it done: WULE_FULL, WULE_NO_SESSION, WULE_CONNECTION_OVER,
+ * WULE_NO_ENDPOINT. */
+uint32_t wule_top_up(wule_endpoint *e, uint32_t channel, uint32_t credit, uint32_t window);
+
 /* Ends a link [2.6.6]; how many ready messages were dropped goes to *dropped.
  * WULE_OK, WULE_CONNECTION_OVER, WULE_NO_SESSION, WULE_NO_LINK, WULE_FULL, WULE_NO_ENDPOINT. */
 uint32_t wule_detach(wule_endpoint *e, uint32_t channel, uint32_t handle, uint32_t *dropped);
 
 /* ------------------------------------------------------------------------------------------------------------------- Messages */
 
-/* Takes the first whole message of a link, and copies its first bytes, at most `len`: all, where taken->len <= len. The rest is had
- * by wule_message_read(), until the next wule_take() or wule_message_drop(). It is open until it is settled.
+/* Takes the first whole message of a link, and copies its first bytes, at most `len`: all, if taken->len <= len. The rest is had by
+ * wule_message_read(), until the next wule_take() or wule_message_drop(). It is open until it is settled.
  * WULE_OK; else *taken and the room are as they were: WULE_CONNECTION_OVER, WULE_NO_SESSION, WULE_NO_LINK, WULE_NOTHING_READY,
- * WULE_NO_ENDPOINT. */
+ * WULE_NO_ENDPOINT, WULE_NULL. */
 uint32_t wule_take(wule_endpoint *e, uint32_t channel, uint32_t handle, wule_taken *taken, uint8_t *room, size_t len) WULE_CHECKED;
 
-/* Copies bytes of the message that was taken last, from the one at `at` on, at most `len`, and answers how many. */
+/* Copies bytes of the message that was taken last, from the one at `at` on, at most `len`, and returns how many: 0 if it has none
+ * there, if no message is kept, and if there is no endpoint. */
 size_t wule_message_read(wule_endpoint *e, size_t at, uint8_t *room, size_t len);
 
 /* Frees the message that was taken last. It stays open until it is settled. */
@@ -360,98 +400,70 @@ void wule_message_drop(wule_endpoint *e);
 
 /* ----------------------------------------------------------------------------------------------------- How an endpoint stands */
 
-/* The bytes that count as held: what the bound above is about. 0 where there is no endpoint. */
+/* The bytes that count as held: what the bound above is about. 0 if none are, and if there is no endpoint. */
 uint64_t wule_held(wule_endpoint *e);
 
 /* The places that are left of a session's window go to *places [2.5.6].
  * WULE_OK; else *places is as it was: WULE_NO_SESSION, WULE_NO_ENDPOINT. */
 uint32_t wule_window(wule_endpoint *e, uint32_t channel, uint32_t *places);
 
-/* How a link stands, and the first bytes of its name, at most `len`; no zero byte stands behind them.
- * WULE_OK; else *link and the room are as they were: WULE_NO_LINK, WULE_NO_ENDPOINT. */
+/* How a link stands, and the first bytes of its name, at most `len`; no zero byte follows them.
+ * WULE_OK; else *link and the room are as they were: WULE_NO_LINK, WULE_NO_ENDPOINT, WULE_NULL. */
 uint32_t wule_link(wule_endpoint *e, uint32_t channel, uint32_t handle, wule_link_state *link, uint8_t *name, size_t len);
 
 /* The first bytes of a link's source, and of its target, at most `len`, as its attach spells them [3.5.3, 3.5.4].
- * WULE_OK; else the room is as it was: WULE_NO_LINK, WULE_NO_ENDPOINT. */
+ * WULE_OK; else the room is as it was: WULE_NO_LINK, WULE_NO_ENDPOINT, WULE_NULL. */
 uint32_t wule_link_source(wule_endpoint *e, uint32_t channel, uint32_t handle, uint8_t *room, size_t len);
 uint32_t wule_link_target(wule_endpoint *e, uint32_t channel, uint32_t handle, uint8_t *room, size_t len);
 
 /* The first handle from `from` on whose link has less credit than `credit`, and may have more, goes to *found.
- * WULE_OK; else *found is as it was: WULE_NO_LINK where there is none, WULE_NO_ENDPOINT. */
+ * WULE_OK; else *found is as it was: WULE_NO_LINK if there is none, WULE_NO_ENDPOINT. */
 uint32_t wule_first_lacking(wule_endpoint *e, uint32_t channel, uint32_t from, uint32_t credit, uint32_t *found);
 
 /* -------------------------------------------------------------------------------------------------------------------- Serving */
 
 /* Serves bytes of the peer, to the end of a frame at most: a message that is whole then is taken, recorded, and settled unless its
  * sender settled it, and what lacks something by the rule is topped up, so that the host has no call of its own to make. Then
- * wule_records() has the records, and behind them wule_output() the answers; both are moved out before the next step. A record is
+ * wule_records() has the records, and after them wule_output() the answers; both are moved out before the next step. A record is
  * the channel in 2 bytes, then handle, delivery-id, message-format and length in 4 bytes each, the highest first, and the message.
+ * A whole server, over a socket that is open, with send_all() of the program at the top:
  *
- *     while (fed.outcome != WULE_DEAD && (n = read(fd, in, sizeof in)) > 0)
- *         for (size_t at = 0; at < (size_t)n && step.fed.outcome != WULE_DEAD; at += step.fed.used) {
- *             if (wule_serve_step(&e, &rule, in + at, (size_t)n - at, &step) != WULE_OK) goto lost;
- *             while ((k = wule_records(&e, out, sizeof out)) > 0) fwrite(out, 1, k, records);
- *             while ((k = wule_output(&e, out, sizeof out)) > 0) write_all(fd, out, k);
- *         }
+ *     #include <stdio.h>
  *
- * WULE_OK, and *step says what was done. WULE_NO_MEMORY: memory for the frame was refused, it waits, and the next step tries it again,
- * also one of 0 bytes. WULE_ANSWER_LOST, WULE_RECORD_LOST: memory for what it wrote was refused; no more steps are served, and the
- * connection is to be given up. WULE_BAD_OUTCOME, WULE_UNSENT, WULE_NO_ENDPOINT: nothing was done, and *step is as it was. */
+ *     // Serves until the connection is over. Returns a wule_end, or 0 if it gave the connection up.
+ *     static uint32_t serve(int fd, FILE *records) {
+ *         static uint8_t in[65536], out[4096];
+ *         wule_endpoint e = WULE_ENDPOINT_INIT;
+ *         wule_settings settings = WULE_SETTINGS_INIT;
+ *         wule_rule rule = {16, 15, WULE_ACCEPTED};
+ *         wule_step step = {0};
+ *         uint32_t end = 0;
+ *         size_t k;
+ *         ssize_t n;
+ *         if (wule_open(&e, &settings, "gateway", 7, NULL, 0, NULL) != WULE_OK) return 0;
+ *         while (step.fed.outcome != WULE_DEAD && (n = read(fd, in, sizeof in)) > 0)
+ *             for (size_t at = 0; at < (size_t)n && step.fed.outcome != WULE_DEAD; at += (size_t)step.fed.used) {
+ *                 if (wule_serve_step(&e, &rule, in + at, (size_t)n - at, &step) != WULE_OK) goto over;
+ *                 while ((k = wule_records(&e, out, sizeof out)) > 0)
+ *                     if (fwrite(out, 1, k, records) != k) goto over;
+ *                 if (fflush(records) != 0 || send_all(fd, &e) != 0) goto over; // a record is kept before its sender hears of it
+ *             }
+ *         end = wule_finish(&e, NULL);
+ *     over:
+ *         wule_free(&e);
+ *         return end;
+ *     }
+ *
+ * WULE_OK, and *step says what was done. WULE_NO_MEMORY: memory for the frame was refused, it waits, and the next step tries it
+ * again, also one of 0 bytes. This program gives up; another one waits for memory first. WULE_ANSWER_LOST, WULE_RECORD_LOST: memory
+ * for what it wrote was refused; no more steps are served, and the connection is to be given up. WULE_BAD_OUTCOME, WULE_UNSENT,
+ * WULE_NO_ENDPOINT, WULE_NULL: nothing was done, and *step is as it was. */
 uint32_t wule_serve_step(wule_endpoint *e, const wule_rule *rule, const uint8_t *bytes, size_t len, wule_step *step) WULE_CHECKED;
 
-/* Moves records of the last step out, at most `len` bytes, and answers how many. */
+/* Moves records of the last step out, at most `len` bytes, and returns how many: 0 if none wait, and if there is no endpoint. */
 size_t wule_records(wule_endpoint *e, uint8_t *room, size_t len) WULE_CHECKED;
 
 /* -------------------------------------------------------------------------------------------------------------------- In C alone */
-
-/* A call behind wule_open() and so on takes any address for no bytes, but not NULL. */
-WULE_MAYBE_UNUSED static inline const void *wule_some(const void *bytes) { return bytes ? bytes : (const void *)""; }
-WULE_MAYBE_UNUSED static inline uint8_t *wule_room(void *room) {
-    static uint8_t none[1];
-    return room ? (uint8_t *)room : none;
-}
-#define wule_open(e, settings, container_id, id_len, limits, limit_count, row) wule_open_some(e, settings, container_id, id_len, limits, limit_count, row)
-#define wule_feed(e, bytes, len, fed) (wule_feed)(e, (const uint8_t *)wule_some(bytes), len, fed)
-#define wule_output(e, room, len) (wule_output)(e, wule_room(room), len)
-#define wule_finish(e, inside) wule_finish_some(e, inside)
-#define wule_take(e, channel, handle, taken, room, len) (wule_take)(e, channel, handle, taken, wule_room(room), len)
-#define wule_message_read(e, at, room, len) (wule_message_read)(e, at, wule_room(room), len)
-#define wule_link(e, channel, handle, link, name, len) (wule_link)(e, channel, handle, link, wule_room(name), len)
-#define wule_link_source(e, channel, handle, room, len) (wule_link_source)(e, channel, handle, wule_room(room), len)
-#define wule_link_target(e, channel, handle, room, len) (wule_link_target)(e, channel, handle, wule_room(room), len)
-#define wule_serve_step(e, rule, bytes, len, step) (wule_serve_step)(e, rule, (const uint8_t *)wule_some(bytes), len, step)
-#define wule_records(e, room, len) (wule_records)(e, wule_room(room), len)
-
-WULE_MAYBE_UNUSED WULE_CHECKED static inline uint32_t wule_open_some(wule_endpoint *e, const wule_settings *settings, const char *container_id,
-                                                                     size_t id_len, const wule_limit *limits, size_t limit_count, size_t *row) {
-    static const wule_limit none = {0, 0, 0, {0}};
-    size_t nowhere = 0;
-    return (wule_open)(e, settings, (const char *)wule_some(container_id), id_len, limits ? limits : &none, limit_count, row ? row : &nowhere);
-}
-
-WULE_MAYBE_UNUSED static inline uint32_t wule_finish_some(wule_endpoint *e, uint64_t *inside) {
-    uint64_t nowhere = 0;
-    return (wule_finish)(e, inside ? inside : &nowhere);
-}
-
-/* Gives each link of a session whose credit is at most half of `credit` as much as it lacks, within what it is allowed, and the
- * session's window what it lacks of `window` where at most half is left. Call it where a link attached and behind each message.
- * WULE_OK; else the first code that is none, with what went before it done: WULE_FULL, WULE_NO_SESSION, WULE_CONNECTION_OVER,
- * WULE_NO_ENDPOINT. */
-WULE_MAYBE_UNUSED static inline uint32_t wule_top_up(wule_endpoint *e, uint32_t channel, uint32_t credit, uint32_t window) {
-    uint32_t places = 0, handle = 0, code = wule_window(e, channel, &places);
-    if (code == WULE_OK && places <= window / 2 && places < window) code = wule_widen(e, channel, window - places);
-    while (code == WULE_OK && wule_first_lacking(e, channel, handle, credit / 2 + 1, &handle) == WULE_OK) {
-        wule_link_state link;
-        uint32_t most, open;
-        if ((code = wule_link(e, channel, handle, &link, NULL, 0)) != WULE_OK) break;
-        most = credit < link.allowed ? credit : link.allowed;
-        open = link.credit + link.opened;
-        if (open < most) code = wule_grant(e, channel, handle, most - open);
-        handle++;
-    }
-    return code;
-}
 
 /* A code in words; "" for what is none. */
 WULE_MAYBE_UNUSED static inline const char *wule_code_text(uint32_t code) {
@@ -480,6 +492,7 @@ WULE_MAYBE_UNUSED static inline const char *wule_code_text(uint32_t code) {
     case WULE_UNSENT: return "bytes for the peer or records wait to be moved out";
     case WULE_ANSWER_LOST: return "memory for an answer was refused, which is lost";
     case WULE_RECORD_LOST: return "memory for a record was refused, which is lost";
+    case WULE_NULL: return "a pointer is NULL, but its length is not 0";
     default: return "";
     }
 }

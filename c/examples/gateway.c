@@ -1,8 +1,8 @@
 /*
- * A gateway: many connections by epoll, one proved endpoint for each, and TLS by OpenSSL where it is built with -DWITH_TLS.
+ * A gateway: many connections by epoll, one proved endpoint for each, and TLS by OpenSSL if it is built with -DWITH_TLS.
  * It accepts each message, and tells at the end of a connection how many came.
  *
- *     gateway PORT [CONNECTIONS]                        ends behind so many connections, if that is said
+ *     gateway PORT [CONNECTIONS]                        ends after so many connections, if that is said
  *     gateway-tls PORT CERTIFICATE KEY [CONNECTIONS]    both in PEM
  */
 #define _GNU_SOURCE
@@ -50,7 +50,7 @@ static time_t now(void) {
 
 /* ---- bytes for the peer */
 
-/* Takes what the endpoint has for the peer, through TLS where there is it. */
+/* Takes what the endpoint has for the peer, through TLS if there is it. */
 static void refill(struct peer *p) {
     p->sent = p->written = 0;
 #ifdef WITH_TLS

@@ -1,5 +1,5 @@
-/* Each call on a handle that holds no endpoint, settings and limits that are refused, NULL for no bytes, and a whole session, by calls
- * and by steps, in which each request for memory is refused in turn.   misuse FILE
+/* Each call on a handle that holds no endpoint, settings and limits that are refused, credit beside unsettled deliveries, and a whole
+ * session, by calls and by steps, in which each request for memory is refused in turn.   misuse FILE
  * It is linked with --wrap=malloc,--wrap=realloc,--wrap=free, and run under valgrind and AddressSanitizer too. */
 #include "wuleshomia.h"
 #include <stdio.h>
@@ -159,6 +159,74 @@ static void ask_wildly(void) {
     wule_free(&moved);
 }
 
+/* ---- credit beside deliveries that are not settled */
+
+/* Feeds frames of one link, and takes what is ready; settles nothing. */
+static void feed_all(wule_endpoint *e, const uint8_t *bytes, size_t len) {
+    uint8_t room[64];
+    wule_fed fed;
+    wule_taken taken;
+    size_t at = 0;
+    do {
+        IS(wule_feed(e, bytes + at, len - at, &fed), WULE_OK);
+        at += (size_t)fed.used;
+        memset(&taken, 0xff, sizeof taken);
+        if (fed.event == WULE_READY) {
+            IS(wule_take(e, fed.channel, fed.handle, &taken, room, sizeof room), WULE_OK);
+            IS(taken.tag_len, 1);
+            while (taken.tag_len < sizeof taken.tag) IS(taken.tag[taken.tag_len++], 0);
+        }
+        while (wule_output(e, room, sizeof room) > 0) {
+        }
+    } while (at < len && fed.outcome != WULE_DEAD);
+    IS(at, len);
+}
+
+static uint32_t credit_of(wule_endpoint *e) {
+    wule_link_state link;
+    IS(wule_link(e, 0, 0, &link, NULL, 0), WULE_OK);
+    return link.credit;
+}
+
+/* A link is topped up to 16, has `sent` deliveries that are taken and not settled, and is topped up again: what its credit is then. */
+static uint32_t topped_up(uint32_t allowed, int sent) {
+    static const uint8_t head[] = "AMQP\0\1\0\0"
+                                  "\0\0\0\x11\2\0\0\0\0\x53\x10\xc0\4\1\xa1\1p"
+                                  "\0\0\0\x14\2\0\0\0\0\x53\x11\xc0\7\4\x40\x43\x52\x7f\x52\x7f"
+                                  "\0\0\0\x20\2\0\0\0\0\x53\x12\xc0\x13\x0a\xa1\1l\x43\x42\x40\x40\0\x53\x28\x45\0\x53\x29\x45\x40\x40\x43";
+    uint8_t transfer[] = "\0\0\0\x1c\2\0\0\0\0\x53\x14\xc0\x09\5\x43\x52i\xa0\1t\x43\x42\0\x53\x77\xa1\1x";
+    wule_endpoint e = WULE_ENDPOINT_INIT;
+    wule_settings settings = WULE_SETTINGS_INIT;
+    wule_link_state link;
+    uint32_t credit;
+    int i;
+    settings.allowed = allowed;
+    IS(wule_open(&e, &settings, "x", 1, NULL, 0, NULL), WULE_OK);
+    feed_all(&e, head, sizeof head - 1);
+    IS(wule_top_up(&e, 0, 16, 2048), WULE_OK);
+    IS(credit_of(&e), 16);
+    for (i = 0; i < sent; i++) {
+        transfer[16] = transfer[19] = (uint8_t)i; /* its delivery-id and its tag */
+        feed_all(&e, transfer, sizeof transfer - 1);
+    }
+    IS(wule_link(&e, 0, 0, &link, NULL, 0), WULE_OK);
+    IS(link.credit, 16 - sent);
+    IS(link.opened, sent);
+    IS(wule_top_up(&e, 0, 16, 2048), WULE_OK);
+    credit = credit_of(&e);
+    IS(wule_top_up(&e, 0, 16, 2048), WULE_OK);
+    wule_free(&e);
+    return credit;
+}
+
+static void top_up_beside_unsettled(void) {
+    IS(topped_up(1024, 10), 16); /* 10 more */
+    IS(topped_up(1024, 8), 16);
+    IS(topped_up(1024, 7), 9); /* 9 is more than half */
+    IS(topped_up(20, 10), 10); /* 4 more, and 10 are open: no more than 20 */
+    IS(topped_up(16, 10), 6);
+}
+
 /* ---- a session in which one request for memory is refused */
 
 static uint8_t file[1 << 20];
@@ -262,6 +330,7 @@ int main(int argc, char **argv) {
     ask_none();
     open_badly();
     ask_wildly();
+    top_up_beside_unsettled();
     IS(blocks, 0);
     calls = refuse_each(by_calls, by_calls());
     steps = refuse_each(by_steps, by_steps());
