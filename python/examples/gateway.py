@@ -1,9 +1,9 @@
-"""A gateway over asyncio: many connections, each with one proved endpoint, and TLS where a certificate is given.
+"""A gateway over asyncio: many connections, each with one proved endpoint, and TLS if a certificate is given.
 
     gateway.py PORT [--tls CERTIFICATE KEY] [--connections N]
 
 It accepts each message, and tells at the end of a connection how many came. A peer that is silent for a minute is given up, and an
-empty frame is written every 15 seconds. With --connections it ends behind so many.
+empty frame is written every 15 seconds. With --connections it ends after so many.
 """
 
 from __future__ import annotations

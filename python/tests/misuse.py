@@ -1,16 +1,34 @@
-"""What the package refuses, and how: wrong types and ranges, an endpoint that was freed, a second thread.   misuse.py FILE"""
+"""What the package refuses, and how: wrong types and ranges, an endpoint that was freed, a second thread; and what a top-up gives.
+
+    misuse.py FILE
+"""
 
 from __future__ import annotations
 
 import copy
+import ctypes
 import pickle
 import sys
 import threading
 import unittest
 
 from wuleshomia import AmqpError, Attached, Code, End, Endpoint, Failed, Limit, Outcome, Ready, Receipt
+from wuleshomia._native import Fed, Handle, lib
 
 DATA = b""
+
+# A header, an open, a begin and an attach of one link.
+HEAD = bytes.fromhex(
+    "414d515000010000"
+    "00000011020000000053 10c00401a10170"
+    "00000014020000000053 11c00704 4043527f527f"
+    "00000020020000000053 12c0130a a1016c434240400053284500532945404043"
+)
+
+
+def transfer(id: int) -> bytes:
+    """A whole message on it, that is not settled."""
+    return bytes.fromhex(f"0000001c020000000053 14c00905 4352{id:02x}a001{id:02x}4342 005377a10178")
 
 
 class Refusals(unittest.TestCase):
@@ -52,6 +70,8 @@ class Refusals(unittest.TestCase):
             lambda n: endpoint.window(n),
             lambda n: endpoint.link(0, n),
             lambda n: endpoint.top_up(0, n, 1),
+            lambda n: endpoint.top_up(n, 1, 1),
+            lambda n: endpoint.top_up(0, 1, n),
             lambda n: list(endpoint.serve(b"", credit=n)),
         ):
             for n in (-1, 1 << 32, 1 << 70):
@@ -83,6 +103,7 @@ class Refusals(unittest.TestCase):
             lambda: endpoint.grant(0, 0, 1),
             lambda: endpoint.take(0, 0),
             lambda: endpoint.link(0, 0),
+            lambda: endpoint.top_up(0, 1, 1),
             endpoint.finish,
             endpoint.close,
             endpoint.heartbeat,
@@ -123,6 +144,43 @@ class Refusals(unittest.TestCase):
                 endpoint.free()
             with self.assertRaises(RuntimeError):
                 list(endpoint.feed(b""))
+
+    def test_top_up(self) -> None:
+        """A link gets what it lacks of the credit, beside deliveries that are not settled, and no more than it is allowed."""
+        for allowed, sent, credit in ((1024, 10, 16), (1024, 8, 16), (1024, 7, 9), (20, 10, 10), (16, 10, 6)):
+            endpoint = Endpoint("x", allowed=allowed)
+            for event in endpoint.feed(HEAD):
+                if isinstance(event, Attached):
+                    endpoint.top_up(0, 16, 2048)
+            for id in range(sent):
+                for event in endpoint.feed(transfer(id)):
+                    self.assertEqual(endpoint.take(event.channel, event.handle).tag, bytes([id]))
+            link = endpoint.link(0, 0)
+            self.assertEqual((link.credit, link.opened), (16 - sent, sent))
+            for _ in range(2):
+                endpoint.top_up(0, 16, 2048)
+                self.assertEqual(endpoint.link(0, 0).credit, credit)
+        endpoint = Endpoint("x")
+        with self.assertRaises(AmqpError) as refused:
+            endpoint.top_up(0, 16, 2048)
+        self.assertIs(refused.exception.code, Code.NO_SESSION)
+
+    def test_window_is_topped_up(self) -> None:
+        endpoint = Endpoint("x", window=4)
+        for event in endpoint.feed(HEAD):
+            pass
+        endpoint.top_up(0, 16, 8)
+        self.assertEqual(endpoint.window(0), 8)
+        endpoint.top_up(0, 16, 12)
+        self.assertEqual(endpoint.window(0), 8)
+
+    def test_null(self) -> None:
+        """NULL with a length is refused also where no header is read."""
+        handle, fed = Handle(), Fed()
+        self.assertEqual(lib.wule_feed(ctypes.addressof(handle), None, 1, ctypes.addressof(fed)), Code.NULL)
+        self.assertEqual(lib.wule_feed(ctypes.addressof(handle), None, 0, ctypes.addressof(fed)), Code.NO_ENDPOINT)
+        self.assertEqual(lib.wule_output(ctypes.addressof(handle), None, 1), 0)
+        self.assertEqual(lib.wule_take(ctypes.addressof(handle), 0, 0, ctypes.addressof(fed), None, 1), Code.NULL)
 
     def test_steps_are_calls(self) -> None:
         """Serving gives the messages that taking them gives."""

@@ -26,10 +26,10 @@ class ReceiverProtocol(asyncio.Protocol):
 
         loop.create_server(lambda: ReceiverProtocol(Endpoint("gateway"), on_message, on_event, on_end), port=5672)
 
-    `on_message(link, message)` answers what became of a message, or None, and then it is settled later by
-    :meth:`settle`. `on_event(event)` is told all else that came. `on_end(end)` is called once, at the end. Links are topped up to
-    `credit` and sessions to `window`. Nothing is read of a peer that does not read its answers. Where `on_message` raises, the
-    connection is closed, and the message is not settled.
+    `on_message(link, message)` returns what became of a message, or None if it is settled later, by :meth:`settle`.
+    `on_event(event)` is told all else that came. `on_end(end)` is called once, at the end. Links are topped up to `credit` and
+    sessions to `window`. Nothing is read of a peer that does not read its answers. If `on_message` raises, the connection is
+    closed, and the message is not settled. If memory for a frame is refused, it is closed too.
 
     `idle_time_out` is in seconds: a peer that is silent for so long is given up. With a `heartbeat`, in seconds, an empty frame is
     written each such time.
@@ -92,7 +92,7 @@ class ReceiverProtocol(asyncio.Protocol):
         self.endpoint.top_up(channel, self._credit, self._window)
 
     def settle(self, channel: int, id: int, outcome: Outcome = Outcome.ACCEPTED) -> None:
-        """Tells the sender what became of a message for which `on_message` answered None."""
+        """Tells the sender what became of a message for which `on_message` returned None."""
         self.endpoint.settle(channel, id, outcome)
         self._top_up(channel)
         self._flush()

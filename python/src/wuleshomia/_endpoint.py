@@ -49,6 +49,7 @@ class Code(IntEnum):
     UNSENT = 28
     ANSWER_LOST = 29
     RECORD_LOST = 30
+    NULL = 31
 
 
 _TEXTS = {
@@ -75,11 +76,12 @@ _TEXTS = {
     Code.UNSENT: "bytes for the peer or records wait to be moved out",
     Code.ANSWER_LOST: "memory for an answer was refused, which is lost",
     Code.RECORD_LOST: "memory for a record was refused, which is lost",
+    Code.NULL: "a pointer is NULL, but its length is not 0",
 }
 
 
 class AmqpError(Exception):
-    """A call was refused, and nothing has changed."""
+    """A call was refused. Nothing has changed, but at ANSWER_LOST and RECORD_LOST: an answer or a record is lost then."""
 
     def __init__(self, code: Code) -> None:
         super().__init__(_TEXTS[code])
@@ -87,7 +89,8 @@ class AmqpError(Exception):
 
 
 class StarvedError(MemoryError):
-    """Memory for a frame was refused. It waits in the endpoint: feed `rest`, which was not taken, and it is tried again."""
+    """Memory for a frame was refused. It waits in the endpoint: feed `rest`, which was not taken, and it is tried again. Wait for
+    memory first: a loop that feeds again at once may never end."""
 
     def __init__(self, rest: bytes) -> None:
         super().__init__("memory for a frame was refused, which waits")
@@ -306,7 +309,7 @@ class Message(NamedTuple):
 
 @dataclass(frozen=True)
 class Record:
-    """A message that a step of serving recorded. `size` is its length, as it is told: 4294967295 where it is longer."""
+    """A message that a step of serving recorded."""
 
     channel: int
     handle: int
@@ -476,9 +479,9 @@ class Endpoint:
     # Bytes ---------------------------------------------------------------------------------------------------------------
 
     def feed(self, data: bytes | bytearray | memoryview) -> Iterator[Event]:
-        """Takes bytes of the peer, and yields what each frame came to: follow it before the next is asked for. Bytes are taken as it
-        is gone over, to its end. Those behind the end of the connection are dropped. StarvedError where memory for a frame was
-        refused: it has the bytes that were not taken."""
+        """Takes bytes of the peer, and yields an event for each frame that came to one. Handle each event before the next, and
+        iterate to the end: bytes are taken only then. Those after the end of the connection are dropped. Raises StarvedError if
+        memory for a frame was refused: it has the bytes that were not taken."""
         if not isinstance(data, (bytes, bytearray, memoryview)):
             raise TypeError(f"data is bytes, not {type(data).__name__}")
         return self._events(bytes(data))
@@ -527,7 +530,7 @@ class Endpoint:
         return bool(self._out) or bool(self._call(_lib.wule_has_output))
 
     def close(self) -> int:
-        """Closes the connection, and answers how many ready messages were dropped. Feed on until `Closed`."""
+        """Closes the connection, and returns how many ready messages were dropped. Feed on until `Closed`."""
         return self._count(_lib.wule_close)
 
     def heartbeat(self) -> None:
@@ -550,7 +553,7 @@ class Endpoint:
     # Sessions and their links --------------------------------------------------------------------------------------------
 
     def _write(self, function: Any, *words: Any) -> None:
-        """A call that writes a frame. Where the output has no room what waits there is taken aside first."""
+        """A call that writes a frame. If the output has no room, what waits there is taken aside first."""
         if code := self._call(function, *words):
             self._again(code, function, *words)
 
@@ -584,29 +587,22 @@ class Endpoint:
             self._again(code, _lib.wule_settle, *words)
 
     def settle_range(self, channel: int, first: int, last: int, outcome: Outcome = Outcome.ACCEPTED) -> int:
-        """The same of all whose ids lie from first to last, by one frame. Answers how many they are."""
+        """The same of all whose ids lie from first to last, by one frame. Returns how many they are."""
         words = (_word(channel, "channel"), _word(first, "first"), _word(last, "last"), _outcome(outcome))
         return self._count(_lib.wule_settle_range, *words)
 
     def detach(self, channel: int, handle: int) -> int:
-        """Ends a link, and answers how many ready messages were dropped."""
+        """Ends a link, and returns how many ready messages were dropped."""
         return self._count(_lib.wule_detach, _word(channel, "channel"), _word(handle, "handle"))
 
     def top_up(self, channel: int, credit: int, window: int) -> None:
-        """Gives each link of a session whose credit is at most half of `credit` what it lacks, within what it is allowed, and the
-        session's window what it lacks of `window` where at most half is left."""
-        _word(credit, "credit")
-        places = self.window(channel)
-        if places <= _word(window, "window") // 2 and places < window:
-            self.widen(channel, window - places)
-        found, into = native.u32(), None
-        into = _address(found)
-        while self._call(_lib.wule_first_lacking, channel, found.value, credit // 2 + 1, into) == 0:
-            state = self._state(channel, found.value, None, 0)
-            lacking = min(credit, state.allowed) - state.credit - state.opened
-            if lacking > 0:
-                self.grant(channel, found.value, lacking)
-            found.value += 1
+        """Gives each link of a session whose credit is at most half of `credit` what it lacks of `credit`, but at most what the link
+        is allowed less its credit and its open deliveries; and the session's window what it lacks of `window`, if at most half is
+        left."""
+        words = (_word(channel, "channel"), _word(credit, "credit"), _word(window, "window"))
+        while (code := self._call(_lib.wule_top_up, *words)) == Code.FULL:
+            self._move_out()
+        _check(code)
 
     # Messages ------------------------------------------------------------------------------------------------------------
 
@@ -635,7 +631,7 @@ class Endpoint:
 
     @property
     def held(self) -> int:
-        """The bytes that count as held. 0 where it was freed."""
+        """The bytes that count as held. 0 if it was freed."""
         return self._call(_lib.wule_held)
 
     def window(self, channel: int) -> int:
@@ -644,16 +640,11 @@ class Endpoint:
         _check(self._call(_lib.wule_window, _word(channel, "channel"), _address(places)))
         return places.value
 
-    def _state(self, channel: int, handle: int, room: Any, size: int) -> native.LinkState:
-        state = native.LinkState()
-        place = self._room_at if room is None else _address(room)
-        _check(self._call(_lib.wule_link, _word(channel, "channel"), _word(handle, "handle"), _address(state), place, size))
-        return state
-
     def link(self, channel: int, handle: int) -> Link:
         """How a live link stands."""
-        name = ctypes.create_string_buffer(256)
-        state = self._state(channel, handle, name, 256)
+        channel, handle = _word(channel, "channel"), _word(handle, "handle")
+        name, state = ctypes.create_string_buffer(256), native.LinkState()
+        _check(self._call(_lib.wule_link, channel, handle, _address(state), _address(name), 256))
         source = ctypes.create_string_buffer(state.source_len + 1)
         _check(self._call(_lib.wule_link_source, channel, handle, _address(source), state.source_len))
         target = ctypes.create_string_buffer(state.target_len + 1)
@@ -680,9 +671,9 @@ class Endpoint:
         outcome: Outcome = Outcome.ACCEPTED,
     ) -> Iterator[Step]:
         """Serves bytes of the peer, and yields a step for each frame. A message that is whole is recorded, settled by `outcome`
-        unless its sender settled it, and links are topped up to `credit` where they have at most `mark`, by default one less. Keep
-        a step's records before the output is written behind it. StarvedError as of :meth:`feed`; where an answer or a record is lost,
-        since memory for it was refused, the connection is to be given up."""
+        unless its sender settled it, and links are topped up to `credit` if they have at most `mark`, by default one less. Keep a
+        step's records before its output is written. Raises StarvedError as :meth:`feed` does; after an AmqpError with ANSWER_LOST or
+        RECORD_LOST, give the connection up."""
         if not isinstance(data, (bytes, bytearray, memoryview)):
             raise TypeError(f"data is bytes, not {type(data).__name__}")
         most = max(_word(credit, "credit") - 1, 0) if mark is None else _word(mark, "mark")

@@ -89,7 +89,7 @@ class Step(Structure):
     ]
 
 
-#: Each function: what it answers, and what it takes. A piece of bytes is its address and its length.
+#: Each function: what it returns, and what it takes. A piece of bytes is its address and its length.
 FUNCTIONS = {
     "wule_version": (u32, []),
     "wule_open": (u32, [POINTER(Handle), POINTER(Settings), c_char_p, c_size_t, POINTER(Limit), c_size_t, POINTER(c_size_t)]),
@@ -107,6 +107,7 @@ FUNCTIONS = {
     "wule_settle": (u32, [POINTER(Handle), u32, u32, u32]),
     "wule_settle_range": (u32, [POINTER(Handle), u32, u32, u32, u32, POINTER(u32)]),
     "wule_detach": (u32, [POINTER(Handle), u32, u32, POINTER(u32)]),
+    "wule_top_up": (u32, [POINTER(Handle), u32, u32, u32]),
     "wule_take": (u32, [POINTER(Handle), u32, u32, POINTER(Taken), c_void_p, c_size_t]),
     "wule_message_read": (c_size_t, [POINTER(Handle), c_size_t, c_void_p, c_size_t]),
     "wule_message_drop": (None, [POINTER(Handle)]),
