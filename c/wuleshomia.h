@@ -454,10 +454,10 @@ uint32_t wule_first_lacking(wule_endpoint *e, uint32_t channel, uint32_t from, u
  *         return end;
  *     }
  *
- * WULE_OK, and *step says what was done. WULE_NO_MEMORY: memory for the frame was refused, it waits, and the next step tries it
- * again, also one of 0 bytes. This program gives up; another one waits for memory first. WULE_ANSWER_LOST, WULE_RECORD_LOST: memory
- * for what it wrote was refused; no more steps are served, and the connection is to be given up. WULE_BAD_OUTCOME, WULE_UNSENT,
- * WULE_NO_ENDPOINT, WULE_NULL: nothing was done, and *step is as it was. */
+ * WULE_OK, and *step says what was done. WULE_NO_MEMORY: memory for the frame was refused; step->fed.used bytes were taken, the
+ * frame waits, and the next step tries it again, also one of 0 bytes. This program gives up; another one waits for memory first.
+ * WULE_ANSWER_LOST, WULE_RECORD_LOST: memory for what it wrote was refused; no more steps are served, and the connection is to be
+ * given up. WULE_BAD_OUTCOME, WULE_UNSENT, WULE_NO_ENDPOINT, WULE_NULL: nothing was done, and *step is as it was. */
 uint32_t wule_serve_step(wule_endpoint *e, const wule_rule *rule, const uint8_t *bytes, size_t len, wule_step *step) WULE_CHECKED;
 
 /* Moves records of the last step out, at most `len` bytes, and returns how many: 0 if none wait, and if there is no endpoint. */
