@@ -131,6 +131,11 @@ def _() -> None:
     output_of(needs("valgrind"), "--quiet", "--error-exitcode=9", "--leak-check=full", BUILD / "receive", SHOP, 7)
 
 
+@test("calls.c hands on what it was handed, and never NULL")
+def _() -> None:
+    output_of(BUILD / "handed")
+
+
 @test("NULL is no bytes with the length 0, and refused with another, by a pointer to each call and by its name")
 def _() -> None:
     calls = {line.split(":")[0].split("wule_")[1] for line in (HERE / "abi.txt").read_text().splitlines() if line.startswith("function")}

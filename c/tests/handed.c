@@ -1,0 +1,152 @@
+/* What calls.c hands on, to exports that only keep what they get: all that a host handed in, and never NULL; nothing, if a pointer is NULL
+ * and its length is not 0. The proved archive couldn't tell, so that it is not linked. */
+#include "wuleshomia.h"
+#include <stdio.h>
+#include <string.h>
+
+static int failures, calls;
+
+#define IS(is)                                                                    \
+    do {                                                                          \
+        if (!(is)) printf("line %d: %s is not so\n", __LINE__, #is), failures++;   \
+    } while (0)
+
+/* What the last call got: its pointers and its numbers, in order. */
+static const void *pointers[5];
+static size_t numbers[3];
+
+static uint32_t keep(const void *a, const void *b, const void *c, const void *d, const void *e, size_t x, size_t y, size_t z) {
+    pointers[0] = a, pointers[1] = b, pointers[2] = c, pointers[3] = d, pointers[4] = e;
+    numbers[0] = x, numbers[1] = y, numbers[2] = z;
+    calls++;
+    return 77;
+}
+
+uint32_t wuleshomia_open(wule_endpoint *e, const wule_settings *settings, const char *container_id, size_t id_len,
+                         const wule_limit *limits, size_t limit_count, size_t *row);
+uint32_t wuleshomia_feed(wule_endpoint *e, const uint8_t *bytes, size_t len, wule_fed *fed);
+size_t wuleshomia_output(wule_endpoint *e, uint8_t *room, size_t len);
+uint32_t wuleshomia_finish(wule_endpoint *e, uint64_t *inside);
+uint32_t wuleshomia_take(wule_endpoint *e, uint32_t channel, uint32_t handle, wule_taken *taken, uint8_t *room, size_t len);
+size_t wuleshomia_message_read(wule_endpoint *e, size_t at, uint8_t *room, size_t len);
+uint32_t wuleshomia_link(wule_endpoint *e, uint32_t channel, uint32_t handle, wule_link_state *link, uint8_t *name, size_t len);
+uint32_t wuleshomia_link_source(wule_endpoint *e, uint32_t channel, uint32_t handle, uint8_t *room, size_t len);
+uint32_t wuleshomia_link_target(wule_endpoint *e, uint32_t channel, uint32_t handle, uint8_t *room, size_t len);
+uint32_t wuleshomia_serve_step(wule_endpoint *e, const wule_rule *rule, const uint8_t *bytes, size_t len, wule_step *step);
+size_t wuleshomia_records(wule_endpoint *e, uint8_t *room, size_t len);
+
+uint32_t wuleshomia_open(wule_endpoint *e, const wule_settings *settings, const char *container_id, size_t id_len,
+                         const wule_limit *limits, size_t limit_count, size_t *row) {
+    *row = 5;
+    return keep(e, settings, container_id, limits, row, id_len, limit_count, 0);
+}
+uint32_t wuleshomia_feed(wule_endpoint *e, const uint8_t *bytes, size_t len, wule_fed *fed) { return keep(e, bytes, fed, e, e, len, 1, 0); }
+size_t wuleshomia_output(wule_endpoint *e, uint8_t *room, size_t len) { return keep(e, room, e, e, e, len, 2, 0); }
+uint32_t wuleshomia_finish(wule_endpoint *e, uint64_t *inside) {
+    *inside = 5;
+    return keep(e, inside, e, e, e, 0, 3, 0);
+}
+uint32_t wuleshomia_take(wule_endpoint *e, uint32_t channel, uint32_t handle, wule_taken *taken, uint8_t *room, size_t len) {
+    return keep(e, room, taken, e, e, len, channel, handle);
+}
+size_t wuleshomia_message_read(wule_endpoint *e, size_t at, uint8_t *room, size_t len) { return keep(e, room, e, e, e, len, at, 4); }
+uint32_t wuleshomia_link(wule_endpoint *e, uint32_t channel, uint32_t handle, wule_link_state *link, uint8_t *name, size_t len) {
+    return keep(e, name, link, e, e, len, channel, handle);
+}
+uint32_t wuleshomia_link_source(wule_endpoint *e, uint32_t channel, uint32_t handle, uint8_t *room, size_t len) {
+    return keep(e, room, "source", e, e, len, channel, handle);
+}
+uint32_t wuleshomia_link_target(wule_endpoint *e, uint32_t channel, uint32_t handle, uint8_t *room, size_t len) {
+    return keep(e, room, "target", e, e, len, channel, handle);
+}
+uint32_t wuleshomia_serve_step(wule_endpoint *e, const wule_rule *rule, const uint8_t *bytes, size_t len, wule_step *step) {
+    return keep(e, bytes, rule, step, e, len, 5, 0);
+}
+size_t wuleshomia_records(wule_endpoint *e, uint8_t *room, size_t len) { return keep(e, room, e, e, e, len, 6, 0); }
+
+/* Whether one call was handed on since, with this endpoint, and with these bytes, or with some address for no bytes. */
+static int handed(const wule_endpoint *e, const void *bytes, size_t len) {
+    int once = calls == 1;
+    calls = 0;
+    return once && pointers[0] == e && (bytes ? pointers[1] == bytes : pointers[1] != NULL) && numbers[0] == len;
+}
+
+static int not_handed(void) {
+    int none = calls == 0;
+    calls = 0;
+    return none;
+}
+
+#define EACH_LENGTH(call, lacking)                                        \
+    do {                                                                  \
+        size_t n_;                                                        \
+        for (n_ = 1; n_ != 0; n_ <<= 1) IS((call) == (lacking) && not_handed()); \
+    } while (0)
+
+int main(void) {
+    wule_endpoint e = WULE_ENDPOINT_INIT;
+    wule_settings settings = WULE_SETTINGS_INIT;
+    static wule_limit rows[2];
+    wule_rule rule = {1, 2, 3};
+    wule_fed fed;
+    wule_taken taken;
+    wule_link_state link;
+    wule_step step;
+    uint8_t room[9];
+    uint64_t inside = 0;
+    size_t row = 0;
+
+    IS(wule_open(&e, &settings, "name", 4, rows, 2, &row) == 77 && pointers[1] == &settings && pointers[3] == rows && pointers[4] == &row);
+    IS(strcmp(pointers[2], "name") == 0 && numbers[0] == 4 && numbers[1] == 2 && row == 5 && calls == 1);
+    calls = 0;
+    IS(wule_open(&e, &settings, NULL, 0, NULL, 0, NULL) == 77 && pointers[2] != NULL && pointers[3] != NULL && pointers[4] != NULL);
+    IS(numbers[0] == 0 && numbers[1] == 0 && calls == 1);
+    calls = 0;
+    EACH_LENGTH(wule_open(&e, &settings, NULL, n_, rows, 2, &row), WULE_NULL);
+    EACH_LENGTH(wule_open(&e, &settings, "name", 4, NULL, n_, &row), WULE_NULL);
+    EACH_LENGTH(wule_open(&e, &settings, NULL, n_, NULL, n_, NULL), WULE_NULL);
+
+    IS(wule_feed(&e, room, 9, &fed) == 77 && handed(&e, room, 9) && pointers[2] == &fed && numbers[1] == 1);
+    IS(wule_feed(&e, NULL, 0, &fed) == 77 && handed(&e, NULL, 0) && pointers[2] == &fed);
+    EACH_LENGTH(wule_feed(&e, NULL, n_, &fed), WULE_NULL);
+
+    IS(wule_output(&e, room, 9) == 77 && handed(&e, room, 9) && numbers[1] == 2);
+    IS(wule_output(&e, NULL, 0) == 77 && handed(&e, NULL, 0));
+    EACH_LENGTH(wule_output(&e, NULL, n_), 0);
+
+    IS(wule_finish(&e, &inside) == 77 && handed(&e, &inside, 0) && inside == 5 && numbers[1] == 3);
+    IS(wule_finish(&e, NULL) == 77 && handed(&e, NULL, 0));
+
+    IS(wule_take(&e, 7, 8, &taken, room, 9) == 77 && handed(&e, room, 9) && pointers[2] == &taken && numbers[1] == 7 && numbers[2] == 8);
+    IS(wule_take(&e, 7, 8, &taken, NULL, 0) == 77 && handed(&e, NULL, 0) && pointers[2] == &taken && numbers[1] == 7 && numbers[2] == 8);
+    EACH_LENGTH(wule_take(&e, 7, 8, &taken, NULL, n_), WULE_NULL);
+
+    IS(wule_message_read(&e, 7, room, 9) == 77 && handed(&e, room, 9) && numbers[1] == 7 && numbers[2] == 4);
+    IS(wule_message_read(&e, 7, NULL, 0) == 77 && handed(&e, NULL, 0) && numbers[1] == 7);
+    EACH_LENGTH(wule_message_read(&e, 7, NULL, n_), 0);
+
+    IS(wule_link(&e, 7, 8, &link, room, 9) == 77 && handed(&e, room, 9) && pointers[2] == &link && numbers[1] == 7 && numbers[2] == 8);
+    IS(wule_link(&e, 7, 8, &link, NULL, 0) == 77 && handed(&e, NULL, 0) && pointers[2] == &link && numbers[1] == 7 && numbers[2] == 8);
+    EACH_LENGTH(wule_link(&e, 7, 8, &link, NULL, n_), WULE_NULL);
+
+    IS(wule_link_source(&e, 7, 8, room, 9) == 77 && handed(&e, room, 9) && numbers[1] == 7 && numbers[2] == 8);
+    IS(strcmp(pointers[2], "source") == 0);
+    IS(wule_link_source(&e, 7, 8, NULL, 0) == 77 && handed(&e, NULL, 0) && numbers[1] == 7 && numbers[2] == 8);
+    EACH_LENGTH(wule_link_source(&e, 7, 8, NULL, n_), WULE_NULL);
+
+    IS(wule_link_target(&e, 7, 8, room, 9) == 77 && handed(&e, room, 9) && numbers[1] == 7 && numbers[2] == 8);
+    IS(strcmp(pointers[2], "target") == 0);
+    IS(wule_link_target(&e, 7, 8, NULL, 0) == 77 && handed(&e, NULL, 0) && numbers[1] == 7 && numbers[2] == 8);
+    EACH_LENGTH(wule_link_target(&e, 7, 8, NULL, n_), WULE_NULL);
+
+    IS(wule_serve_step(&e, &rule, room, 9, &step) == 77 && handed(&e, room, 9) && pointers[2] == &rule && pointers[3] == &step);
+    IS(wule_serve_step(&e, &rule, NULL, 0, &step) == 77 && handed(&e, NULL, 0) && pointers[2] == &rule && pointers[3] == &step);
+    EACH_LENGTH(wule_serve_step(&e, &rule, NULL, n_, &step), WULE_NULL);
+
+    IS(wule_records(&e, room, 9) == 77 && handed(&e, room, 9) && numbers[1] == 6);
+    IS(wule_records(&e, NULL, 0) == 77 && handed(&e, NULL, 0));
+    EACH_LENGTH(wule_records(&e, NULL, n_), 0);
+
+    printf("handed: %s\n", failures ? "failed" : "ok");
+    return failures != 0;
+}
