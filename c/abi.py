@@ -342,7 +342,7 @@ PLANTS = [
     ("an export that a host is to call itself", "exports", "fn wuleshomia_take(", "fn wule_take("),
     ("an export that calls.c leaves out", "exports", "fn wule_has_output(", "fn wuleshomia_has_output("),
     ("a type in calls.c", "calls", "size_t wuleshomia_records(wule_endpoint *e, uint8_t *room, size_t len);", "uint32_t wuleshomia_records(wule_endpoint *e, uint8_t *room, size_t len);"),
-    ("another code in calls.c", "calls", "    if (is_lacking(name, len)) return WULE_NULL;", "    if (is_lacking(name, len)) return WULE_NO_LINK;"),
+    ("another code in calls.c", "calls", "wuleshomia_link(e, channel, handle, link, name, len) : WULE_NULL;", "wuleshomia_link(e, channel, handle, link, name, len) : WULE_NO_LINK;"),
     ("a number in the specs", "codes", "if nat_eq n 1 then Some settlement.Rejected", "if nat_eq n 1 then Some settlement.Released"),
     ("a type in Python", "native", '"wule_held": (c_uint64,', '"wule_held": (u32,'),
     ("a field in Python", "native", '("tag_len", u32),', '("tag_size", u32),'),

@@ -17,34 +17,36 @@ uint32_t wuleshomia_link_target(wule_endpoint *e, uint32_t channel, uint32_t han
 uint32_t wuleshomia_serve_step(wule_endpoint *e, const wule_rule *rule, const uint8_t *bytes, size_t len, wule_step *step);
 size_t wuleshomia_records(wule_endpoint *e, uint8_t *room, size_t len);
 
-/* An address for no bytes and for no rows: of each the length 0 is handed on with it, so that nothing is read or written there. */
+/* An address for no bytes and for no rows: the length 0 is handed on with it, so that nothing is read or written there. */
 static uint8_t no_bytes;
 static const wule_limit no_rows;
 
-/* Whether bytes are promised at NULL. */
-static int is_lacking(const void *at, size_t len) { return at == NULL && len > 0; }
+/* Puts an address in the place of NULL. Returns 0 if the length says that bytes are there. */
+static int has_bytes(const uint8_t **bytes, size_t len) {
+    if (*bytes != NULL) return 1;
+    *bytes = &no_bytes;
+    return len == 0;
+}
 
-static uint8_t *room_at(uint8_t *at) { return at != NULL ? at : &no_bytes; }
-
-static const uint8_t *bytes_at(const uint8_t *at) { return at != NULL ? at : &no_bytes; }
+static int has_room(uint8_t **room, size_t len) {
+    if (*room != NULL) return 1;
+    *room = &no_bytes;
+    return len == 0;
+}
 
 uint32_t wule_open(wule_endpoint *e, const wule_settings *settings, const char *container_id, size_t id_len,
                    const wule_limit *limits, size_t limit_count, size_t *row) {
     size_t nowhere = 0;
-    if (is_lacking(container_id, id_len) || is_lacking(limits, limit_count)) return WULE_NULL;
+    if ((container_id == NULL && id_len > 0) || (limits == NULL && limit_count > 0)) return WULE_NULL;
     return wuleshomia_open(e, settings, container_id != NULL ? container_id : "", id_len, limits != NULL ? limits : &no_rows,
                            limit_count, row != NULL ? row : &nowhere);
 }
 
 uint32_t wule_feed(wule_endpoint *e, const uint8_t *bytes, size_t len, wule_fed *fed) {
-    if (is_lacking(bytes, len)) return WULE_NULL;
-    return wuleshomia_feed(e, bytes_at(bytes), len, fed);
+    return has_bytes(&bytes, len) ? wuleshomia_feed(e, bytes, len, fed) : WULE_NULL;
 }
 
-size_t wule_output(wule_endpoint *e, uint8_t *room, size_t len) {
-    if (is_lacking(room, len)) return 0;
-    return wuleshomia_output(e, room_at(room), len);
-}
+size_t wule_output(wule_endpoint *e, uint8_t *room, size_t len) { return has_room(&room, len) ? wuleshomia_output(e, room, len) : 0; }
 
 uint32_t wule_finish(wule_endpoint *e, uint64_t *inside) {
     uint64_t nowhere = 0;
@@ -52,36 +54,27 @@ uint32_t wule_finish(wule_endpoint *e, uint64_t *inside) {
 }
 
 uint32_t wule_take(wule_endpoint *e, uint32_t channel, uint32_t handle, wule_taken *taken, uint8_t *room, size_t len) {
-    if (is_lacking(room, len)) return WULE_NULL;
-    return wuleshomia_take(e, channel, handle, taken, room_at(room), len);
+    return has_room(&room, len) ? wuleshomia_take(e, channel, handle, taken, room, len) : WULE_NULL;
 }
 
 size_t wule_message_read(wule_endpoint *e, size_t at, uint8_t *room, size_t len) {
-    if (is_lacking(room, len)) return 0;
-    return wuleshomia_message_read(e, at, room_at(room), len);
+    return has_room(&room, len) ? wuleshomia_message_read(e, at, room, len) : 0;
 }
 
 uint32_t wule_link(wule_endpoint *e, uint32_t channel, uint32_t handle, wule_link_state *link, uint8_t *name, size_t len) {
-    if (is_lacking(name, len)) return WULE_NULL;
-    return wuleshomia_link(e, channel, handle, link, room_at(name), len);
+    return has_room(&name, len) ? wuleshomia_link(e, channel, handle, link, name, len) : WULE_NULL;
 }
 
 uint32_t wule_link_source(wule_endpoint *e, uint32_t channel, uint32_t handle, uint8_t *room, size_t len) {
-    if (is_lacking(room, len)) return WULE_NULL;
-    return wuleshomia_link_source(e, channel, handle, room_at(room), len);
+    return has_room(&room, len) ? wuleshomia_link_source(e, channel, handle, room, len) : WULE_NULL;
 }
 
 uint32_t wule_link_target(wule_endpoint *e, uint32_t channel, uint32_t handle, uint8_t *room, size_t len) {
-    if (is_lacking(room, len)) return WULE_NULL;
-    return wuleshomia_link_target(e, channel, handle, room_at(room), len);
+    return has_room(&room, len) ? wuleshomia_link_target(e, channel, handle, room, len) : WULE_NULL;
 }
 
 uint32_t wule_serve_step(wule_endpoint *e, const wule_rule *rule, const uint8_t *bytes, size_t len, wule_step *step) {
-    if (is_lacking(bytes, len)) return WULE_NULL;
-    return wuleshomia_serve_step(e, rule, bytes_at(bytes), len, step);
+    return has_bytes(&bytes, len) ? wuleshomia_serve_step(e, rule, bytes, len, step) : WULE_NULL;
 }
 
-size_t wule_records(wule_endpoint *e, uint8_t *room, size_t len) {
-    if (is_lacking(room, len)) return 0;
-    return wuleshomia_records(e, room_at(room), len);
-}
+size_t wule_records(wule_endpoint *e, uint8_t *room, size_t len) { return has_room(&room, len) ? wuleshomia_records(e, room, len) : 0; }
