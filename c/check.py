@@ -185,6 +185,26 @@ def _() -> None:
         assert served(SHOP, piece) == whole, f"in pieces of {piece}"
 
 
+def answered(stream: Path) -> bytes:
+    """What the calls of the header's receiver answer to a stream, by Python."""
+    script = """
+import sys
+from wuleshomia import Attached, Endpoint, Ready
+endpoint, answers = Endpoint("gateway"), b""
+for event in endpoint.feed(open(sys.argv[1], "rb").read()):
+    if isinstance(event, Attached):
+        endpoint.top_up(event.channel, 16, 2048)
+    elif isinstance(event, Ready):
+        message = endpoint.take(event.channel, event.handle)
+        if not message.settled:
+            endpoint.settle(event.channel, message.id)
+        endpoint.top_up(event.channel, 16, 2048)
+    answers += endpoint.output()
+sys.stdout.buffer.write(answers + endpoint.output())
+"""
+    return output_of(sys.executable, "-c", script, stream)
+
+
 @test("the programs of the header run over a socket, also with each request for memory refused")
 def _() -> str:
     told = []
@@ -197,7 +217,7 @@ def _() -> str:
                 line = output_of(BUILD / "programs", program, stream, up, out).decode().strip()
                 whole = output_of(BUILD / "programs", program, stream, up, out, "whole").decode().strip()
                 assert up.read_bytes() == wanted, f"{program}, {stream.name}"
-                assert program == "receive" or out.read_bytes() == answers, f"answers to {stream.name}"
+                assert out.read_bytes() == (answers if program == "serve" else answered(stream)), f"answers to {stream.name}"
                 assert whole == f"end {ENDS.index(end)}", f"{program}, {stream.name}: {whole}, not {end}"
                 told.append(line)
     return told[0]

@@ -1,5 +1,5 @@
 /* The programs of wuleshomia.h, as programs.py takes them out of it, over a socket whose other end plays a peer from a file: first with
- * memory, and then with each request for memory refused in turn, unless `whole` is said.
+ * memory, and then with each request for memory refused in turn, alone and with all after it, unless `whole` is said.
  *     programs receive FILE MESSAGES ANSWERS [whole]
  *     programs serve FILE RECORDS ANSWERS [whole]
  * It is linked with --wrap=malloc,--wrap=realloc,--wrap=free. A run that hangs is ended by SIGALRM. */
@@ -15,9 +15,10 @@
 
 enum { SECONDS = 20, ROOM = 1 << 22 };
 
-/* ---- memory, of which one request is refused */
+/* ---- memory, of which one request is refused, or that and all after it */
 
 static long until_refusal = -1; /* so many requests are granted before one is refused; below 0: all are */
+static int for_good, was_refused;
 static long blocks;
 
 void *__real_malloc(size_t size);
@@ -27,7 +28,11 @@ void *__wrap_malloc(size_t size);
 void *__wrap_realloc(void *at, size_t size);
 void __wrap_free(void *at);
 
-static int is_refused(void) { return until_refusal >= 0 && until_refusal-- == 0; }
+static int is_refused(void) {
+    if (until_refusal < 0 || (until_refusal > 0 && until_refusal--)) return 0;
+    if (!for_good) until_refusal = -1;
+    return was_refused = 1;
+}
 
 void *__wrap_malloc(size_t size) {
     void *at = is_refused() ? NULL : __real_malloc(size);
@@ -133,7 +138,7 @@ static int differs(uint32_t end, uint32_t whole_end, struct bytes up, struct byt
 int main(int argc, char **argv) {
     struct bytes up, answers;
     int serves, failures = 0;
-    long refused;
+    long refused = 0;
     uint32_t end;
     if (argc < 5) return 2;
     serves = strcmp(argv[1], "serve") == 0;
@@ -143,13 +148,16 @@ int main(int argc, char **argv) {
     up = read_file(name_of_handed_up), answers = read_file(name_of_answers);
     if (blocks != 0 || end == 0) failures++;
     if (argc > 5) return printf("end %u\n", (unsigned)end), failures != 0;
-    for (refused = 0;; refused++) {
-        uint32_t some_end;
-        until_refusal = refused;
-        some_end = run(serves);
-        if (until_refusal >= 0) break; /* it asked for fewer */
-        if (blocks != 0 || differs(some_end, end, up, answers)) printf("request %ld refused: end %u\n", refused, (unsigned)some_end), failures++;
-    }
+    for (for_good = 0; for_good < 2; for_good++)
+        for (refused = 0;; refused++) {
+            uint32_t some_end;
+            until_refusal = refused, was_refused = 0;
+            some_end = run(serves);
+            if (!was_refused) break; /* it asked for fewer */
+            if (blocks == 0 && !differs(some_end, end, up, answers)) continue;
+            printf("request %ld refused%s: end %u\n", refused, for_good ? ", and all after it" : "", (unsigned)some_end);
+            failures++;
+        }
     printf("%s: %s; end %u; %ld requests were refused\n", argv[1], failures ? "failed" : "ok", (unsigned)end, refused);
     return failures != 0;
 }
