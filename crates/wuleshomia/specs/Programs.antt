@@ -33,7 +33,7 @@ pub data Exports : Held → List Call → List Answer → Held → Type 0 where
   TopsUpTo : {s last : Held} {calls : List Call} {answers : List Answer} (next : Held) (r : Rule) (window : ℕ) (supplies : List Supply) (f : CallFault)
       → (x : GaveSome r window supplies f s.endpoint next.endpoint) → Exports next calls answers last
       → Exports s (calls_of x.steps ++ top_up_by x.supply (lack_by r window x.last.connection x.supply) ∷ calls) (answers_of x.steps ++ Refused f ∷ answers) last
-  -- the endpoint is looked at alone, or bytes that wait for C are read, moved out or given back
+  -- the endpoint is looked at alone, or no session is live to be given anything, or bytes that wait for C are read, moved out or given back
   Reads : {s last : Held} {calls : List Call} {answers : List Answer} (next : Held)
       → next.endpoint ≡ s.endpoint → Exports next calls answers last → Exports s calls answers last
   -- a step is served, whatever it results in: these are the calls of its rule, and what they leave is held then, except bytes of the buffer that do not
