@@ -19,6 +19,7 @@ mod sender;
 mod server;
 mod session;
 mod settings;
+mod tables;
 mod words;
 
 use crate::endpoint::Receiving;

@@ -9,9 +9,11 @@
 //!   each of the numbers. It answers `the same` where all other answers stay as they are.
 //! - `script "TEXT"`: a whole script, and all that it answers, in quotes too.
 //! - `third "TEXT"`: a script that has this as its third line, with good lines before it and a bad one after it.
+//! - `table "TEXT"`: a table of limits, and the bounds that it sets, as `crate::tables` has them.
 
 use crate::pieces::cut;
 use crate::quotes::{bytes_in_quotes, in_quotes};
+use crate::tables;
 use amqp_frame::Device;
 use amqp_script::{ScriptFault, replay_script};
 use std::alloc::Global;
@@ -40,6 +42,9 @@ impl Subject for Script {
         }
         if let Some(text) = words.strip_prefix("third ") {
             return quoted_answer(alloc, &with_third(alloc, &bytes_in_quotes(alloc, text)?)?);
+        }
+        if let Some(text) = words.strip_prefix("table ") {
+            return tables::bounds_by(alloc, &bytes_in_quotes(alloc, text)?);
         }
         match words.split_once(" times ") {
             Some((count, line)) => self.go_on_with_one(alloc, number(count)?, line),
