@@ -1,8 +1,8 @@
 //! Serves many peers at a time.
 
-use crate::command::GatewaySettings;
 use crate::metrics::Metrics;
 use crate::traces::Traces;
+use amqp_command_line::GatewaySettings;
 use amqp_endpoint::Config;
 use amqp_gateway::{Ending, Gateway, GatewayFault, Settings, Sink, Watcher, link_most, peer_most};
 use amqp_perform::Outcome;

@@ -3,23 +3,22 @@
 ghost use Rattle.std.specs.Prelude.{◌≡◌};
 ghost use Rattle.amqp_commands.specs.declared.run.Fault.TheVariants.{NoMemory};
 
-use crate::command::{
-    GatewayFiles, GatewaySettings, Order, RecvSettings, ToldTo, command_line, order_of,
-};
 use crate::gateway::{self, Plan};
-use crate::recv::{BUFFER, recv_on};
-use crate::send::Fate;
-use crate::send_file::{FileFault, send_file};
 use crate::store::{Exclusive, Store};
 use crate::told::{Desk, Told};
 use crate::traces::Traces;
+use amqp_command_line::{
+    GatewayFiles, GatewaySettings, Order, RecvSettings, ToldTo, command_line, order_of,
+};
 use amqp_dump::{DumpFault, dump};
 use amqp_endpoint::Config;
 use amqp_frame::Device;
 use amqp_gateway::{GatewayFault, Sink, Unsynced};
 use amqp_perform::Outcome;
+use amqp_receive::{BUFFER, recv_on};
 use amqp_records::{BlocksFault, Output, RecordsFault, print_blocks, print_records};
 use amqp_script::{ScriptFault, read_limits, replay_script};
+use amqp_send_file::{Fate, FileFault, send_file};
 use amqp_serve::Policy;
 use amqp_trace::Trace;
 use clap::error::ErrorKind;

@@ -1,8 +1,14 @@
-//! Sends a file to a listener.
+//! Sends a file as one message: what `amqp send` does.
+//!
+//! Begin reading at [`send_file`], which opens the file and the connection. `send` sends a message over any devices with
+//! `amqp_send`, and waits for its fate. The tests are in `test_amqp`.
+#![tactic(auto)]
 
-use crate::send::{Fate, SendFault, send_all};
+mod send;
+
 use amqp_frame::Device;
 use amqp_send::{SendConfig, Sender};
+pub use send::{Fate, SendFault, send_all};
 use std::alloc::{AllocError, Global};
 use std::io::Read;
 use std::net::{Net, OpenStream, TcpStream};

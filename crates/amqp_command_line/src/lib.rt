@@ -1,4 +1,8 @@
-//! The command line.
+//! The command line of the program `amqp`.
+//!
+//! Begin reading at [`Order`], which is what a command line asks for; [`command_line`] says what may stand on it. The tests are in
+//! `test_amqp`.
+#![tactic(auto)]
 
 use amqp_records::Output;
 use clap::{Arg, ArgAction, ArgMatches, Command, value_parser};

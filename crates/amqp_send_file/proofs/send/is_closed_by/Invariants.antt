@@ -1,5 +1,5 @@
 use Rattle.std.proofs.Common.{◌-◌, ◌≤◌, length}
-use Rattle.amqp_commands.proofs.send.is_closed_by.Given as goal
+use Rattle.amqp_send_file.proofs.send.is_closed_by.Given as goal
 
 abbrev pub invariant-units : goal.invariant-units
 invariant-units g l = l.at ≤ length l.piece

@@ -1,10 +1,11 @@
 use Rattle.std.proofs.Common.{◌≡◌, length, IsTrue}
 use Rattle.amqp_frame.specs.Devices.{has_failed, reads_ahead}
-use Rattle.amqp_commands.proofs.send.await_close.Given as goal
+use Rattle.amqp_send_file.proofs.send.await_fate.Given as goal
 
 abbrev pub invariant-reads : goal.invariant-reads
 invariant-reads g l = record {
-  unmarked : ¬ (IsTrue (has_failed l.reader));
+  reader : ¬ (IsTrue (has_failed l.reader));
+  writer : ¬ (IsTrue (has_failed l.writer));
   long : length l.piece ≡ length l.initial.piece;
 }
 

@@ -1,6 +1,6 @@
 use Rattle.std.proofs.Common.{◌-◌, ◌≤◌, length, IsTrue}
 use Rattle.amqp_frame.specs.Devices.{has_failed}
-use Rattle.amqp_commands.proofs.send.fate_in.Given as goal
+use Rattle.amqp_send_file.proofs.send.fate_in.Given as goal
 
 abbrev pub invariant-units : goal.invariant-units
 invariant-units g l = record {
