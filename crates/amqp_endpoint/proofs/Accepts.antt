@@ -84,7 +84,7 @@ WhatIsWritten = (bytes : List ℕ) (d : Descriptor) (fields : List Field) (cells
     BodyOf bytes d cells payload → fields_of d ≡ Some fields → AreOfFields fields cells
 
 read_ranged : (config : Configured) (d : Descriptor) (cells : List Cell) (payload : List ℕ) → ((fields : List Field) → fields_of d ≡ Some fields → AreOfFields fields cells) → IsRead config (read_in config d cells payload)
-read_ranged config of_type.Open (a ∷ b ∷ c ∷ d ∷ rest) payload all = tt
+read_ranged config of_type.Open (a ∷ b ∷ c ∷ d ∷ e ∷ rest) payload all = tt
 read_ranged config of_type.Open _ payload all = tt
 read_ranged config of_type.Begin cells payload all = begin_ranged config cells (all begin_fields refl)
 read_ranged config of_type.Attach cells payload all = attach_ranged config cells (all attach_fields refl)

@@ -103,7 +103,7 @@ module _ (law : SessionMost) (channel handle : ℕ) where
   one_event (event.SessionFailed place) x = anew (nat_eq place channel) Waits x refl
   one_event (event.SessionEnded place) x = anew (nat_eq place channel) Free x refl
   one_event event.HeaderCame x = omega arith
-  one_event (event.Opened m c) x = omega arith
+  one_event (event.Opened m c said) x = omega arith
   one_event event.Ignored x = omega arith
   one_event event.HeaderRefused x = omega arith
   one_event event.Broken x = omega arith

@@ -98,7 +98,7 @@ disposition_read p = rw (role_back p.role, number_back p.last, flag_back p.settl
 
 -- a performative in hand says what its fields say
 pub in_hand : (config : Configured) (p : Performative) (payload : List ℕ) → read_in config (type_of p) (performative_cells p) payload ≡ read_of config p payload
-in_hand config (performative.Open p) payload = refl
+in_hand config (performative.Open p) payload = rw (span_back p.hostname.now, span_back p.idle_time_out.now) refl
 in_hand config (performative.Begin p) payload = rw (number_back p.remote_channel) refl
 in_hand config (performative.Attach p) payload = attach_read config p
 in_hand config (performative.Flow p) payload = flow_read p

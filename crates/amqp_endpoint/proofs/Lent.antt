@@ -34,7 +34,7 @@ lives Waits t e = absurd (grind (arith, e))
 -- it goes on
 pub went_on : (s : ConnectionState) (i : ℕ) (t : SessionState) (e : SessionEvent) → slot_at s i ≡ Live t → with_session s i (session_after t e) ≡ connection_after s (event.InSession i e)
 went_on s i t e live =
-    after_is s.config s.phase s.failed s.closed s.sessions s refl (event.InSession i e) (slice_set s.sessions i (Live (session_after t e)))
+    after_is s.config s.phase s.failed s.closed s.peer s.sessions s refl (event.InSession i e) (slice_set s.sessions i (Live (session_after t e)))
     (goes_on_at s.sessions i e t (stands (slice_get s.sessions i) t live))
 
 -- or is as it was

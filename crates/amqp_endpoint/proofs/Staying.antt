@@ -21,8 +21,8 @@ use Rattle.amqp_perform.specs.declared.descriptor.Descriptor.{Descriptor}
 use Rattle.amqp_perform.specs.BodyReading.{body_at, described_at, descriptor_at}
 use Rattle.amqp_perform.specs.Cells.{Cell}
 
-still : (s : ConnectionState) → connection_of s.config s.phase s.failed s.closed (connection_after s event.Ignored).sessions ≡ s
-still s = ap (λ (slots : Table). connection_of s.config s.phase s.failed s.closed slots) (none_after s.sessions)
+still : (s : ConnectionState) → connection_of s.config s.phase s.failed s.closed s.peer (connection_after s event.Ignored).sessions ≡ s
+still s = ap (λ (slots : Table). connection_of s.config s.phase s.failed s.closed s.peer slots) (none_after s.sessions)
 
 -- a line whose event changes nothing, which is not answered, and of which nothing is told
 nothing_done : (s : ConnectionState) (unsent : List ℕ) (l : Line) → connection_after s (event_on s l) ≡ s → reply_on s l ≡ [] → told_on s l ≡ None → IsDone s s unsent unsent l None

@@ -1,5 +1,5 @@
 -- One event more: what the connection shows stays what its history gives.
-use Rattle.std.proofs.Common.{arith, ◌≡◌, ℕ, ◌^◌, ◌<◌, ◌≤◌, subst, Bool, true, false, List, [], ◌∷◌, refl, sym, ap, ◌∙◌}
+use Rattle.std.proofs.Common.{arith, ◌≡◌, ℕ, ◌^◌, ◌<◌, ◌≤◌, subst, Bool, true, false, List, [], ◌∷◌, refl, sym, ap, ◌∙◌, Option}
 use Rattle.std.specs.Prelude.{nat_eq, unwrap_or, if◌then◌else◌}
 use Rattle.std.specs.List.{list_any}
 use Rattle.amqp_session.specs.declared.slot.Slot.{Slot}
@@ -11,6 +11,7 @@ use Rattle.amqp_session.specs.Sessions as one
 use Rattle.amqp_session.specs.Histories as session
 use Rattle.amqp_session.proofs.Places.{places_step}
 use Rattle.amqp_endpoint.specs.declared.phase.Phase.{Phase}
+use Rattle.amqp_endpoint.specs.declared.introduction.Introduction.{Introduction}
 use Rattle.amqp_endpoint.specs.declared.phase.Phase.TheVariants as phase
 use Rattle.amqp_endpoint.specs.Configs.{Configured}
 use Rattle.amqp_endpoint.specs.Connections as event
@@ -115,7 +116,7 @@ closed_on : (over : Bool) (q : Phase) → over ≡ false → phase.Closing ≡ c
 closed_on over q a = ap (λ (x : Bool). chosen x true q) (sym a)
 
 phase_on : (h : List ConnectionEvent) (e : ConnectionEvent) → IsTimely (phase_of h) e → phase_after (phase_of h) e ≡ phase_of (e ∷ h)
-phase_on h (event.Opened m c) timely =
+phase_on h (event.Opened m c said) timely =
     let p = unopened_parts (list_any is_end h) (list_any is_own_close h) (unwrap_or (opening_in h) phase.Unopened) timely in
     opened_on (list_any is_end h) (list_any is_own_close h) (phase.Open m c) p.0 p.1
 phase_on h event.Failed timely =
@@ -127,7 +128,7 @@ phase_on h e timely = refl
 
 limit_on : (config : Configured) (p : Phase) (e : ConnectionEvent) → channel_limit p ≤ config.channel_max → IsOffered config e → channel_limit (phase_after p e) ≤ config.channel_max
 limit_on config p event.HeaderCame limit offered = limit
-limit_on config p (event.Opened m c) limit offered = offered
+limit_on config p (event.Opened m c said) limit offered = offered
 limit_on config p (event.Begun channel terms) limit offered = limit
 limit_on config p (event.InSession channel e) limit offered = limit
 limit_on config p (event.SessionFailed channel) limit offered = limit
@@ -144,7 +145,7 @@ none_on : (h : List ConnectionEvent) (e : ConnectionEvent) → IsTimely (phase_o
     is_open (phase_after (phase_of h) e) ≡ false → (channel : ℕ) → part channel (e ∷ h) ≡ Free
 none_on h event.HeaderCame timely none shut channel = none shut channel
 none_on h event.Ignored timely none shut channel = none shut channel
-none_on h (event.Opened m c) timely none shut channel = absurd (grind (arith, shut))
+none_on h (event.Opened m c said) timely none shut channel = absurd (grind (arith, shut))
 none_on h (event.Begun place terms) timely none shut channel = both (is_open (phase_of h)) timely shut
 none_on h (event.InSession place e) timely none shut channel = both (is_open (phase_of h)) timely shut
 none_on h (event.SessionFailed place) timely none shut channel = both (is_open (phase_of h)) timely shut
@@ -153,8 +154,8 @@ none_on h e timely none shut channel = refl
 
 -- One step. -------------------------------------------------------------------------------------------------------------
 
-made : Configured → Phase → Bool → Bool → List (Slot SessionState) → ConnectionState
-made config p failed closed slots = record { config = config; phase = p; failed = failed; closed = closed; sessions = slots }
+made : Configured → Phase → Bool → Bool → Option Introduction → List (Slot SessionState) → ConnectionState
+made config p failed closed peer slots = record { config = config; phase = p; failed = failed; closed = closed; peer = peer; sessions = slots }
 
 -- a new connection has the state of the empty history
 pub begins_sound : ConnectionBegins
@@ -169,8 +170,9 @@ goes_on_sound begins step config h e narrow sound may =
     let p = phase_on h e may.0 in
     let after = connection_after (state_of config h) e in
     let failed = after.failed in
-    let closed = after.closed in (
-      ap (λ (q : Phase). made config q failed closed after.sessions) p ∙ ap (λ (slots : List (Slot SessionState)). made config (phase_of (e ∷ h)) failed closed slots) table.0,
+    let closed = after.closed in
+    let peer = after.peer in (
+      ap (λ (q : Phase). made config q failed closed peer after.sessions) p ∙ ap (λ (slots : List (Slot SessionState)). made config (phase_of (e ∷ h)) failed closed peer slots) table.0,
       record {
         limit = subst (λ (q : Phase). channel_limit q ≤ config.channel_max) p (limit_on config (phase_of h) e sound.limit may.1);
         sessions = table.1;

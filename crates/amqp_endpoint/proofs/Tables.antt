@@ -1,6 +1,6 @@
 -- The table of places, and what an event at one of them, or at all, makes of it.
 use Rattle.std.proofs.Common.{arith, ◌≡◌, ℕ, zero, suc, ◌+◌, ◌<◌, ◌≤◌, subst, Bool, List, [], ◌∷◌, ◌++◌, length, map, refl, sym, ap, ◌∙◌, ◌||◌, Option, Some, get_or}
-use Rattle.std.specs.Prelude.{slice_get, slice_set, unwrap_or}
+use Rattle.std.specs.Prelude.{slice_get, slice_set, unwrap_or, is_some, if◌then◌else◌}
 use Rattle.std.proofs.lemmas.List.{set-get_or}
 use Rattle.amqp_session.specs.declared.slot.Slot.{Slot}
 use Rattle.amqp_session.specs.declared.slot.Slot.TheVariants.{Free, Live, Waits}
@@ -8,9 +8,10 @@ use Rattle.amqp_session.specs.declared.terms.SessionTerms.{SessionTerms}
 use Rattle.amqp_session.specs.Places.{Happens, Nothing, Begins, GoesOn, Leaves, Gone, AllGone, places_from, tabulate}
 use Rattle.amqp_session.specs.Sessions.{SessionState, SessionEvent, session_begins, session_after}
 use Rattle.amqp_endpoint.specs.declared.phase.Phase.{Phase}
+use Rattle.amqp_endpoint.specs.declared.introduction.Introduction.{Introduction}
 use Rattle.amqp_endpoint.specs.Configs.{Configured}
 use Rattle.amqp_endpoint.specs.declared.phase.Phase.TheVariants as phase
-use Rattle.amqp_endpoint.specs.Connections.{ConnectionState, ConnectionEvent, channels, slot_at, happens, is_failure, is_peer_close, phase_after, connection_after, channel_ready}
+use Rattle.amqp_endpoint.specs.Connections.{ConnectionState, ConnectionEvent, channels, slot_at, happens, is_failure, is_peer_close, said_by, phase_after, connection_after, channel_ready}
 use Rattle.amqp_endpoint.specs.Connections as event
 use Rattle.amqp_endpoint.specs.Keeping.{connection_of, IsPlaced}
 use Rattle.amqp_session.proofs.Places.{tabulate_long}
@@ -64,17 +65,21 @@ goes_on_at slots i e t at = table.goes_on_at session_begins session_after slots 
 
 -- A kept connection. ----------------------------------------------------------------------------------------------------
 
-module _ (config : Configured) (p : Phase) (failed closed : Bool) (slots : Table) (s : ConnectionState) (view : connection_of config p failed closed slots ≡ s) where
+-- what the peer said of itself, by an event or before
+abbrev heard : ConnectionEvent → Option Introduction → Option Introduction
+heard e peer = if is_some (said_by e) then said_by e else peer
+
+module _ (config : Configured) (p : Phase) (failed closed : Bool) (peer : Option Introduction) (slots : Table) (s : ConnectionState) (view : connection_of config p failed closed peer slots ≡ s) where
   -- the connection after an event, where the table is known
   pub after_is : (e : ConnectionEvent) (slots2 : Table) → From 0 (happens e) slots ≡ slots2 →
-      connection_of config (phase_after p e) (is_failure e || failed) (is_peer_close e || closed) slots2 ≡ connection_after s e
+      connection_of config (phase_after p e) (is_failure e || failed) (is_peer_close e || closed) (heard e peer) slots2 ≡ connection_after s e
   after_is e slots2 same =
-      subst (λ (t : ConnectionState). connection_of config (phase_after p e) (is_failure e || failed) (is_peer_close e || closed) slots2 ≡ connection_after t e) view
-      (ap (λ (ls : Table). connection_of config (phase_after p e) (is_failure e || failed) (is_peer_close e || closed) ls) (sym same))
+      subst (λ (t : ConnectionState). connection_of config (phase_after p e) (is_failure e || failed) (is_peer_close e || closed) (heard e peer) slots2 ≡ connection_after t e) view
+      (ap (λ (ls : Table). connection_of config (phase_after p e) (is_failure e || failed) (is_peer_close e || closed) (heard e peer) ls) (sym same))
 
   -- the same where all places are free: the freed ones were lent from the table
   pub freed : (e : ConnectionEvent) (lent places : Table) → happens e ≡ AllGone → lent ≡ slots → places ≡ map (λ x. Free) lent →
-      connection_of config (phase_after p e) (is_failure e || failed) (is_peer_close e || closed) places ≡ connection_after s e
+      connection_of config (phase_after p e) (is_failure e || failed) (is_peer_close e || closed) (heard e peer) places ≡ connection_after s e
   freed e lent places gone is free =
       after_is e places (ap (λ (x : Happens SessionTerms SessionEvent). From 0 x slots) gone ∙ all_gone 0 slots ∙ ap (λ (ls : Table). map (λ x. Free) ls) (sym is) ∙ sym free)
 
@@ -83,8 +88,8 @@ module _ (config : Configured) (p : Phase) (failed closed : Bool) (slots : Table
   slot_is i x e l = subst (λ (t : ConnectionState). slot_at t i ≡ x) view (ap (λ (o : Option (Slot SessionState)). unwrap_or o Free) (there slots i x e l))
 
   -- and is put there again
-  pub kept_again : (i : ℕ) (x : Slot SessionState) → x ≡ get_or slots i x → connection_of config p failed closed (slice_set slots i x) ≡ s
-  kept_again i x at = ap (λ (ls : Table). connection_of config p failed closed ls) (ap (λ (y : Slot SessionState). slice_set slots i y) at ∙ set-get_or slots i x) ∙ view
+  pub kept_again : (i : ℕ) (x : Slot SessionState) → x ≡ get_or slots i x → connection_of config p failed closed peer (slice_set slots i x) ≡ s
+  kept_again i x at = ap (λ (ls : Table). connection_of config p failed closed peer ls) (ap (λ (y : Slot SessionState). slice_set slots i y) at ∙ set-get_or slots i x) ∙ view
 
   pub channel_low : IsPlaced config p slots → (channel : ℕ) → channel ≤ s.config.channel_max → channel < length slots
   channel_low placed channel low =
@@ -92,11 +97,11 @@ module _ (config : Configured) (p : Phase) (failed closed : Bool) (slots : Table
 
   -- the session at a channel that is in the table fails, or is ended
   pub fails_at : IsPlaced config p slots → (channel : ℕ) → channel ≤ s.config.channel_max →
-      connection_of config p failed closed (slice_set slots channel Waits) ≡ connection_after s (event.SessionFailed channel)
+      connection_of config p failed closed peer (slice_set slots channel Waits) ≡ connection_after s (event.SessionFailed channel)
   fails_at placed channel low = after_is (event.SessionFailed channel) (slice_set slots channel Waits) (leaves_at slots channel (channel_low placed channel low))
 
   pub ends_at : IsPlaced config p slots → (channel : ℕ) → channel ≤ s.config.channel_max →
-      connection_of config p failed closed (slice_set slots channel Free) ≡ connection_after s (event.SessionEnded channel)
+      connection_of config p failed closed peer (slice_set slots channel Free) ≡ connection_after s (event.SessionEnded channel)
   ends_at placed channel low = after_is (event.SessionEnded channel) (slice_set slots channel Free) (gone_at slots channel (channel_low placed channel low))
 
   -- what is ready there

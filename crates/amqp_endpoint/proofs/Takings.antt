@@ -127,7 +127,7 @@ module _ (channel handle n : ℕ) where
   taken_more (event.InSession place e) h = by_handed place h (takings h) (handed_up_in e)
   taken_more event.HeaderCame h = not_handed (nat_eq (lives channel handle h) n) (takings h)
   taken_more event.HeaderRefused h = not_handed (nat_eq (lives channel handle h) n) (takings h)
-  taken_more (event.Opened m c) h = not_handed (nat_eq (lives channel handle h) n) (takings h)
+  taken_more (event.Opened m c said) h = not_handed (nat_eq (lives channel handle h) n) (takings h)
   taken_more event.Broken h = not_handed (nat_eq (lives channel handle h) n) (takings h)
   taken_more event.Failed h = not_handed (nat_eq (lives channel handle h) n) (takings h)
   taken_more event.CloseAsked h = not_handed (nat_eq (lives channel handle h) n) (takings h)
@@ -235,7 +235,7 @@ none_given s channel handle (event.InSession place e) may none =
     none_at may.2.0 handle e may.2.2.0 (λ l at. none l (ap (λ (x : Slot SessionState). link_in handle x) here ∙ at)))
 none_given s channel handle event.HeaderCame may none = refl
 none_given s channel handle event.HeaderRefused may none = refl
-none_given s channel handle (event.Opened m c) may none = refl
+none_given s channel handle (event.Opened m c said) may none = refl
 none_given s channel handle event.Broken may none = refl
 none_given s channel handle event.Failed may none = refl
 none_given s channel handle event.CloseAsked may none = refl

@@ -1,5 +1,5 @@
 -- One connection of the receiving side in plain numbers and lists, and what each event does to it (AMQP 1.0, part 2, sections 2.2 to 2.5).
-use Rattle.std.specs.Prelude.{◌≡◌, ℕ, suc, ◌^◌, ◌<◌, ◌≤◌, Bool, true, false, ◌||◌, nat_le, if◌then◌else◌, List, sum_by, Option, Some, None, slice_get, unwrap_or}
+use Rattle.std.specs.Prelude.{◌≡◌, ℕ, suc, ◌^◌, ◌<◌, ◌≤◌, Bool, true, false, ◌||◌, nat_le, if◌then◌else◌, List, sum_by, Option, Some, None, slice_get, unwrap_or, is_some}
 use Rattle.amqp_session.specs.declared.slot.Slot.{Slot}
 use Rattle.amqp_session.specs.declared.slot.Slot.TheVariants.{Free, Live, Waits}
 use Rattle.amqp_session.specs.declared.terms.SessionTerms.{SessionTerms}
@@ -7,6 +7,7 @@ use Rattle.amqp_session.specs.Places.{Happens, Nothing, Begins, GoesOn, Leaves, 
 use Rattle.amqp_session.specs.Sessions.{Attached, SessionState, SessionEvent, LinkAttached, session_begins, session_after, SessionMay, session_bytes, session_ready}
 use Rattle.amqp_endpoint.specs.declared.phase.Phase.{Phase}
 use Rattle.amqp_endpoint.specs.declared.phase.Phase.TheVariants as phase
+use Rattle.amqp_endpoint.specs.declared.introduction.Introduction.{Introduction}
 use Rattle.amqp_endpoint.specs.Configs.{Configured, bounds_for}
 
 -- A connection. Its sessions are in the order of their channels, from 0 to the highest that is offered.
@@ -15,6 +16,7 @@ pub record ConnectionState : Type 0 where
   pub phase : Phase
   pub failed : Bool  -- this side ended the connection with an error, or refused its header
   pub closed : Bool  -- the peer's close came
+  pub peer : Option Introduction  -- what the peer said of itself in its open
   pub sessions : List (Slot SessionState)
 
 -- the number of channels of a connection
@@ -23,7 +25,7 @@ channels config = suc config.channel_max
 
 -- a connection before its header
 abbrev pub connection_begins : Configured → ConnectionState
-connection_begins config = record { config = config; phase = phase.Unopened; failed = false; closed = false; sessions = tabulate 0 (channels config) (λ k. Free) }
+connection_begins config = record { config = config; phase = phase.Unopened; failed = false; closed = false; peer = None; sessions = tabulate 0 (channels config) (λ k. Free) }
 
 -- what is at a channel; Free above the highest
 abbrev pub slot_at : ConnectionState → ℕ → Slot SessionState
@@ -80,7 +82,7 @@ connection_ready s = sum_by channel_ready s.sessions
 pub data ConnectionEvent : Type 0 where
   HeaderCame : ConnectionEvent  -- the acceptable header
   HeaderRefused : ConnectionEvent  -- another header
-  Opened : ℕ → ℕ → ConnectionEvent  -- the peer opened the connection, with this max-frame-size; the highest channel is this
+  Opened : ℕ → ℕ → Introduction → ConnectionEvent  -- the peer opened the connection, with this max-frame-size, and said this of itself; the highest channel is this
   Broken : ConnectionEvent  -- a malformed frame, which this side answers by a close with an error
   Failed : ConnectionEvent  -- this side closed the connection with an error
   CloseAsked : ConnectionEvent  -- the application closed the connection
@@ -136,8 +138,13 @@ is_peer_close e = false
 
 -- what the peer's open fixes
 abbrev pub opened_by : ConnectionEvent → Option Phase
-opened_by (Opened max_frame_size channel_max) = Some (phase.Open max_frame_size channel_max)
+opened_by (Opened max_frame_size channel_max said) = Some (phase.Open max_frame_size channel_max)
 opened_by e = None
+
+-- what it says of itself there
+abbrev pub said_by : ConnectionEvent → Option Introduction
+said_by (Opened max_frame_size channel_max said) = Some said
+said_by e = None
 
 abbrev pub phase_after : Phase → ConnectionEvent → Phase
 phase_after p e = if is_end e then phase.Dead else (if is_own_close e then phase.Closing else unwrap_or (opened_by e) p)
@@ -148,6 +155,7 @@ connection_after s e = record {
   phase = phase_after s.phase e;
   failed = is_failure e || s.failed;
   closed = is_peer_close e || s.closed;
+  peer = if is_some (said_by e) then said_by e else s.peer;
   sessions = places_after session_begins session_after s.sessions (happens e);
 }
 
@@ -163,7 +171,7 @@ pub record MayBeginWith (config : Configured) (terms : SessionTerms) : Type 0 wh
 abbrev pub IsTimely : Phase → ConnectionEvent → Type 0
 IsTimely p HeaderCame = is_dead p ≡ false
 IsTimely p HeaderRefused = is_dead p ≡ false
-IsTimely p (Opened max_frame_size channel_max) = p ≡ phase.Unopened
+IsTimely p (Opened max_frame_size channel_max said) = p ≡ phase.Unopened
 IsTimely p Broken = (is_dead p ≡ false) × (is_closing p ≡ false)
 IsTimely p Failed = (is_dead p ≡ false) × (is_closing p ≡ false)
 IsTimely p CloseAsked = is_open p ≡ true
@@ -178,7 +186,7 @@ IsTimely p Finished = Unit {0}
 
 -- the highest channel is at most the one that is offered [2.4.1]
 abbrev pub IsOffered : Configured → ConnectionEvent → Type 0
-IsOffered config (Opened max_frame_size channel_max) = channel_max ≤ config.channel_max
+IsOffered config (Opened max_frame_size channel_max said) = channel_max ≤ config.channel_max
 IsOffered config e = Unit {0}
 
 -- a link begins with the bounds of its name [2.6.3]

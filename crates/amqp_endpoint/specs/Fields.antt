@@ -15,6 +15,8 @@ use Rattle.amqp_perform.specs.declared.performative.Open.{Open}
 use Rattle.amqp_perform.specs.Cells.{Cell, Bytes, number_in, whole_in, flag_in, span_in}
 use Rattle.amqp_session.specs.Frames.{Frame, Attaches, Flows, Transfers, Disposes, Detaches, frame_of}
 use Rattle.amqp_endpoint.specs.Configs.{Configured, bounds_for}
+use Rattle.amqp_endpoint.specs.declared.introduction.Introduction.{Introduction}
+use Rattle.amqp_endpoint.specs.Introductions.{introduction, introduction_by}
 
 -- What is in a field. ------------------------------------------------------------------------------------------------
 
@@ -41,11 +43,11 @@ receiver_mode_in (Some n) = Some (receiver_mode_of n)
 
 -- What the connection reads. -----------------------------------------------------------------------------------------
 
--- An open of the peer. Its idle-time-out is ignored, since no time is promised; so are its hostname, locales, capabilities and properties.
--- [2.7.1]
+-- An open of the peer, with what it says of itself. Its locales, capabilities and properties are ignored. [2.7.1]
 pub record Opening : Type 0 where
   pub max_frame_size : ℕ
   pub channel_max : ℕ
+  pub said : Introduction
 
 -- a begin of the peer [2.7.2]
 pub record Beginning : Type 0 where
@@ -63,7 +65,12 @@ pub data Read : Type 0 where
   Other : Read  -- no performative
 
 abbrev pub open_in : List Cell → Read
-open_in (container_id ∷ hostname ∷ max_frame_size ∷ channel_max ∷ rest) = Opens (record { max_frame_size = whole_in max_frame_size; channel_max = whole_in channel_max })
+open_in (container_id ∷ hostname ∷ max_frame_size ∷ channel_max ∷ idle_time_out ∷ rest) =
+    Opens (record {
+      max_frame_size = whole_in max_frame_size;
+      channel_max = whole_in channel_max;
+      said = introduction (unwrap_or (octets_in container_id) []) (span_in hostname) (span_in idle_time_out);
+    })
 open_in _ = Other
 
 abbrev pub begin_in : List Cell → Read
@@ -132,7 +139,7 @@ read_in config _ cells payload = Other
 
 -- what an open and a begin say
 abbrev pub opening : Open → Opening
-opening p = record { max_frame_size = p.max_frame_size; channel_max = p.channel_max }
+opening p = record { max_frame_size = p.max_frame_size; channel_max = p.channel_max; said = introduction_by p }
 
 abbrev pub beginning : Begin → Beginning
 beginning p = record { remote_channel = p.remote_channel; next_outgoing_id = p.next_outgoing_id; handle_max = p.handle_max }

@@ -11,14 +11,20 @@ use Rattle.amqp_session.specs.Sessions.{Attached, SessionEvent}
 use Rattle.amqp_session.specs.Histories as lived
 use Rattle.amqp_endpoint.specs.declared.phase.Phase.{Phase}
 use Rattle.amqp_endpoint.specs.declared.phase.Phase.TheVariants as phase
+use Rattle.amqp_endpoint.specs.declared.introduction.Introduction.{Introduction}
 use Rattle.amqp_endpoint.specs.Configs.{Configured}
 use Rattle.amqp_endpoint.specs.Connections.{ConnectionState, ConnectionEvent, channels, channel_limit, is_open, connection_begins, connection_after, ConnectionMay, MayBeginWith, HasBounds, happens, is_end}
-use Rattle.amqp_endpoint.specs.Connections.{is_own_close, is_failure, is_peer_close, opened_by}
+use Rattle.amqp_endpoint.specs.Connections.{is_own_close, is_failure, is_peer_close, opened_by, said_by}
 
 -- what the peer's open fixed, if it came
 abbrev pub opening_in : List ConnectionEvent → Option Phase
 opening_in [] = None
 opening_in (e ∷ h) = if is_some (opened_by e) then opened_by e else opening_in h
+
+-- what the peer said of itself there
+abbrev pub peer_in : List ConnectionEvent → Option Introduction
+peer_in [] = None
+peer_in (e ∷ h) = if is_some (said_by e) then said_by e else peer_in h
 
 -- The phase: over once anything ended it; else closing once this side closed; else open once the peer's open came. [2.4.6]
 abbrev pub phase_of : List ConnectionEvent → Phase
@@ -35,6 +41,7 @@ state_of config h = record {
   phase = phase_of h;
   failed = list_any is_failure h;
   closed = list_any is_peer_close h;
+  peer = peer_in h;
   sessions = states lived.state_of (channels config) (λ channel. part channel h);
 }
 

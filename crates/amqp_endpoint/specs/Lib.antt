@@ -1,5 +1,7 @@
 pub mod Limits
 pub mod Configs
+pub mod FirstTexts
+pub mod Introductions
 pub mod Fields
 pub mod Connections
 pub mod Lines

@@ -2,7 +2,7 @@
 ghost use Rattle.std.specs.Prelude.{◌≡◌, ◌≤◌, ◌<◌, ◌+◌, ◌^◌, true, false, Some, None, IfOk, OnOk, OnErr, option_map, length, map, sum_by};
 ghost use Rattle.amqp_session.specs.declared.slot.Slot.TheVariants.{Free, Live, Waits};
 ghost use Rattle.amqp_session.specs.Frames.{Frame};
-ghost use Rattle.std.specs.Option.{option_copied_mut};
+ghost use Rattle.std.specs.Option.{option_copied, option_copied_mut};
 ghost use Rattle.std.specs.Borrow.{sem};
 ghost use Rattle.amqp_session.specs.Places.{live_in, tabulate};
 ghost use Rattle.amqp_endpoint.specs.ConnectionLending.{LendsChannel};
@@ -14,6 +14,7 @@ ghost use Rattle.amqp_endpoint.specs.Lending.{LendsSession, LendsPlace};
 
 use crate::config::Config;
 use crate::frames;
+use crate::introduction::Introduction;
 use crate::phase::Phase;
 use amqp_perform::Performative;
 use amqp_session::{Done, Session, SessionFault, SessionTerms, Slot};
@@ -28,6 +29,8 @@ pub struct Connection<A: Allocator + Copy = Global> {
     phase: Phase,
     failed: bool,
     closed: bool,
+    /// What the peer said of itself in its open.
+    peer: Option<Introduction>,
     places: Vec<Place<A>, A>,
 }
 
@@ -37,7 +40,7 @@ impl<A: Allocator + Copy> Model for Connection<A> {
 
     ghost Value = { ConnectionState };
 
-    ghost view = { λ a. connection_of a.config a.phase a.failed a.closed a.places.items };
+    ghost view = { λ a. connection_of a.config a.phase a.failed a.closed a.peer a.places.items };
 
     ghost invariant = { λ a. IsPlaced a.config a.phase a.places.items };
 }
@@ -55,6 +58,7 @@ impl<A: Allocator + Copy> Connection<A> {
             phase: Phase::Unopened,
             failed: false,
             closed: false,
+            peer: None,
             places,
         })
     }
@@ -85,6 +89,13 @@ impl<A: Allocator + Copy> Connection<A> {
         ensures { result ≡ self.now.closed }
     {
         self.closed
+    }
+
+    /// Returns what the peer said of itself in its open; `None` if that has not come.
+    pub fn peer(&self) -> Option<&Introduction>
+        ensures { option_copied result ≡ self.now.peer }
+    {
+        self.peer.as_ref()
     }
 
     /// Returns the highest channel on which frames are taken.
@@ -125,16 +136,18 @@ impl<A: Allocator + Copy> Connection<A> {
             phase: _,
             failed: _,
             closed: _,
+            peer: _,
             places,
         } = self;
         held(places)
     }
 
-    /// Opens the connection after the peer's open.
-    pub fn open(&mut self, max_frame_size: u32, channel_max: u8)
+    /// Opens the connection after the peer's open, in which it said this of itself.
+    pub fn open(&mut self, max_frame_size: u32, channel_max: u8, said: Introduction)
         requires { channel_max ≤ self.old.config.channel_max }
-        ensures { self.new ≡ connection_after self.old (Opened max_frame_size channel_max) }
+        ensures { self.new ≡ connection_after self.old (Opened max_frame_size channel_max said) }
     {
+        self.peer = Some(said);
         self.phase = Phase::Open {
             max_frame_size,
             channel_max,

@@ -6,6 +6,7 @@ ghost use Rattle.amqp_frame.specs.declared.units.Stage.{Stage};
 ghost use Rattle.amqp_session.specs.Calls.{Widen, Grant, Drain, Take, Settle, SettleRange, Detach};
 ghost use Rattle.amqp_session.specs.Places.{live_in};
 ghost use Rattle.amqp_session.specs.Sessions.{IsApart};
+ghost use Rattle.std.specs.Option.{option_copied};
 ghost use Rattle.amqp_endpoint.specs.Calls.{output_size, reply_room, open_call_fault};
 ghost use Rattle.amqp_endpoint.specs.Connections.{slot_at, is_dead};
 ghost use Rattle.amqp_endpoint.specs.Endpoints.{HasActed, IsLinkAt, accepted_by, dropped_by, named_by, handed_by};
@@ -21,6 +22,7 @@ use crate::config::Config;
 use crate::connection::Connection;
 use crate::event::{End, Event, Fed, Outcome};
 use crate::fault::CallFault;
+use crate::introduction::Introduction;
 use crate::output::Output;
 use crate::phase::Phase;
 use crate::requests::Request;
@@ -228,6 +230,20 @@ impl<A: Allocator + Copy> Endpoint<A> {
         ensures { IsTrue result ↔ (self.now.unsent ≡ []) }
     {
         self.out.is_empty()
+    }
+
+    /// Returns what the peer said of itself in its open [2.7.1]; `None` if that has not come.
+    pub fn peer(&self) -> Option<&Introduction>
+        ensures { option_copied result ≡ self.now.connection.peer }
+    {
+        self.connection.peer()
+    }
+
+    /// Returns whether this side ended the connection with an error, or refused its header.
+    pub fn has_failed(&self) -> bool
+        ensures { result ≡ self.now.connection.failed }
+    {
+        self.connection.has_failed()
     }
 
     /// Returns the first bytes that wait to be sent, as many as lie in one piece: at least one if any wait.

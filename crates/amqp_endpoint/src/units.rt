@@ -12,6 +12,7 @@ ghost use Rattle.amqp_session.specs.Frames.{Frame, Transfers};
 ghost use Rattle.amqp_endpoint.specs.Fields.{Begins, Ends, ForSession, frame_in, read_of, opening, beginning};
 
 use crate::connection::Connection;
+use crate::introduction::Introduction;
 use crate::event::Event;
 use crate::laws::{fields_say_the_performative, frames_are_as_long};
 use crate::opening::say_open;
@@ -218,7 +219,7 @@ fn act_on_open<A: Allocator + Copy>(
         stated.channel_max as u8
     };
     say_open(connection, out, channel_max as u16);
-    connection.open(stated.max_frame_size, channel_max);
+    connection.open(stated.max_frame_size, channel_max, Introduction::of(stated));
     Event::Opened
 }
 

@@ -8,7 +8,7 @@ use Rattle.amqp_endpoint.proofs.connection.Connection.drop_silently.Goals as goa
 
 pub returns : goal.returns
 returns g c =
-    ap (connection_of c.self.inside.config phase.Dead c.self.inside.failed c.self.inside.closed) (with_items_is c.self.inside.places c.free_all.new.places
+    ap (connection_of c.self.inside.config phase.Dead c.self.inside.failed c.self.inside.closed c.self.inside.peer) (with_items_is c.self.inside.places c.free_all.new.places
     (omega (arith, c.free_all.auto.places, c.deref_mut.ensures.len)))
-    ∙ freed c.self.inside.config c.self.inside.phase c.self.inside.failed c.self.inside.closed c.self.inside.places.items c.args.self.now c.self.view_is event.Lost _ c.free_all.new.places refl
+    ∙ freed c.self.inside.config c.self.inside.phase c.self.inside.failed c.self.inside.closed c.self.inside.peer c.self.inside.places.items c.args.self.now c.self.view_is event.Lost _ c.free_all.new.places refl
     c.deref_mut.ensures.value c.free_all.ensures

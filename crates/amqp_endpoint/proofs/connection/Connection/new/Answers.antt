@@ -1,4 +1,4 @@
-use Rattle.std.proofs.Common.{arith, suc, ◌+◌, ◌≡◌, ◌∙◌, ap, false, List}
+use Rattle.std.proofs.Common.{arith, suc, ◌+◌, ◌≡◌, ◌∙◌, ap, false, None, List}
 use Rattle.amqp_session.specs.Places.{tabulate}
 use Rattle.amqp_session.specs.declared.slot.Slot.{Slot}
 use Rattle.amqp_session.specs.declared.slot.Slot.TheVariants.{Free}
@@ -18,4 +18,4 @@ pub returns : goal.returns
 returns g c =
     let n = c.channel_max.result + 1 in
     let count : n ≡ suc c.args.config.channel_max = omega (arith, c.channel_max.ensures.value) in
-    ap (λ (xs : List (Slot SessionState)). connection_of c.args.config phase.Unopened false false xs) (c.in_ok-places.ensures ∙ ap (λ n. tabulate 0 n (λ k. Free)) count)
+    ap (λ (xs : List (Slot SessionState)). connection_of c.args.config phase.Unopened false false None xs) (c.in_ok-places.ensures ∙ ap (λ n. tabulate 0 n (λ k. Free)) count)

@@ -7,11 +7,11 @@ use Rattle.amqp_endpoint.proofs.connection.Connection.session_mut.Goals as goal
 -- src/connection.rt:294:5
 pub returns-in-None : goal.returns-in-None
 returns-in-None g c = (
-  ap inr (kept_again c.self.inside.config c.self.inside.phase c.self.inside.failed c.self.inside.closed c.self.inside.places.items c.args.self.now c.self.view_is c.args.channel
+  ap inr (kept_again c.self.inside.config c.self.inside.phase c.self.inside.failed c.self.inside.closed c.self.inside.peer c.self.inside.places.items c.args.self.now c.self.view_is c.args.channel
       c.index_mut.result.now c.index_mut.ensures.value),
   record {
     writes_back = tt;
-    value = c.in-None.ensures.value ∙ ap live_in (sym (slot_is c.self.inside.config c.self.inside.phase c.self.inside.failed c.self.inside.closed c.self.inside.places.items c.args.self.now c.self.view_is
+    value = c.in-None.ensures.value ∙ ap live_in (sym (slot_is c.self.inside.config c.self.inside.phase c.self.inside.failed c.self.inside.closed c.self.inside.peer c.self.inside.places.items c.args.self.now c.self.view_is
         c.args.channel c.index_mut.result.now c.index_mut.ensures.value (omega arith)));
   },
 )
