@@ -1,17 +1,17 @@
 -- What a link keeps can be counted, and stays so.
-use Rattle.std.proofs.Common.{arith, ◌≡◌, ℕ, ◌+◌, ◌*◌, ◌-◌, ◌^◌, ◌≤◌, Bool, true, false, not, ◌&&◌, cond, map, filter, drop, List, [], ◌∷◌, ◌++◌, length, refl, sym, ap, subst, inl, inr, Option, Some, None}
+use Rattle.std.proofs.Common.{arith, ◌≡◌, ℕ, ◌+◌, ◌*◌, ◌-◌, ◌^◌, ◌≤◌, Bool, true, false, not, cond, map, filter, drop, List, [], ◌∷◌, ◌++◌, length, refl, sym, ap, subst, inl, inr, Option, Some, None}
 use Rattle.std.specs.Prelude.{sum_by, option_to_list}
 use Rattle.std.specs.List.{AllByRecursion}
 use Rattle.std.proofs.lemmas.Bool.{and_right}
 use Rattle.std.proofs.lemmas.List.{length-append}
-use Rattle.std.proofs.lemmas.List.Sums.{sum_by-cons, count_by-le-length}
+use Rattle.std.proofs.lemmas.List.Sums.{sum_by-cons}
 use Rattle.std.proofs.Math.Nat.{suc-mul, add-mul, mul-le-mul_right, mul-le-mul}
 use Rattle.std.specs.Prelude.{option_map, is_none, slice_get}
 use Rattle.std.proofs.lemmas.Option.{same_Some}
 use Rattle.amqp_link.specs.declared.terms.Terms.{Terms}
 use Rattle.amqp_link.specs.Links.{Sent, goes_on, completes, Delivery, OpenSet, LinkState, set_bytes, how_many, delivery_bytes, with_delivery, delivery_after, cost, fault_of, is_formed, is_covered}
-use Rattle.amqp_link.specs.Links.{Transferred, ReceiverSettled, SenderSettled, receiver_settles, marked_told, receiver_settled_in, sender_settled_by, sender_settled_in, newly_settled, named_count}
-use Rattle.amqp_link.specs.Links.{in_order, settle_fault, left_open, HandedUp}
+use Rattle.amqp_link.specs.Links.{Transferred, ReceiverSettled, SenderSettled, receiver_settles, marked_told, receiver_settled_in, sender_settled_by, sender_settled_in}
+use Rattle.amqp_link.specs.Links.{settle_fault, left_open, HandedUp}
 use Rattle.amqp_link.specs.Keeping.{link_of, IsLink, IsShort}
 use Rattle.amqp_link.proofs.Keys.{total_is}
 use Rattle.amqp_link.proofs.Steps.{fits, head_tag, within_after}

@@ -1,5 +1,5 @@
 -- The bytes of blocks.
-use Rattle.std.proofs.Common.{arith, ◌≡◌, ℕ, zero, suc, ◌+◌, ◌-◌, ◌<◌, ◌≤◌, List, [], ◌∷◌, ◌++◌, length, drop, Some, refl, sym, ap, ◌∙◌, append_assoc, append-nil, add-one, take, get_or, subst}
+use Rattle.std.proofs.Common.{arith, ◌≡◌, ℕ, zero, suc, ◌+◌, ◌-◌, ◌<◌, ◌≤◌, List, [], ◌∷◌, ◌++◌, length, drop, Some, refl, sym, ap, ◌∙◌, append_assoc, append-nil, take, get_or, subst}
 use Rattle.std.specs.Prelude.{slice_get}
 use Rattle.std.specs.List.{AllWithin}
 use Rattle.std.specs.List.Sorted.{IsNonDecreasingBy}
@@ -8,7 +8,7 @@ use Rattle.std.proofs.lemmas.List.{length-append, length-drop, drop-append-le, t
 use Rattle.std.proofs.Math.Seq.{drop-append-add, take-add, take-append_seam}
 use Rattle.std.proofs.lemmas.Option.{same_Some, slice_get_read}
 use Rattle.amqp_link.specs.declared.blocks.Block.{Block}
-use Rattle.amqp_link.specs.Pieces.{joined, AreWhole, AreBlocks}
+use Rattle.amqp_link.specs.Pieces.{joined, lengths_of, total, AreWhole, AreBlocks}
 
 -- a front of what follows a place
 pub front_of : (all bytes rest : List ℕ) (at k : ℕ) → drop at all ≡ bytes ++ rest → (behind : List ℕ) × (drop at all ≡ take k bytes ++ behind)
@@ -68,6 +68,27 @@ module _ {A : Type 0} where
   later_part b bs rest at k is =
       ap (λ (l : List ℕ). drop at l) (append_assoc b.bytes.items (joined bs) rest) ∙ ap (λ (n : ℕ). drop n (b.bytes.items ++ (joined bs ++ rest))) is
       ∙ drop-append-add b.bytes.items (joined bs ++ rest) k
+
+  -- where a block lies
+  pub lies_at : (blocks : List (Block A)) (last : List ℕ) (i : ℕ) (b : Block A) → slice_get blocks i ≡ Some b
+      → drop (total (take i (lengths_of blocks))) (joined blocks ++ last) ≡ b.bytes.items ++ (joined (drop (suc i) blocks) ++ last)
+  lies_at [] last i b is = absurd (grind (arith, is))
+  lies_at (x ∷ xs) last zero b is = append_assoc x.bytes.items (joined xs) last ∙ ap (λ (y : Block A). y.bytes.items ++ (joined xs ++ last)) (same_Some x b is)
+  lies_at (x ∷ xs) last (suc i) b is = later_part x xs last (length x.bytes.items + total (take i (lengths_of xs))) (total (take i (lengths_of xs))) refl ∙ lies_at xs last i b is
+
+  -- and where it ends
+  pub ends_at : (blocks : List (Block A)) (i : ℕ) (b : Block A) → slice_get blocks i ≡ Some b
+      → total (take (i + 1) (lengths_of blocks)) ≡ total (take i (lengths_of blocks)) + length b.bytes.items
+  ends_at [] i b is = absurd (grind (arith, is))
+  ends_at (x ∷ xs) zero b is = let same : 0 + 1 ≡ 1 = refl in ap (λ (n : ℕ). total (take n (lengths_of (x ∷ xs)))) same ∙ ap (λ (y : Block A). length y.bytes.items + 0) (same_Some x b is) ∙ omega arith
+  ends_at (x ∷ xs) (suc i) b is =
+      let same : suc i + 1 ≡ suc (i + 1) = omega arith in
+      ap (λ (n : ℕ). total (take n (lengths_of (x ∷ xs)))) same ∙ ap (λ (n : ℕ). length x.bytes.items + n) (ends_at xs i b is) ∙ omega arith
+
+  -- the last block follows all others
+  pub lies_last : (blocks : List (Block A)) (last : List ℕ) → drop (total (lengths_of blocks)) (joined blocks ++ last) ≡ last
+  lies_last [] last = refl
+  lies_last (x ∷ xs) last = later_part x xs last (length x.bytes.items + total (lengths_of xs)) (total (lengths_of xs)) refl ∙ lies_last xs last
 
   -- a place in a block: where it begins, and what follows the place
   pub record IsIn (start at : ℕ) (b : Block A) (all : List ℕ) : Type 0 where

@@ -36,6 +36,11 @@ with_payload old payload =
     else if nat_le (length payload) (lacking_of old.last) then record { bytes = old.bytes ++ payload; before = old.before; last = old.last + length payload }
     else record { bytes = old.bytes ++ payload; before = old.before ++ (old.last + lacking_of old.last) ∷ []; last = length payload - lacking_of old.last }
 
+-- the sum of lengths
+abbrev pub total : List ℕ → ℕ
+total [] = 0
+total (n ∷ lengths) = n + total lengths
+
 module _ {A : Type 0} where
   -- the bytes of these blocks, one after the other
   abbrev pub joined : List (Block A) → List ℕ

@@ -1,7 +1,7 @@
 //! The blocks of memory that the bytes of a message lie in.
-ghost use Rattle.std.specs.Prelude.{◌≡◌, ◌<◌, ◌^◌, ◌++◌, ◌∷◌, ℕ, List, length, drop, map, IfOk, IsErr, IsOk, OnOk, OnErr, [], ◌≤◌, ◌+◌, ◌-◌, ◌%◌};
+ghost use Rattle.std.specs.Prelude.{◌≡◌, ◌<◌, ◌^◌, ◌++◌, ◌∷◌, ℕ, List, length, drop, take, IfOk, IsErr, IsOk, OnOk, OnErr, [], ◌≤◌, ◌+◌, ◌-◌, ◌%◌};
 ghost use Rattle.std.specs.List.{AllWithin};
-ghost use Rattle.amqp_link.specs.Pieces.{joined, lengths_of, lacking_of, nothing, in_one_block, with_payload, AreBlocks, ArePieces};
+ghost use Rattle.amqp_link.specs.Pieces.{joined, lengths_of, total, lacking_of, nothing, in_one_block, with_payload, AreBlocks, ArePieces};
 
 use std::alloc::{AllocError, Allocator};
 use std::marker::Model;
@@ -109,6 +109,30 @@ impl<A: Allocator + Copy> Blocks<A> {
         }
         self.len = len;
         Ok(())
+    }
+
+    /// Returns how many blocks another one follows.
+    pub fn followed(&self) -> usize
+        ensures { result ≡ length self.now.before }
+    {
+        self.whole.len()
+    }
+
+    /// Returns the bytes of the block with this index, which another one follows.
+    pub fn block(&self, index: usize) -> &[u8]
+        requires { index < length self.now.before }
+        ensures lies { (behind : List ℕ) × (drop (total (take index self.now.before)) self.now.bytes ≡ result.now ++ behind) }
+        ensures len { total (take (index + 1) self.now.before) ≡ total (take index self.now.before) + length result.now }
+    {
+        &self.whole[index].bytes
+    }
+
+    /// Returns the bytes of the last block. There are some, unless there are no bytes at all.
+    pub fn last(&self) -> &[u8]
+        ensures lies { drop (total self.now.before) self.now.bytes ≡ result.now }
+        ensures some { 0 < length self.now.bytes → 0 < length result.now }
+    {
+        &self.last
     }
 
     /// Returns the bytes from `at` on, as many as lie in one block. There is at least one if `at` is before the end,

@@ -85,14 +85,11 @@ impl<A: Allocator + Copy> Message<A> {
     pub fn to_vec<B: Allocator>(&self, alloc: B) -> Result<Vec<u8, B>, AllocError>
         ensures { IfOk result (λ v. v.items ≡ self.now) }
     {
-        let len = self.len();
-        let mut bytes = Vec::with_capacity(alloc, len)?;
-        let mut at = 0;
-        'blocks: while at < len {
-            let block = self.blocks.from(at);
-            bytes.extend_from_slice(block)?;
-            at += block.len();
+        let mut bytes = Vec::with_capacity(alloc, self.len())?;
+        for index in 0..self.blocks.followed() {
+            bytes.extend_from_slice(self.blocks.block(index))?;
         }
+        bytes.extend_from_slice(self.blocks.last())?;
         Ok(bytes)
     }
 
@@ -110,16 +107,10 @@ impl<A: Allocator + Copy> Message<A> {
         ensures still { IsTrue (has_failed writer.old) → writer.new ≡ writer.old }
         ensures empty { length self.now ≡ 0 → writer.new ≡ writer.old }
     {
-        let first = self.blocks.from(0);
-        writer.write_all(first)?;
-        let len = self.len();
-        let mut at = first.len();
-        'blocks: while at < len {
-            let block = self.blocks.from(at);
-            writer.write_all(block)?;
-            at += block.len();
+        for index in 0..self.blocks.followed() {
+            writer.write_all(self.blocks.block(index))?;
         }
-        Ok(())
+        writer.write_all(self.blocks.last())
     }
 }
 
