@@ -12,7 +12,7 @@ use Rattle.amqp_serve.specs.declared.serving.ServeFault.{ServeFault}
 use Rattle.amqp_serve.specs.declared.serving.ServeFault.TheVariants as fault
 use Rattle.amqp_serve.specs.declared.steps.Done.{Done}
 use Rattle.amqp_serve.specs.Deeds.{Deeds, fed_deeds, rest_deeds, done_deeds, receipt_deeds, topped_deeds, no_deeds, Ends, AreOpen, IsOfEnds, WentOn, WentOff, HasFollowed, HasFailed, filled, Follows, IsStepped, ReachesBy}
-use Rattle.amqp_serve.specs.Hosting.{lost_by}
+use Rattle.amqp_serve.specs.Servers.{lost_by}
 use Rattle.amqp_serve.specs.Serving.{Starved, ToppingUp, all_supplies, reading, stand_told, Served, BrokeOff, IsStarved}
 use Rattle.amqp_serve.specs.Supplied.{IsSuppliedBut, IsOnlyAt, told_look, received_look, look_behind}
 use Rattle.amqp_serve.proofs.Deeds.{deeds_on, rest_both, done_both, one_done, went_on, went_off, then_quiet, marked_neither}

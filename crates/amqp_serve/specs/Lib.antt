@@ -3,7 +3,7 @@ pub mod Cuts
 pub mod Supplied
 pub mod Supplying
 pub mod Deeds
-pub mod Hosting
+pub mod Servers
 pub mod Policies
 pub mod Interrupted
 pub mod Rooms

@@ -9,11 +9,11 @@
 //! serving a stream unit by unit results in. The tests are in `test_layer_rows` and `test_endpoint`.
 #![tactic(auto)]
 
-mod hosting;
 pub mod laws;
 mod records;
 mod rules;
 mod sending;
+mod server;
 mod serving;
 pub mod step_laws;
 mod steps;
@@ -21,8 +21,8 @@ mod supplies;
 mod supplying;
 mod watch;
 
-pub use hosting::Server;
 pub use rules::Rule;
+pub use server::Server;
 pub use serving::{Policy, ServeFault, serve, serve_watched};
 pub use steps::{Course, Done, Receipt, Received, Stepped, serve_piece, serve_read};
 pub use supplies::{Supply, Topped};

@@ -6,7 +6,7 @@ use crate::Policy;
 use amqp_perform::Outcome;
 
 /// What is done with each message, and when a link gets credit.
-#[derive(Clone, Copy, Debug)]
+#[derive(Clone, Copy, Debug, PartialEq, Eq)]
 pub struct Rule {
     /// The credit that a link is topped up to, within what it is allowed.
     pub credit: u32,

@@ -22,14 +22,14 @@ struct Steps {
 /// them.
 fn step_through(alloc: Global, mut bytes: &[u8], most: usize) -> Result<Steps, Fail> {
     let endpoint = Endpoint::new(alloc, config(alloc)?)?;
-    let mut server = Server::new(endpoint, Rule::of(one_by_one()));
+    let mut server = Server::new(endpoint);
     let (mut written, mut recorded) = (Kept::all(alloc), Kept::all(alloc));
     let mut told = Vec::new(alloc);
     for _ in 0..STREAM.len().saturating_add(2) {
         let mut writer = Device::new(Direct::new(&mut written));
         let mut sink = Device::new(&mut recorded);
         let piece = bytes.get(..most).unwrap_or(bytes);
-        let stepped = server.step(piece, &mut writer, &mut sink);
+        let stepped = server.step(Rule::of(one_by_one()), piece, &mut writer, &mut sink);
         bytes = bytes.get(stepped.used..).unwrap_or(&[]);
         told.push(stepped)?;
     }

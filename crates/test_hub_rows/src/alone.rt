@@ -68,7 +68,7 @@ impl Life {
     pub fn difference(&self, alloc: Global) -> Result<Option<&'static str>, Miss> {
         let name = String::from_str(alloc, "r")?;
         let config = Config::checked(name, 512, 0, 1, 4, 100, 100).ok_or("no settings")?;
-        let mut server = Server::new(Endpoint::new(alloc, config)?, RULE);
+        let mut server = Server::new(Endpoint::new(alloc, config)?);
         self.difference_from(alloc, &mut server)
     }
 
@@ -143,5 +143,5 @@ fn step<W: Write + HoldsBack + Drop, S: Write + Drop>(
     if writer.failed() || sink.failed() {
         return Err(Miss::NoMemory);
     }
-    Ok(server.step(piece, writer, sink))
+    Ok(server.step(RULE, piece, writer, sink))
 }

@@ -9,7 +9,7 @@ ghost use Rattle.amqp_frame.specs.Devices.{device_inner, has_failed, has_ended, 
 ghost use Rattle.amqp_endpoint.specs.Connections.{is_dead, slot_at};
 ghost use Rattle.amqp_endpoint.specs.Steps.{EndpointState, MayRead, IsKept};
 ghost use Rattle.amqp_serve.specs.Deeds.{IsStepped, Reaches, ends, AreOpen};
-ghost use Rattle.amqp_serve.specs.Hosting.{lost_by};
+ghost use Rattle.amqp_serve.specs.Servers.{lost_by};
 ghost use Rattle.amqp_serve.specs.Policies.{rule_of, BrokeOff, IsServed};
 ghost use Rattle.amqp_serve.specs.Serving.{credit_lack, reading, session_supplies, IsStarved, HasAllTaken};
 ghost use Rattle.amqp_serve.specs.Supplied.{IsRight};
@@ -105,9 +105,10 @@ pub fn serve_read<A: Allocator + Copy, W: Write + HoldsBack + Drop, S: Write + D
     amqp_serve::serve_read(endpoint, course, n, writer, sink)
 }
 
-/// Serves a piece of what the peer sent, unless the server's writer or sink has failed.
+/// Serves a piece of what the peer sent by this rule, whatever the one of the step before was, unless the server's writer or sink has failed.
 pub fn step<A: Allocator + Copy, W: Write + HoldsBack + Drop, S: Write + Drop>(
     server: &mut Server<A>,
+    rule: Rule,
     piece: &[u8],
     writer: &mut Device<W>,
     sink: &mut Device<S>,
@@ -115,13 +116,12 @@ pub fn step<A: Allocator + Copy, W: Write + HoldsBack + Drop, S: Write + Drop>(
     requires ends { AreOpen (ends W.contents S.contents writer.old sink.old) }
     ensures bound { result.used ≤ length piece.now }
     ensures reaches { server.old.lost ≡ None → Reaches server.old.endpoint piece.now result.used }
-    ensures rule { server.new.rule ≡ server.old.rule }
-    ensures stepped { server.old.lost ≡ None → IsStepped server.old.rule (take result.used piece.now) result.told result.done server.old.endpoint server.new.endpoint
+    ensures stepped { server.old.lost ≡ None → IsStepped rule (take result.used piece.now) result.told result.done server.old.endpoint server.new.endpoint
         (ends W.contents S.contents writer.old sink.old) (ends W.contents S.contents writer.new sink.new) }
     ensures lost { server.old.lost ≡ None → server.new.lost ≡ lost_by result.done }
     ensures refused { IfSome server.old.lost (λ x. (result ≡ record { used = 0; told = Outcome.More; done = Err x }) × (server.new ≡ server.old)) }
 {
-    server.step(piece, writer, sink)
+    server.step(rule, piece, writer, sink)
 }
 
 /// Gives a session and its links what they lack, for a host that makes all other calls itself.

@@ -6,7 +6,7 @@ use Rattle.amqp_serve.specs.declared.serving.ServeFault.TheVariants as fault
 use Rattle.amqp_serve.specs.declared.steps.Done.{Done}
 use Rattle.amqp_serve.specs.declared.steps.Stepped.{Stepped}
 use Rattle.amqp_serve.specs.Deeds.{IsStepped, Reaches}
-use Rattle.amqp_serve.specs.Hosting.{lost_by}
+use Rattle.amqp_serve.specs.Servers.{lost_by}
 use Rattle.amqp_perform.specs.declared.outcome.Outcome.{Outcome as Settlement}
 use Rattle.wuleshomia.specs.declared.data.ServeRule.{ServeRule}
 use Rattle.wuleshomia.specs.declared.data.StepReport.{StepReport}

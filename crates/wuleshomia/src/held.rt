@@ -1,6 +1,6 @@
 //! What a handle holds.
 ghost use Rattle.std.specs.Prelude.{◌≡◌, ◌++◌, nat_lt, min, length, take, drop, None};
-ghost use Rattle.amqp_serve.specs.Hosting.{lost_by};
+ghost use Rattle.amqp_serve.specs.Servers.{lost_by};
 ghost use Rattle.wuleshomia.specs.Exports.{next_of, Moves};
 ghost use Rattle.wuleshomia.specs.Serving.{serve_refusal, HasServed};
 

@@ -159,8 +159,8 @@ fn step_through(
     answers: &mut Tally,
     records: &mut Tally,
 ) -> Result<End, Stopped> {
-    let mut server = Server::new(new_endpoint(alloc, rule.credit)?, rule);
-    step_to(alloc, &mut server, sender, answers, records)?;
+    let mut server = Server::new(new_endpoint(alloc, rule.credit)?);
+    step_to(alloc, &mut server, rule, sender, answers, records)?;
     Ok(server.finish())
 }
 
@@ -168,6 +168,7 @@ fn step_through(
 fn step_to(
     alloc: Global,
     server: &mut Server,
+    rule: Rule,
     sender: &mut Sender,
     answers: &mut Tally,
     records: &mut Tally,
@@ -175,12 +176,13 @@ fn step_to(
     let mut writer = Device::new(BufWriter::with_capacity(alloc, BUFFER, answers)?);
     let mut sink = Device::new(BufWriter::with_capacity(alloc, BUFFER, records)?);
     let mut buffer = Vec::from_elem(alloc, 0, BUFFER)?;
-    step_over(server, sender, &mut buffer, &mut writer, &mut sink)
+    step_over(server, rule, sender, &mut buffer, &mut writer, &mut sink)
 }
 
 /// Steps it over these devices.
 fn step_over<W: Write + HoldsBack + Drop, S: Write + Drop>(
     server: &mut Server,
+    rule: Rule,
     sender: &mut Sender,
     buffer: &mut [u8],
     writer: &mut Device<W>,
@@ -196,7 +198,7 @@ fn step_over<W: Write + HoldsBack + Drop, S: Write + Drop>(
             if rest.is_empty() || writer.failed() || sink.failed() {
                 break;
             }
-            let stepped = server.step(rest, writer, sink);
+            let stepped = server.step(rule, rest, writer, sink);
             stepped.done?;
             rest = rest.get(stepped.used..).unwrap_or(&[]);
         }

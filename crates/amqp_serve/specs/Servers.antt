@@ -1,17 +1,15 @@
 -- A server between two steps.
 use Rattle.std.specs.Prelude.{◌≡◌, [], Option, Some, None, Result, Ok, Err}
 use Rattle.amqp_endpoint.specs.Steps.{EndpointState}
-use Rattle.amqp_serve.specs.declared.rules.Rule.{Rule}
 use Rattle.amqp_serve.specs.declared.serving.ServeFault.{ServeFault}
 use Rattle.amqp_serve.specs.declared.serving.ServeFault.TheVariants as fault
 use Rattle.amqp_serve.specs.declared.steps.Course.{Course}
 use Rattle.amqp_serve.specs.declared.steps.Done.{Done}
 use Rattle.amqp_serve.specs.Supplied.{IsRight}
 
--- the endpoint, the rule by which it is served, and which device failed
+-- the endpoint, and which device failed
 pub record ServerState : Type 0 where
   pub endpoint : EndpointState
-  pub rule : Rule
   pub lost : Option ServeFault
 
 -- unless a device failed no answer waits, and what the course knows is right
