@@ -34,7 +34,7 @@ use Rattle.amqp_pair.specs.Attached.{HasBegun}
 use Rattle.amqp_pair.specs.Heard.{begin_flow}
 use Rattle.amqp_pair.specs.Items.{Far, AwaitsHeader, AwaitsOpen, AwaitsBegin, AwaitsAttach, Goes, due_at, Item, OwnHeader, OwnOpen, OwnBegin, OwnAttach, Speaks, item_unit, words_in, Leads, Reply, ItsHeader, ItsOpen, ItsBegin, ItsAttach, begun_with, reply_unit, flows_in, LeadsBack, answered_at, AreSaid}
 use Rattle.amqp_pair.specs.Paired.{link_terms, IsUnbegun, IsUnattached, IsFar, IsOutward}
-use Rattle.amqp_pair.specs.Reading.{IsOpened, attaching_of}
+use Rattle.amqp_pair.specs.Reading.{IsOpened, opening_with, attaching_of}
 use Rattle.amqp_pair.specs.Served.{AreTerms}
 use Rattle.amqp_pair.specs.Spoken.{IsOnWay}
 use Rattle.amqp_pair.specs.Stands.{AreFree, Stands}
@@ -127,8 +127,8 @@ took_by w (Later payload more) q e = judged_so w q (later_sent payload more) (eq
 took_by w (Told count next) q e = counted_so w q count next (is_beyond_credit w.link.delivery_count w.link.credit (Some count)) e
 
 -- what the frames of the opening come to
-abbrev peer_opens : Line
-peer_opens = PeerOpens (record { max_frame_size = 4096; channel_max = 0 })
+abbrev peer_opens : List ℕ → Line
+peer_opens container_id = PeerOpens (opening_with container_id)
 
 abbrev beginning : Beginning
 beginning = record { remote_channel = None; next_outgoing_id = 0; handle_max = 0 }
@@ -186,7 +186,7 @@ module _ (law : Below) (config : Configured) (terms : SendTerms) (a : AreTerms c
 
     -- The open. ---------------------------------------------------------------------------------------------------------------
 
-    by_open : IsFar config terms s w AwaitsOpen → BecomesBy config terms s w w.to_end AwaitsOpen AwaitsBegin peer_opens
+    by_open : IsFar config terms s w AwaitsOpen → BecomesBy config terms s w w.to_end AwaitsOpen AwaitsBegin (peer_opens terms.container_id)
     by_open far = record {
       becomes = record {
         world = w;
@@ -345,7 +345,7 @@ module _ (law : Below) (config : Configured) (terms : SendTerms) (a : AreTerms c
         let is = law.opens s terms.container_id here.0 a.container_id (omega (arith, opening.first)) in
         at_stage (item_unit terms OwnOpen) (map frame_in (words_in rest)) e AwaitsOpen AwaitsBegin rest f l.0 l.1 refl
         (subst (λ (z : List Frame). BecomesBy config terms s w z AwaitsOpen AwaitsBegin (line_of s (item_unit terms OwnOpen))) to_end
-        (becomes_by w.to_end AwaitsOpen AwaitsBegin peer_opens (line_of s (item_unit terms OwnOpen)) is (by_open here)))
+        (becomes_by w.to_end AwaitsOpen AwaitsBegin (peer_opens terms.container_id) (line_of s (item_unit terms OwnOpen)) is (by_open here)))
     becomes e f OwnBegin rest far l right to_end =
         let here : IsFar config terms s w AwaitsBegin = subst (λ (z : Far). IsFar config terms s w z) l.0 far in
         let is = law.begins s here.0 (channel_is here.1.others Free here.1.sessions) (omega (arith, opening.second)) in

@@ -16,7 +16,8 @@ use Rattle.amqp_endpoint.specs.declared.event.Event.TheVariants as told
 use Rattle.amqp_endpoint.specs.declared.phase.Phase.TheVariants as phase
 use Rattle.amqp_endpoint.specs.Configs.{Configured, bounds_for}
 use Rattle.amqp_endpoint.specs.Connections.{ConnectionState, InSession, slot_at, is_closing}
-use Rattle.amqp_endpoint.specs.Fields.{read_in}
+use Rattle.amqp_endpoint.specs.Fields.{Opening, read_in}
+use Rattle.amqp_endpoint.specs.Introductions.{introduction}
 use Rattle.amqp_endpoint.specs.Lines.{PeerOpens, PeerBegins, SessionFrame, line_of, read_line, event_on, told_on, report_told}
 use Rattle.amqp_endpoint.specs.Replies.{spoken_on}
 use Rattle.amqp_send.specs.declared.flow_state.FlowState.{FlowState}
@@ -30,10 +31,14 @@ LineLaw = (s : ConnectionState) (x : Said) (payload : List ℕ) → MayBeSaid x 
 
 -- Acceptance of the sender's frames, by the state of the connection. --------------------------------------------------
 
+-- what the sender's open says
+abbrev pub opening_with : List ℕ → Opening
+opening_with container_id = record { max_frame_size = 4096; channel_max = 0; said = introduction container_id [] [] }
+
 -- the peer's open is awaited
 abbrev pub OpenLaw : Type 0
 OpenLaw = (s : ConnectionState) (container_id : List ℕ) → s.phase ≡ phase.Unopened → IsText container_id → length (frame (open_said container_id)) < 2 ^ 32
-    → line_of s (FrameUnit (frame (open_said container_id))) ≡ PeerOpens (record { max_frame_size = 4096; channel_max = 0 })
+    → line_of s (FrameUnit (frame (open_said container_id))) ≡ PeerOpens (opening_with container_id)
 
 -- it was opened with the sender's open
 abbrev pub IsOpened : ConnectionState → Type 0
