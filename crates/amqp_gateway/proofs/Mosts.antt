@@ -32,7 +32,7 @@ times (suc n) a b l = omega (arith, l, times n a b l)
 
 -- what is counted from the numbers of channels and handles is no less
 pub most_is : (config : Configured) (link sessions links few : ℕ)
-    → sessions ≡ config.channel_max + 1 → links ≡ sessions * (config.handle_max + 1) → few ≡ config.max_frame + 8192 + 64 * sessions + (3 + sessions + links) * 2560 + 17472
+    → sessions ≡ config.channel_max + 1 → links ≡ sessions * (config.handle_max + 1) → few ≡ config.max_frame + 8192 + 64 * sessions + (3 + sessions + links) * 2560 + 16448
     → any_link_most config ≤ link → peer_most config ≤ link * links + few
 most_is config link sessions links few s l f within =
     let n = channels config * suc config.handle_max in

@@ -4,10 +4,9 @@ use Rattle.amqp_endpoint.specs.Configs.{Configured}
 use Rattle.amqp_endpoint.specs.Uses.{held_by_any}
 use Rattle.amqp_serve.specs.Rooms.{answers_room}
 
--- How many bytes are kept besides: its first 1,024, a piece of 8,192 that is not heard yet, 8,192 of answers, and 64 for a close or
--- an empty frame.
+-- How many bytes are kept besides: a piece of 8,192 that is not heard yet, 8,192 of answers, and 64 for a close or an empty frame.
 abbrev pub socket_most : ℕ
-socket_most = 1024 + 8192 + 8192 + 64
+socket_most = 8192 + 8192 + 64
 
 -- how many bytes a peer holds at most: its endpoint, the answers to a unit, and what waits before and after it
 abbrev pub peer_most : Configured → ℕ

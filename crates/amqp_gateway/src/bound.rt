@@ -5,14 +5,13 @@ ghost use Rattle.amqp_endpoint.specs.Held.{any_link_most};
 ghost use Rattle.amqp_session.specs.Laws.{link_most};
 ghost use Rattle.amqp_gateway.specs.Bounds.{peer_most};
 
-use crate::opening::LONGEST;
 use crate::peer::{ANSWERS, PIECE};
 use amqp_endpoint::Config;
 use amqp_link::LinkBounds;
 
-/// How many bytes are kept of a peer and for it besides its endpoint and the answers to a unit. These are its
-/// first bytes, a piece that is not heard yet, answers, and a close or an empty frame.
-const SOCKET: u64 = (LONGEST + PIECE + ANSWERS) as u64 + 64;
+/// How many bytes are kept of a peer and for it besides its endpoint and the answers to a unit. These are
+/// a piece that is not heard yet, answers, and a close or an empty frame.
+const SOCKET: u64 = (PIECE + ANSWERS) as u64 + 64;
 
 /// How many bytes an endpoint keeps besides a frame, sessions and links: its output.
 const OUTPUT: u64 = 8192;

@@ -452,7 +452,6 @@ impl<S: Sink + Drop, W: Watcher + Drop> Gateway<S, W> {
         match peer.read(&mut self.piece, self.passed.millis()) {
             Came::Bytes(count) => {
                 let bytes = self.piece.get(..count).unwrap_or(&[]);
-                peer.keep_first(bytes);
                 peer.hear(self.alloc, bytes, &mut self.desk, rt);
             }
             Came::Nothing => {}

@@ -13,7 +13,6 @@ mod bound;
 mod counts;
 mod ending;
 mod gateway;
-mod opening;
 mod outlet;
 mod passed;
 mod peer;

@@ -6,7 +6,6 @@ ghost use Rattle.amqp_gateway.specs.Outlets.{IsSettled};
 
 use crate::counts::Counts;
 use crate::ending::Ending;
-use crate::opening::{LONGEST, Opening, opening_in};
 use crate::outlet::{Outlet, Sink};
 use crate::watcher::Watcher;
 use amqp_endpoint::{End, Event, Outcome, Scope};
@@ -80,8 +79,6 @@ pub struct Peer {
     written: usize,
     /// What came and was not heard, since memory was refused, or too many units came or answers wait.
     unheard: Vec<u8>,
-    /// The first bytes that came, until its open is found.
-    first: Option<Vec<u8>>,
     is_queued: bool,
     is_readable: bool,
     /// Whether its socket did not take all of its answers.
@@ -119,7 +116,6 @@ impl Peer {
             answers: Vec::new(alloc),
             written: 0,
             unheard: Vec::new(alloc),
-            first: Some(Vec::new(alloc)),
             is_queued: false,
             is_readable: true,
             is_deaf: false,
@@ -154,13 +150,7 @@ impl Peer {
 
     /// Returns how many bytes wait here: its answers, and what came from it and was not heard.
     pub fn held(&self) -> u64 {
-        let first = match &self.first {
-            Some(first) => first.len() as u64,
-            None => 0,
-        };
-        (self.answers.len() as u64)
-            .saturating_add(self.unheard.len() as u64)
-            .saturating_add(first)
+        (self.answers.len() as u64).saturating_add(self.unheard.len() as u64)
     }
 
     /// Gives its key back to the hub.
@@ -328,12 +318,12 @@ impl Peer {
         }
         let answers = self.answers.get(waited..).unwrap_or(&[]);
         desk.watcher.stepped(self.at, taken, stepped, answers);
-        self.tell(alloc, stepped.told, rt);
+        self.tell(stepped.told, &desk.hub, rt);
         if stepped.done.is_err() {
             self.is_starved = true;
             return false;
         }
-        if self.is_over(alloc, stepped.told, &mut desk.hub) {
+        if self.is_over(&desk.hub) {
             self.finish(&mut desk.hub);
             return false;
         }
@@ -347,25 +337,11 @@ impl Peer {
         }
     }
 
-    /// Keeps the first bytes that came, until the open is found in them. If memory is refused, the open is not
-    /// searched for.
-    pub fn keep_first(&mut self, bytes: &[u8]) {
-        if let Some(first) = &mut self.first {
-            let count = bytes.len().min(LONGEST.saturating_sub(first.len()));
-            if first
-                .extend_from_slice(bytes.get(..count).unwrap_or(&[]))
-                .is_err()
-            {
-                first.clear();
-            }
-        }
-    }
-
     /// Reports on standard error what concerns the operator: its open, and what this side ended, at most
     /// [`MOST_TOLD`] times.
-    fn tell(&mut self, alloc: Global, told: Outcome, rt: &impl Eprint) {
+    fn tell(&mut self, told: Outcome, hub: &Hub, rt: &impl Eprint) {
         match told {
-            Outcome::Event(Event::Opened) => self.opened(alloc, rt),
+            Outcome::Event(Event::Opened) => self.opened(hub, rt),
             Outcome::Event(
                 Event::Failed {
                     scope,
@@ -401,23 +377,19 @@ impl Peer {
         };
     }
 
-    /// Notes that its open came.
-    fn opened(&mut self, alloc: Global, rt: &impl Eprint) {
+    /// Notes that its open came, and what it says [2.7.1].
+    fn opened(&mut self, hub: &Hub, rt: &impl Eprint) {
         self.is_open = true;
-        let Some(first) = self.first.take() else {
+        let Some(endpoint) = hub.endpoint(self.key) else {
             return;
         };
+        let Some(said) = endpoint.peer() else {
+            return;
+        };
+        self.beat = said.idle_time_out.unwrap_or(0) as u64 / 2;
         let number = self.number;
-        if let Some(
-            Opening {
-                container_id,
-                idle_time_out,
-            },
-        ) = opening_in(alloc, &first)
-        {
-            self.beat = idle_time_out / 2;
-            let _ = eprintln!(rt; "connection {number}: opened by {container_id:?}");
-        }
+        let name = said.container_id.as_str();
+        let _ = eprintln!(rt; "connection {number}: opened by {name:?}");
     }
 
     /// Takes what the hub has for it.
@@ -430,28 +402,12 @@ impl Peer {
         Ok(())
     }
 
-    /// Returns whether it is over after this outcome. If this side ended it with an error, it is over at once if
-    /// what came was no frame. Else it awaits the peer's close [2.4.3]. What a piece of no bytes results in shows
-    /// which.
-    fn is_over(&mut self, alloc: Global, told: Outcome, hub: &mut Hub) -> bool {
-        match told {
-            Outcome::Dead | Outcome::Event(Event::Closed { .. }) => true,
-            Outcome::Event(
-                Event::Failed {
-                    scope: Scope::Connection,
-                    ..
-                },
-            ) => {
-                let mut sink = Device::new(Vec::new(alloc));
-                match hub.hear(self.key, &[], &mut sink) {
-                    Err(fault) => fault == HubFault::Over,
-                    Ok(stepped) => {
-                        self.is_gone = is_broken(stepped.done);
-                        self.is_gone
-                    }
-                }
-            }
-            _ => false,
+    /// Returns whether its connection is over. If this side ended it with an error, it is so at once if what came was no
+    /// frame. Else it awaits the peer's close [2.4.3].
+    fn is_over(&self, hub: &Hub) -> bool {
+        match hub.endpoint(self.key) {
+            Some(endpoint) => endpoint.is_over(),
+            None => true,
         }
     }
 

@@ -1,15 +1,16 @@
 //! The hub: connections under keys.
-ghost use Rattle.std.specs.Prelude.{◌≡◌, ◌↔◌, ◌<◌, ◌^◌, ◌-◌, [], min, IsTrue, IsSome, None, Some, IfOk, IfErr, OnOk};
+ghost use Rattle.std.specs.Prelude.{◌≡◌, ◌↔◌, ◌<◌, ◌^◌, ◌-◌, [], min, IsTrue, IsSome, None, Some, IfOk, IfErr, OnOk, option_map};
 ghost use Rattle.amqp_endpoint.specs.Calls.{heartbeat};
 ghost use Rattle.amqp_frame.specs.Devices.{device_inner, has_failed};
 ghost use Rattle.amqp_hub.specs.Members.{status_behind, hear_fault, beat_fault, finish_fault, close_fault};
 ghost use Rattle.amqp_hub.specs.Turns.{IsOpened, OpenRefused, IsHeardAt, HearsBy, IsGone, IsFrontAt, IsDueAt, SendsAt, IsBeatAt, IsEndedAt, IsClosedAt, AreSame, AreAlike, refusal_at, all_held, turn_of, answer_of, TurnDone};
 ghost use Rattle.amqp_hub.specs.Turns as turn;
 ghost use Rattle.slab.specs.Slab.{get, slab_len};
+ghost use Rattle.std.specs.Option.{option_copied};
 
 use crate::member::{Member, Status, status_behind};
 use crate::{HubFault, Turn, TurnAnswer};
-use amqp_endpoint::{Config, End};
+use amqp_endpoint::{Config, End, Endpoint};
 use amqp_frame::Device;
 use amqp_serve::{Rule, Stepped};
 use slab::Slab;
@@ -66,6 +67,17 @@ impl<A: Allocator + Copy> Hub<A> {
         ensures { IsTrue result ↔ IsSome (get self.now.members key) }
     {
         self.members.contains(key)
+    }
+
+    /// Returns the endpoint of the connection under a key, as it stands: what its peer said of itself, its links, and
+    /// whether it is over.
+    pub fn endpoint(&self, key: usize) -> Option<&Endpoint<A>>
+        ensures { option_copied result ≡ option_map (λ m. m.endpoint) (get self.now.members key) }
+    {
+        match self.members.get(key) {
+            Some(member) => Some(member.endpoint()),
+            None => None,
+        }
     }
 
     /// Opens a connection, which waits for its peer's header [2.2], and returns its key, which no other open

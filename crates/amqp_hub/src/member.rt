@@ -67,6 +67,13 @@ impl<A: Allocator + Copy> Member<A> {
         })
     }
 
+    /// Returns its endpoint.
+    pub fn endpoint(&self) -> &Endpoint<A>
+        ensures { result.now ≡ self.now.endpoint }
+    {
+        &self.endpoint
+    }
+
     /// Returns whether it hears nothing any more, whatever its peer sends.
     fn is_ended(&self) -> bool
         ensures { result ≡ is_ended self.now.status }

@@ -1031,7 +1031,7 @@ fn pass_to(lines: &mut Split<'_, char>, line: &str) -> bool {
 fn assert_served(rt: &impl Abort, told: &str) {
     let mut lines = told.split('\n');
     for line in [
-        "a peer holds at most 4325040 bytes, and all together 1081260000",
+        "a peer holds at most 4324016 bytes, and all together 1081004000",
         "connection 1: opened by \"a\"",
         "1 0ms <- header id=0 version=1.0.0",
         "1 0ms -> header id=0 version=1.0.0",
