@@ -4,7 +4,7 @@
 //! Begin with [`dump`] (`printer`). It reads a piece from a `Device`, and `scan` cuts it into units and reports each
 //! (`scanned`). It prints their lines into one buffer (`lines`, values by `text`, into a `page`), writes them from
 //! there, and reads again. `specs/Entries.antt` defines what is reported of a stream, and `specs/Printing.antt` what is
-//! printed of it. The tests are in `test_codec_rows`, `test_amqp` and `test_texts_against_start`.
+//! printed of it. The tests are in `test_codec_rows` and `test_amqp`.
 #![tactic(auto)]
 
 mod digits;

@@ -1,8 +1,8 @@
 //! `amqp replay`: a script of calls, run on a new endpoint, with a line for each answer.
 //!
 //! Begin with `replay.rt`. [`replay_script`] reads a whole script and checks each of its lines before it runs
-//! the first. `docs/COMMANDS.md` has the format of the lines. The tests are in `test_layer_rows`,
-//! `test_endpoint` and `test_texts_against_start`.
+//! the first. `docs/COMMANDS.md` has the format of the lines. The tests are in `test_layer_rows` and
+//! `test_endpoint`.
 #![tactic(auto)]
 
 mod answers;
