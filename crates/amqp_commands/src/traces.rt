@@ -224,7 +224,7 @@ fn told_of(ending: Ending, end: Option<End>) -> Result<Result<End, ServeFault>, 
         Ending::Closed => Ok(End::Closed),
         Ending::Failed => Ok(End::Failed),
         Ending::Between | Ending::Inside => Ok(end.unwrap_or(End::Between)),
-        Ending::Read => Err(ServeFault::Read),
+        Ending::Read | Ending::Poll => Err(ServeFault::Read), // of one that ends with `Poll` no trace was begun
         Ending::Write => Err(ServeFault::Write),
         Ending::Sink => Err(ServeFault::Sink),
         Ending::NoMemory => Err(ServeFault::NoMemory),

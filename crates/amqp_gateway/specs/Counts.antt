@@ -43,6 +43,7 @@ place_of ending.NoMemory = 7
 place_of ending.Idle = 8
 place_of ending.Slow = 9
 place_of ending.Stopped = 10
+place_of ending.Poll = 11
 
 -- one connection more that ended so
 abbrev pub ended_by : Ending → Counts → Counts

@@ -12,7 +12,7 @@ pub struct Counts {
     /// Connections that were accepted.
     pub accepted: u64,
     /// Connections that ended, by how they ended: in the order of [`Ending::ALL`].
-    pub ended: [u64; 11],
+    pub ended: [u64; 12],
     /// Messages that were recorded, and their bytes.
     pub messages: u64,
     pub bytes: u64,
@@ -21,7 +21,7 @@ pub struct Counts {
 impl Counts {
     pub const NONE: Counts = Counts {
         accepted: 0,
-        ended: [0; 11],
+        ended: [0; 12],
         messages: 0,
         bytes: 0,
     };

@@ -32,11 +32,13 @@ pub enum Ending {
     Slow,
     /// The gateway stopped.
     Stopped,
+    /// The system does not report when its socket is ready.
+    Poll,
 }
 
 impl Ending {
     /// All of them, in the order of [`Ending::place`].
-    pub const ALL: [Ending; 11] = [
+    pub const ALL: [Ending; 12] = [
         Ending::Closed,
         Ending::Failed,
         Ending::Between,
@@ -48,6 +50,7 @@ impl Ending {
         Ending::Idle,
         Ending::Slow,
         Ending::Stopped,
+        Ending::Poll,
     ];
 
     /// Returns how a connection ended whose endpoint stood so at the end of its input.
@@ -65,7 +68,7 @@ impl Ending {
     /// Returns its place in [`Ending::ALL`].
     pub fn place(self) -> usize
         ensures place { result ≡ place_of self }
-        ensures within { result < 11 }
+        ensures within { result < 12 }
     {
         match self {
             Ending::Closed => 0,
@@ -79,6 +82,7 @@ impl Ending {
             Ending::Idle => 8,
             Ending::Slow => 9,
             Ending::Stopped => 10,
+            Ending::Poll => 11,
         }
     }
 }
@@ -97,6 +101,7 @@ impl Display for Ending {
             Ending::Idle => "Idle",
             Ending::Slow => "Slow",
             Ending::Stopped => "Stopped",
+            Ending::Poll => "Poll",
         })
     }
 }

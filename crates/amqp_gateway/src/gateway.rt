@@ -384,35 +384,40 @@ impl<S: Sink + Drop, W: Watcher + Drop> Gateway<S, W> {
         self.desk.counts.accepted = self.desk.counts.accepted.saturating_add(1);
         let number = self.desk.counts.accepted;
         let _ = eprintln!(rt; "connection {number}: from {address}");
-        let Ok(at) = self.place(number, stream) else {
-            self.note_end(rt, number, Ending::NoMemory);
-            return Ok(());
+        let at = match self.place(number, stream) {
+            Ok(at) => at,
+            Err(ending) => {
+                self.note_end(rt, number, ending);
+                return Ok(());
+            }
         };
         self.desk.watcher.met(at, number, address);
         put(&mut self.next, at)?;
         Ok(())
     }
 
-    /// Makes a peer of a stream, and returns its place.
-    fn place(&mut self, number: u64, stream: TcpStream) -> Result<usize, AllocError>
+    /// Makes a peer of a stream, and returns its place, or how its connection ends at once: `NoMemory` or `Poll`.
+    fn place(&mut self, number: u64, stream: TcpStream) -> Result<usize, Ending>
         ensures opened { IsPlaced self.old self.new }
         ensures outlet { self.new.outlet ≡ self.old.outlet }
     {
-        let config = self.config.copy(self.alloc)?;
+        let Ok(config) = self.config.copy(self.alloc) else {
+            return Err(Ending::NoMemory);
+        };
         let Ok(key) = self.desk.hub.open(config, self.rule) else {
-            return Err(AllocError);
+            return Err(Ending::NoMemory);
         };
         let peer = Peer::new(self.alloc, number, key, stream, self.passed.millis());
         let Ok(at) = self.peers.insert(peer) else {
             let _ = self.desk.hub.remove(key);
-            return Err(AllocError);
+            return Err(Ending::NoMemory);
         };
         if let Some(peer) = self.peers.get_mut(at) {
             let _ = peer.queue();
             if peer.register(self.poll.registry(), at).is_err() {
                 let _ = self.desk.hub.remove(key);
                 let _ = self.peers.try_remove(at);
-                return Err(AllocError);
+                return Err(Ending::Poll);
             }
         }
         Ok(at)

@@ -241,12 +241,23 @@ impl<'a> Scene<'a> {
         open: usize,
         sync: bool,
     ) -> Result<Scene<'a>, Fail> {
+        Scene::sized(rt, store, open, sync, 512)
+    }
+
+    /// One whose peers may send frames of this many bytes.
+    pub fn sized(
+        rt: &HostRuntime,
+        store: &'a RefCell<Store>,
+        open: usize,
+        sync: bool,
+        frame: u32,
+    ) -> Result<Scene<'a>, Fail> {
         let alloc = rt.alloc();
         let listener = net::TcpListener::bind(rt, SocketAddr::from((Ipv4Addr::LOCALHOST, 0)))?;
         let address = listener.local_addr()?;
         listener.set_nonblocking(true)?;
         let name = String::from_str(alloc, "r")?;
-        let config = Config::checked(name, 512, 0, 1, 4, 100, 100).ok_or("no such settings")?;
+        let config = Config::checked(name, frame, 0, 1, 4, 100, 100).ok_or("no such settings")?;
         let bound = peer_most(&config, link_most(config.bounds()));
         let rule = Rule {
             credit: 4,

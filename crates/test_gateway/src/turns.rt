@@ -8,6 +8,7 @@ use amqp_gateway::GatewayFault;
 use std::cell::RefCell;
 use std::net::TcpStream;
 use std::process::Abort;
+use std::str;
 use std::test::Fail;
 
 #[test]
@@ -127,6 +128,46 @@ fn asks_for_it_in(rt: &impl Abort, host: &HostRuntime, scene: &mut Scene<'_>) ->
     let beats = times(&received(host.alloc(), &mut peer)?, EMPTY);
     assert!(rt; (6..=10).contains(&beats));
     Ok(())
+}
+
+/// An open of 60,000 bytes is told with the first 255 bytes of its container-id, up to the last whole character, and its
+/// idle-time-out counts.
+#[test]
+fn a_long_open_is_read_whole(rt: HostRuntime) -> Result<(), Fail> {
+    let store = RefCell::new(Store::new(rt.alloc()));
+    long_open_in(&rt, &rt, &mut Scene::sized(&rt, &store, 3, true, 65_536)?)
+}
+
+fn long_open_in(rt: &impl Abort, host: &HostRuntime, scene: &mut Scene<'_>) -> Result<(), Fail> {
+    let mut peer = scene.peer(host, b"AMQP\x00\x01\x00\x00")?;
+    let open = long_open();
+    for part in open.chunks(20_000) {
+        send(&mut peer, part)?;
+        assert!(rt; scene.turns(8, 1).is_ok());
+    }
+    let name = str::from_utf8(open.get(25..279).unwrap_or(&[])).unwrap_or("");
+    let line = format!(in host.alloc(); "connection 1: opened by {name:?}")?;
+    assert_eq!(rt; scene.log.count(&line), 1);
+    assert!(rt; scene.turns(24, 500).is_ok());
+    let beats = times(&received(host.alloc(), &mut peer)?, EMPTY);
+    assert!(rt; (6..=10).contains(&beats));
+    Ok(())
+}
+
+/// Returns an open whose container-id is 150 times a character of two bytes. Its idle-time-out is 2,000 milliseconds,
+/// and a property fills it up to 60,000 bytes.
+fn long_open() -> [u8; 60_000] {
+    let mut open = [b'x'; 60_000];
+    open[..25].copy_from_slice(
+        b"\x00\x00\xea\x60\x02\x00\x00\x00\x00\x53\x10\xd0\x00\x00\xea\x50\x00\x00\x00\x0a\xb1\x00\x00\x01\x2c",
+    );
+    for character in open[25..325].chunks_exact_mut(2) {
+        character.copy_from_slice("é".as_bytes());
+    }
+    open[325..354].copy_from_slice(
+        b"\x40\x40\x40\x70\x00\x00\x07\xd0\x40\x40\x40\x40\xd1\x00\x00\xe9\x0a\x00\x00\x00\x02\xa3\x01\x6b\xb1\x00\x00\xe8\xfe",
+    );
+    open
 }
 
 /// While its records are not taken, or not flushed, no peer is read, no answer is sent, and no time counts.
