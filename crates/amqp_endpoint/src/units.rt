@@ -12,8 +12,8 @@ ghost use Rattle.amqp_session.specs.Frames.{Frame, Transfers};
 ghost use Rattle.amqp_endpoint.specs.Fields.{Begins, Ends, ForSession, frame_in, read_of, opening, beginning};
 
 use crate::connection::Connection;
-use crate::introduction::Introduction;
 use crate::event::Event;
+use crate::introduction::Introduction;
 use crate::laws::{fields_say_the_performative, frames_are_as_long};
 use crate::opening::say_open;
 use crate::output::Output;
