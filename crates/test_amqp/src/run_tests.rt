@@ -974,8 +974,8 @@ fn a_gateway_tells_the_bound_of_its_limits(rt: HostRuntime) -> Result<(), Fail> 
     let limits = b"telemetry/ 64 4096\nfirmware/ 1 268435456\n";
     let left = gateway_ran(&rt, ["--limits", "a.amqp"], &disk, limits)?;
     assert!(rt; left.status == ExitCode::SUCCESS);
-    // 16384 + 79552 + 16 * (1407 + 268435456 + 96) for a peer, and 250 peers
-    let line = "a peer holds at most 4295087280 bytes, and all together 1073771820000";
+    // 16384 + 78528 + 16 * (1407 + 268435456 + 96) for a peer, and 250 peers
+    let line = "a peer holds at most 4295086256 bytes, and all together 1073771564000";
     assert!(rt; has_line(&left.told, line));
     Ok(())
 }
@@ -1100,7 +1100,7 @@ fn assert_counted(rt: &impl Abort, text: &str) {
         ("messages_total", 2),
         ("message_bytes_total", 2),
         ("held_bytes", 0),
-        ("held_bytes_bound", 1_081_260_000),
+        ("held_bytes_bound", 1_081_004_000),
         ("longest_turn_milliseconds", 0),
     ] {
         assert_eq!(rt; metric(text, name), Some(value), "{name}");
