@@ -17,7 +17,7 @@ ghost use Rattle.amqp_serve.specs.Supplying.{half_rule, GaveIn, LacksNothing};
 
 use amqp_endpoint::{CallFault, End, Endpoint, Outcome};
 use amqp_frame::{AtHand, Device, HoldsBack};
-use amqp_serve::{Course, Policy, ServeFault, Server, Stepped};
+use amqp_serve::{Course, Policy, Rule, ServeFault, Server, Stepped};
 use std::alloc::Allocator;
 use std::io::Write;
 
