@@ -1,5 +1,6 @@
 //! What a peer says of itself in its open [2.7.1].
 ghost use Rattle.std.specs.Prelude.{◌≡◌, ◌≤◌, length, take, option_map};
+ghost use Rattle.std.specs.Str.{IsUtf8};
 ghost use Rattle.std.specs.Str.Lossy.{utf8_valid_len};
 ghost use Rattle.amqp_endpoint.specs.FirstTexts.{most_kept, first_text, string_in, uint_in, number_of_4};
 ghost use Rattle.amqp_endpoint.specs.Introductions.{introduction_by};
@@ -58,13 +59,14 @@ pub struct FirstText {
 
 impl Model for FirstText {
     ghost use Rattle.std.specs.Prelude.{ℕ, List, ◌≤◌, take};
+    ghost use Rattle.std.specs.Str.{IsUtf8};
     ghost use Rattle.amqp_endpoint.specs.FirstTexts.{most_kept};
 
     ghost Value = { List ℕ };
 
     ghost view = { λ a. take a.len a.bytes };
 
-    ghost invariant = { λ a. a.len ≤ most_kept };
+    ghost invariant = { λ a. (a.len ≤ most_kept) × IsUtf8 (take a.len a.bytes) };
 }
 
 impl FirstText {
@@ -88,8 +90,13 @@ impl FirstText {
     }
 
     /// Returns it as text.
-    pub fn as_str(&self) -> &str {
-        str::from_utf8(self.as_bytes()).unwrap_or("")
+    pub fn as_str(&self) -> &str
+        ensures { result.now ≡ self.now }
+    {
+        match str::from_utf8(&self.bytes[..self.len]) {
+            Ok(text) => text,
+            Err(_) => "", // never, since the bytes are whole characters
+        }
     }
 }
 
@@ -114,6 +121,7 @@ fn room_of(text: &[u8]) -> [u8; MOST]
 fn text_len(bytes: &[u8]) -> usize
     ensures value { result ≡ utf8_valid_len bytes.now }
     ensures bound { result ≤ length bytes.now }
+    ensures whole { IsUtf8 (take result bytes.now) }
 {
     match str::from_utf8(bytes) {
         Ok(_) => bytes.len(),
