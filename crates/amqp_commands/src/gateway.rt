@@ -57,6 +57,7 @@ where
     S: Sink + Drop,
     T: Write + Drop,
     H: Host + Drop,
+    requires on_disk { S.on_disk sink }
 {
     let Plan {
         listener,
@@ -73,7 +74,7 @@ where
     let most = peer_most(&config, link);
     let bound = (settings.open as u64).saturating_mul(most);
     let _ = eprintln!(rt; "a peer holds at most {most} bytes, and all together {bound}");
-    let mut clock = Watch::new(rt);
+    let mut clock = Stopwatch::new(rt);
     let now = clock.millis(rt);
     let mut gateway = Gateway::new(
         rt,
@@ -102,7 +103,7 @@ where
 fn run<R, S, W>(
     rt: &R,
     gateway: &mut Gateway<S, W>,
-    clock: &mut Watch,
+    clock: &mut Stopwatch,
     mut watched: Watched<'_>,
     until_eof: bool,
 ) -> Result<(), GatewayFault>
@@ -221,14 +222,14 @@ fn has_ended<R: Input>(rt: &R) -> bool {
 
 /// A clock in milliseconds since it was made. If the system's clock fails, it stands still.
 #[derive(Drop)]
-struct Watch {
+struct Stopwatch {
     began: Option<Instant>,
     last: u64,
 }
 
-impl Watch {
-    fn new<R: Clock>(rt: &R) -> Watch {
-        Watch {
+impl Stopwatch {
+    fn new<R: Clock>(rt: &R) -> Stopwatch {
+        Stopwatch {
             began: Instant::now(rt).ok(),
             last: 0,
         }

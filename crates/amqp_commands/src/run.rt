@@ -384,7 +384,9 @@ fn serve_told<R: Print + Eprint + Input + Files + Net + Clock + AllocGlobal, S: 
     plan: Plan<'_>,
     sink: S,
     told: ToldTo<'_>,
-) -> Result<ExitCode, Fault> {
+) -> Result<ExitCode, Fault>
+    requires on_disk { S.on_disk sink }
+{
     let frames = opened(rt, told.trace)?;
     let events = opened(rt, told.events)?;
     let traces = Traces::new(rt.alloc(), Desk::new(rt), frames, events)?;

@@ -98,6 +98,8 @@ impl<F: Write + Drop> Write for Store<F> {
 }
 
 impl<F: Write + OpenFile + Drop> Sink for Store<F> {
+    ghost on_disk = { λ _. Unit {0} };
+
     fn sync(&mut self) -> io::Result<()> {
         self.file.sync_data()
     }

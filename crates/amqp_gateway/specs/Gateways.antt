@@ -1,8 +1,5 @@
 -- What a gateway is between two turns, and what a turn leaves.
 use Rattle.std.specs.Prelude.{◌≡◌, ℕ, ◌+◌, ◌≤◌, ◌<◌, ◌==◌, ◌&&◌, ◌||◌, nat_lt, nat_le, Bool, true, false, Option, Some, None, IsSome, Result, Ok, Err}
-use Rattle.amqp_serve.specs.declared.serving.ServeFault.{ServeFault}
-use Rattle.amqp_serve.specs.declared.serving.ServeFault.TheVariants as lost
-use Rattle.amqp_serve.specs.declared.steps.Done.{Done}
 use Rattle.amqp_hub.specs.Members.{MemberState}
 use Rattle.slab.specs.Slab.{Slab}
 use Rattle.amqp_endpoint.specs.declared.event.End.{End}
@@ -10,18 +7,10 @@ use Rattle.amqp_endpoint.specs.declared.event.End.TheVariants as end
 use Rattle.amqp_gateway.specs.declared.counts.Counts.{Counts}
 use Rattle.amqp_gateway.specs.declared.ending.Ending.{Ending}
 use Rattle.amqp_gateway.specs.declared.ending.Ending.TheVariants as ending
-use Rattle.amqp_gateway.specs.Outlets.{OutletState, IsSettled}
+use Rattle.amqp_gateway.specs.Outlets.{OutletState, is_settled}
 use Rattle.amqp_gateway.specs.declared.settings.Settings.{Settings}
 use Rattle.amqp_gateway.specs.declared.gateway.GatewayFault.{GatewayFault}
 use Rattle.amqp_gateway.specs.declared.gateway.GatewayFault.TheVariants as fault
-
--- A step with this result broke off.
-abbrev pub is_broken : Result Done ServeFault → Bool
-is_broken (Ok d) = false
-is_broken (Err lost.NoMemory) = false
-is_broken (Err lost.Read) = true
-is_broken (Err lost.Write) = true
-is_broken (Err lost.Sink) = true
 
 -- how a connection ended whose endpoint stood so at the end of its input
 abbrev pub ending_of : End → Ending
@@ -56,13 +45,14 @@ pub record MayOpen (s : GatewayState) : Type 0 where
   pub goes_on : is_last s ≡ false
   pub room : s.peers < s.settings.peers
 
--- a new gateway: of these settings, without peers, and nothing waits
+-- a new gateway: of these settings, without peers, and nothing waits; it syncs if that was asked for
 pub record IsNewGateway (asked : Settings) (s : GatewayState) : Type 0 where
   pub settings : s.settings ≡ asked
   pub none : s.peers ≡ 0
   pub stopped : s.stopped ≡ None
   pub accepted : s.counts.accepted ≡ 0
-  pub settled : IsSettled true s.outlet
+  pub settled : is_settled s.outlet ≡ true
+  pub syncs : s.outlet.syncs ≡ asked.sync
 
 -- it is to end, from now on if it was not before, and nothing else changed
 pub record IsStopping (old new : GatewayState) : Type 0 where
@@ -74,19 +64,21 @@ pub record IsStopping (old new : GatewayState) : Type 0 where
   pub stopped : IsSome new.stopped
   pub once : IsSome old.stopped → new.stopped ≡ old.stopped
 
--- No peer was accepted.
+-- No peer was accepted. If it syncs records before it sends answers to them, it does so on.
 pub record IsGoneOn (old new : GatewayState) : Type 0 where
   pub settings : new.settings ≡ old.settings
   pub stopped : new.stopped ≡ old.stopped
   pub accepted : new.counts.accepted ≡ old.counts.accepted
   pub fewer : new.peers ≤ old.peers
+  pub syncs : new.outlet.syncs ≡ old.outlet.syncs
 
--- If it is to end, or has accepted as many as it was to, no peer was accepted. There are never more peers than there may be.
+-- If it is to end, or has accepted as many as it was to, no peer was accepted. There are never more peers than there may be. If it syncs, it does so on.
 pub record IsTurned (old new : GatewayState) : Type 0 where
   pub settings : new.settings ≡ old.settings
   pub stopped : new.stopped ≡ old.stopped
   pub last : is_last old ≡ true → IsGoneOn old new
   pub bound : old.peers ≤ old.settings.peers → new.peers ≤ old.settings.peers
+  pub syncs : new.outlet.syncs ≡ old.outlet.syncs
 
 -- At most one peer more is there.
 pub record IsPlaced (old new : GatewayState) : Type 0 where

@@ -2,3 +2,4 @@ pub mod Bounds
 pub mod Counts
 pub mod Gateways
 pub mod Outlets
+pub mod OutletLaws

@@ -5,8 +5,9 @@ ghost use Rattle.amqp_endpoint.specs.Held.{any_link_most};
 ghost use Rattle.amqp_session.specs.Laws.{link_most};
 ghost use Rattle.amqp_gateway.specs.Bounds.{peer_most};
 
-use crate::peer::{ANSWERS, PIECE};
+use crate::peer::PIECE;
 use amqp_endpoint::Config;
+use amqp_hub::ANSWERS;
 use amqp_link::LinkBounds;
 
 /// How many bytes are kept of a peer and for it besides its endpoint and the answers to a unit. These are

@@ -1,20 +1,20 @@
 //! The gateway: all peers, turn by turn.
 
 ghost use Rattle.slab.specs.Slab.{slab_len};
-ghost use Rattle.std.specs.Prelude.{◌≡◌, ◌≤◌, ◌^◌, ◌-◌, false, min, Err, IsTrue, IfOk, OnErr};
+ghost use Rattle.std.specs.Prelude.{◌≡◌, ◌≤◌, ◌^◌, ◌-◌, true, min, Err, IsTrue, IfOk, OnErr};
 ghost use Rattle.amqp_hub.specs.Turns.{all_held};
 ghost use Rattle.amqp_gateway.specs.Gateways.{IsNewGateway, IsStopping, IsGoneOn, IsTurned, IsPlaced, LeavesNone, MayOpen, is_done, is_last};
-ghost use Rattle.amqp_gateway.specs.Outlets.{IsSettled};
+ghost use Rattle.amqp_gateway.specs.Outlets.{is_settled};
 
 use crate::counts::Counts;
 use crate::ending::Ending;
-use crate::outlet::{Outlet, Progress, Sink};
+use crate::outlet::{Outlet, Sink};
 use crate::passed::Passed;
 use crate::peer::{Came, Desk, Next, PIECE, Peer};
 use crate::settings::Settings;
 use crate::watcher::Watcher;
 use amqp_endpoint::Config;
-use amqp_hub::Hub;
+use amqp_hub::{Hub, Keeper, Progress};
 use amqp_serve::Rule;
 use mio::event::Event;
 use mio::net::{TcpListener, TcpStream};
@@ -102,15 +102,13 @@ impl<S: Sink + Drop, W: Watcher + Drop> Model for Gateway<S, W> {
 
     ghost Value = { GatewayState };
 
-    ghost view = { λ a. record { settings = a.settings; counts = a.desk.counts; members = a.desk.hub.members; outlet = a.desk.outlet; peers = slab_len a.peers; stopped = a.stopped } };
-
-    ghost invariant = { λ a. a.is_stuck ≡ false → a.desk.outlet.written ≡ 0 };
+    ghost view = { λ a. record { settings = a.settings; counts = a.desk.counts; members = a.desk.hub.members; outlet = a.desk.hub.keeper; peers = slab_len a.peers; stopped = a.stopped } };
 }
 
 impl<S: Sink + Drop, W: Watcher + Drop> Gateway<S, W> {
     /// Makes a gateway that accepts peers at a listener, which must not block. Each peer is served by an endpoint
-    /// of these settings and this rule. Records go to the sink, and the watcher is told what passes. `now` is this
-    /// moment in milliseconds, counted from any fixed moment.
+    /// of these settings and this rule. Records go to the sink, to which nothing was written that is not on the disk,
+    /// and the watcher is told what passes. `now` is this moment in milliseconds, counted from any fixed moment.
     ///
     /// # Errors
     ///
@@ -125,6 +123,7 @@ impl<S: Sink + Drop, W: Watcher + Drop> Gateway<S, W> {
         watcher: W,
         now: u64,
     ) -> Result<Gateway<S, W>, GatewayFault>
+        requires on_disk { S.on_disk sink }
         ensures { IfOk result (λ gateway. IsNewGateway settings gateway) }
     {
         let alloc = rt.alloc();
@@ -150,11 +149,13 @@ impl<S: Sink + Drop, W: Watcher + Drop> Gateway<S, W> {
             may_accept: true,
             peers: Slab::new(alloc),
             desk: Desk {
-                hub: Hub::new(alloc, settings.peers),
+                hub: Hub::new(
+                    alloc,
+                    settings.peers,
+                    Outlet::new(alloc, sink, settings.sync),
+                ),
                 watcher,
-                outlet: Outlet::new(alloc, sink),
                 counts: Counts::NONE,
-                recorded: Vec::new(alloc),
             },
             is_stuck: false,
             piece: Vec::from_elem(alloc, 0, PIECE)?,
@@ -404,7 +405,7 @@ impl<S: Sink + Drop, W: Watcher + Drop> Gateway<S, W> {
         let Ok(config) = self.config.copy(self.alloc) else {
             return Err(Ending::NoMemory);
         };
-        let Ok(key) = self.desk.hub.open(config, self.rule) else {
+        let Ok(key) = self.desk.hub.open(config, self.rule, number) else {
             return Err(Ending::NoMemory);
         };
         let peer = Peer::new(self.alloc, number, key, stream, self.passed.millis());
@@ -425,14 +426,13 @@ impl<S: Sink + Drop, W: Watcher + Drop> Gateway<S, W> {
 
     /// Takes what each ready peer sent, as long as the sink takes the records.
     fn hear_all<R: Eprint>(&mut self, rt: &R)
-        requires { self.old.outlet.written ≡ 0 }
         ensures { IsGoneOn self.old self.new }
     {
         for place in 0..self.now.len() {
             if let Some(at) = self.now.get(place).copied() {
                 self.hear(rt, at);
             }
-            if self.desk.outlet.is_full() && self.desk.outlet.write_out() != Progress::Out {
+            if self.desk.hub.make_room() != Progress::Out {
                 self.is_stuck = true;
                 break;
             }
@@ -441,23 +441,21 @@ impl<S: Sink + Drop, W: Watcher + Drop> Gateway<S, W> {
 
     /// Takes a piece of what a peer sent.
     fn hear<R: Eprint>(&mut self, rt: &R, at: usize)
-        requires { self.old.outlet.written ≡ 0 }
         ensures gone_on { IsGoneOn self.old self.new }
-        ensures written { self.new.outlet.written ≡ 0 }
     {
         let Some(peer) = self.peers.get_mut(at) else {
             return;
         };
-        if peer.may_be_heard() {
+        if peer.may_be_heard(&self.desk.hub) {
             peer.hear_again(self.alloc, self.passed.millis(), &mut self.desk, rt);
         }
-        if !peer.may_be_read() {
+        if !peer.may_be_read(&self.desk.hub) {
             return;
         }
-        match peer.read(&mut self.piece, self.passed.millis()) {
+        match peer.read(&mut self.piece, &self.desk.hub, self.passed.millis()) {
             Came::Bytes(count) => {
                 let bytes = self.piece.get(..count).unwrap_or(&[]);
-                peer.hear(self.alloc, bytes, &mut self.desk, rt);
+                peer.hear(bytes, &mut self.desk, rt);
             }
             Came::Nothing => {}
             Came::End => peer.finish(&mut self.desk.hub),
@@ -469,7 +467,7 @@ impl<S: Sink + Drop, W: Watcher + Drop> Gateway<S, W> {
         ensures gone_on { IsGoneOn self.old self.new }
         ensures gone { LeavesNone result self.new }
     {
-        let progress = self.desk.outlet.settle(self.settings.sync);
+        let progress = self.desk.hub.settle();
         self.is_stuck = progress != Progress::Out;
         match progress {
             Progress::Out => self.send_all(rt),
@@ -483,7 +481,7 @@ impl<S: Sink + Drop, W: Watcher + Drop> Gateway<S, W> {
 
     /// Sends the answers of the turn.
     fn send_all<R: Eprint>(&mut self, rt: &R) -> Result<(), GatewayFault>
-        requires { IsSettled self.old.settings.sync self.old.outlet }
+        requires { is_settled self.old.outlet ≡ true }
         ensures gone_on { IsGoneOn self.old self.new }
         ensures gone { LeavesNone result self.new }
     {
@@ -498,7 +496,7 @@ impl<S: Sink + Drop, W: Watcher + Drop> Gateway<S, W> {
 
     /// Sends what waits for a peer. No record waits that the answers may speak of.
     fn send<R: Eprint>(&mut self, rt: &R, at: usize) -> Result<(), GatewayFault>
-        requires { IsSettled self.old.settings.sync self.old.outlet }
+        requires { is_settled self.old.outlet ≡ true }
         ensures gone_on { IsGoneOn self.old self.new }
         ensures gone { LeavesNone result self.new }
         ensures outlet { self.new.outlet ≡ self.old.outlet }
@@ -507,7 +505,7 @@ impl<S: Sink + Drop, W: Watcher + Drop> Gateway<S, W> {
         let Some(peer) = self.peers.get_mut(at) else {
             return Ok(());
         };
-        match peer.send(self.alloc, &self.desk.outlet, self.settings.sync, now) {
+        match peer.send(&mut self.desk.hub, now) {
             Next::Turn => put(&mut self.next, at)?,
             Next::Wait => peer.leave_queue(),
             Next::Over(ending) => self.remove(rt, at, ending),
@@ -550,7 +548,7 @@ impl<S: Sink + Drop, W: Watcher + Drop> Gateway<S, W> {
         ensures gone_on { IsGoneOn self.old self.new }
         ensures gone { LeavesNone result self.new }
     {
-        let is_settled = self.desk.outlet.is_settled(self.settings.sync);
+        let is_settled = self.desk.hub.keeper().is_settled();
         self.end_all(rt, Ending::Stopped);
         if is_settled {
             Ok(())
@@ -620,19 +618,13 @@ impl<S: Sink + Drop, W: Watcher + Drop> Gateway<S, W> {
         let Some(peer) = self.peers.get_mut(at) else {
             return;
         };
-        let Desk {
-            hub,
-            watcher,
-            outlet,
-            ..
-        } = &mut self.desk;
-        let sync = self.settings.sync;
-        if !outlet.is_settled(sync) {
+        let Desk { hub, watcher, .. } = &mut self.desk;
+        if !hub.keeper().is_settled() {
             let how = peer.ending().unwrap_or(ending);
             return self.remove(rt, at, how);
         }
         peer.close(hub, watcher, ending);
-        let how = match peer.send(self.alloc, outlet, sync, self.passed.millis()) {
+        let how = match peer.send(hub, self.passed.millis()) {
             Next::Over(how) => how,
             _ => ending,
         };

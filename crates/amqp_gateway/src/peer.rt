@@ -1,28 +1,25 @@
-//! One peer: its socket, and what waits for it.
+//! One peer: its key in the hub, its socket, and its phase.
 
-ghost use Rattle.std.specs.Prelude.{◌≡◌};
-ghost use Rattle.amqp_gateway.specs.Gateways.{is_broken};
-ghost use Rattle.amqp_gateway.specs.Outlets.{IsSettled};
+ghost use Rattle.std.specs.Prelude.{◌≡◌, true, drop};
+ghost use Rattle.slab.specs.Slab.{get};
+ghost use Rattle.amqp_hub.specs.Turns.{answers_of};
+ghost use Rattle.amqp_gateway.specs.Outlets.{is_settled};
 
 use crate::counts::Counts;
 use crate::ending::Ending;
 use crate::outlet::{Outlet, Sink};
 use crate::watcher::Watcher;
-use amqp_endpoint::{End, Event, Outcome, Scope};
-use amqp_frame::Device;
+use amqp_endpoint::{End, Endpoint, Event, Outcome, Scope};
 use amqp_hub::{Hub, HubFault};
 use amqp_perform::Condition;
-use amqp_serve::{Done, ServeFault, Stepped};
+use amqp_serve::{ServeFault, Stepped};
 use mio::event::Event as Ready;
 use mio::net::TcpStream;
 use mio::{Interest, Registry, Token};
-use std::alloc::{AllocError, Global};
+use std::alloc::Global;
 use std::io::{self, ErrorKind, Read, Write};
 use std::net::Shutdown;
 use std::{mem, str};
-
-/// How many bytes of answers may wait before no more of a peer's bytes are heard.
-pub const ANSWERS: usize = 8192;
 
 /// How many bytes are read of a peer in a turn, at most. What one peer may do bounds what the others wait.
 pub const PIECE: usize = 8192;
@@ -44,6 +41,9 @@ pub enum Next {
     Over(Ending),
 }
 
+/// The close of this side [2.7.9], as the hub writes it.
+const CLOSE: [u8; 12] = [0, 0, 0, 12, 2, 0, 0, 0, 0, 0x53, 0x18, 0x45];
+
 /// What a read of a socket gave.
 #[derive(Clone, Copy, Debug, PartialEq, Eq)]
 pub enum Came {
@@ -57,12 +57,21 @@ pub enum Came {
 /// Where what peers bring goes.
 #[derive(Drop)]
 pub struct Desk<S: Sink + Drop, W: Watcher + Drop> {
-    pub hub: Hub,
+    pub hub: Hub<Outlet<S>>,
     pub watcher: W,
-    pub outlet: Outlet<S>,
     pub counts: Counts,
-    /// Room for the record of a unit.
-    pub recorded: Vec<u8>,
+}
+
+/// How a peer is between two calls.
+#[derive(Clone, Copy, Debug, PartialEq, Eq)]
+enum Phase {
+    /// It is served.
+    Served,
+    /// It is served. Memory was refused for a unit that waits in the hub.
+    Starved,
+    /// It has ended so, and its endpoint stood so at the end of its input, if it was brought there. What waits for it
+    /// may still go out.
+    Ended(Ending, Option<End>),
 }
 
 /// A connection. Times are those that count, in milliseconds.
@@ -71,29 +80,17 @@ pub struct Peer {
     number: u64,
     /// Its place among the peers.
     at: usize,
-    /// Its key in the hub.
-    key: usize,
+    /// Its key in the hub, until that has dropped it.
+    key: Option<usize>,
     stream: TcpStream,
-    /// What the hub handed out for it, and how many bytes of that were written.
-    answers: Vec<u8>,
-    written: usize,
+    phase: Phase,
     /// What came and was not heard, since memory was refused, or too many units came or answers wait.
     unheard: Vec<u8>,
     is_queued: bool,
     is_readable: bool,
-    /// Whether its socket did not take all of its answers.
-    is_deaf: bool,
-    /// Whether a unit waits in the hub, for which memory was refused.
-    is_starved: bool,
-    /// Whether the hub has dropped it.
-    is_gone: bool,
-    ending: Option<Ending>,
-    /// How its endpoint stood at the end of its input.
-    end: Option<End>,
-    /// Whether its open came.
-    is_open: bool,
-    /// Whether this side has ended its connection.
-    has_failed: bool,
+    /// An empty frame, and how many of its last bytes are still to be written.
+    frame: [u8; 8],
+    owed: usize,
     /// How often it was reported that this side ended something of it.
     told: u32,
     /// When it came, when something came from it, when something was written, and since when its socket takes
@@ -102,8 +99,6 @@ pub struct Peer {
     heard: u64,
     said: u64,
     blocked: Option<u64>,
-    /// How long after the last write an empty frame is due; 0 is never.
-    beat: u64,
 }
 
 impl Peer {
@@ -111,26 +106,19 @@ impl Peer {
         Peer {
             number,
             at: 0,
-            key,
+            key: Some(key),
             stream,
-            answers: Vec::new(alloc),
-            written: 0,
+            phase: Phase::Served,
             unheard: Vec::new(alloc),
             is_queued: false,
             is_readable: true,
-            is_deaf: false,
-            is_starved: false,
-            is_gone: false,
-            ending: None,
-            end: None,
-            is_open: false,
-            has_failed: false,
+            frame: [0; 8],
+            owed: 0,
             told: 0,
             came: now,
             heard: now,
             said: now,
             blocked: None,
-            beat: 0,
         }
     }
 
@@ -140,23 +128,31 @@ impl Peer {
 
     /// Returns how it ended, if it has.
     pub fn ending(&self) -> Option<Ending> {
-        self.ending
+        match self.phase {
+            Phase::Ended(ending, _) => Some(ending),
+            Phase::Served | Phase::Starved => None,
+        }
     }
 
     /// Returns how its endpoint stood at the end of its input, if it was brought there.
     pub fn end(&self) -> Option<End> {
-        self.end
+        match self.phase {
+            Phase::Ended(_, end) => end,
+            Phase::Served | Phase::Starved => None,
+        }
     }
 
-    /// Returns how many bytes wait here: its answers, and what came from it and was not heard.
+    /// Returns how many bytes wait here: an empty frame, and what came from it and was not heard.
     pub fn held(&self) -> u64 {
-        (self.answers.len() as u64).saturating_add(self.unheard.len() as u64)
+        (self.owed as u64).saturating_add(self.unheard.len() as u64)
     }
 
     /// Gives its key back to the hub.
-    pub fn leave(&mut self, hub: &mut Hub) {
-        if !mem::replace(&mut self.is_gone, true) {
-            let _ = hub.remove(self.key);
+    pub fn leave<S: Sink + Drop>(&mut self, hub: &mut Hub<Outlet<S>>)
+        ensures { hub.new.keeper ≡ hub.old.keeper }
+    {
+        if let Some(key) = self.key.take() {
+            let _ = hub.remove(key);
         }
     }
 
@@ -186,38 +182,60 @@ impl Peer {
         self.is_queued = false;
     }
 
-    /// Returns whether answers wait for its socket.
-    fn is_blocked(&self) -> bool {
-        self.written < self.answers.len()
+    /// Returns its endpoint, until the hub has dropped it.
+    fn endpoint<'a, S: Sink + Drop>(&self, hub: &'a Hub<Outlet<S>>) -> Option<&'a Endpoint> {
+        hub.endpoint(self.key?)
+    }
+
+    /// Returns whether this side has ended its connection with an error.
+    fn has_failed<S: Sink + Drop>(&self, hub: &Hub<Outlet<S>>) -> bool {
+        match self.endpoint(hub) {
+            Some(endpoint) => endpoint.has_failed(),
+            None => false,
+        }
+    }
+
+    /// Returns whether bytes wait for its socket.
+    fn is_blocked<S: Sink + Drop>(&self, hub: &Hub<Outlet<S>>) -> bool {
+        self.owed > 0
+            || match self.key {
+                Some(key) => hub.waits(key),
+                None => false,
+            }
     }
 
     /// Returns whether something of it is kept to be heard again.
     fn has_unheard(&self) -> bool {
-        self.is_starved || !self.unheard.is_empty()
+        self.phase == Phase::Starved || !self.unheard.is_empty()
     }
 
     /// Returns whether it may be heard: it has not ended, and no answers wait.
-    pub fn may_be_heard(&self) -> bool {
-        self.ending.is_none() && !self.is_blocked()
+    pub fn may_be_heard<S: Sink + Drop>(&self, hub: &Hub<Outlet<S>>) -> bool {
+        self.ending().is_none() && !self.is_blocked(hub)
     }
 
     /// Returns whether more of it may be read.
-    pub fn may_be_read(&self) -> bool {
-        self.is_readable && !self.has_unheard() && self.may_be_heard()
+    pub fn may_be_read<S: Sink + Drop>(&self, hub: &Hub<Outlet<S>>) -> bool {
+        self.is_readable && !self.has_unheard() && self.may_be_heard(hub)
     }
 
     /// Returns whether it is to have another turn at once. One for which memory was refused is tried again from
     /// time to time.
     fn has_more(&self) -> bool {
-        !self.is_starved && (self.is_readable || !self.unheard.is_empty())
+        self.phase == Phase::Served && (self.is_readable || !self.unheard.is_empty())
     }
 
     /// Reads once.
-    pub fn read(&mut self, piece: &mut [u8], now: u64) -> Came {
+    pub fn read<S: Sink + Drop>(
+        &mut self,
+        piece: &mut [u8],
+        hub: &Hub<Outlet<S>>,
+        now: u64,
+    ) -> Came {
         match self.stream.read(piece) {
             Ok(0) => Came::End,
             Ok(count) => {
-                if !self.has_failed {
+                if !self.has_failed(hub) {
                     self.heard = now;
                 }
                 Came::Bytes(count)
@@ -228,7 +246,7 @@ impl Peer {
                 Came::Nothing
             }
             Err(_) => {
-                self.ending = Some(Ending::Read);
+                self.phase = Phase::Ended(Ending::Read, None);
                 Came::Nothing
             }
         }
@@ -242,16 +260,15 @@ impl Peer {
         desk: &mut Desk<S, W>,
         rt: &impl Eprint,
     )
-        requires { desk.old.outlet.written ≡ 0 }
-        ensures written { desk.new.outlet.written ≡ 0 }
         ensures accepted { desk.new.counts.accepted ≡ desk.old.counts.accepted }
+        ensures syncs { desk.new.hub.keeper.syncs ≡ desk.old.hub.keeper.syncs }
     {
         if self.has_unheard() {
-            if !self.has_failed {
+            if !self.has_failed(&desk.hub) {
                 self.heard = now; // it was this side that could not go on
             }
             let unheard = mem::replace(&mut self.unheard, Vec::new(alloc));
-            self.hear(alloc, &unheard, desk, rt);
+            self.hear(&unheard, desk, rt);
         }
     }
 
@@ -259,70 +276,69 @@ impl Peer {
     /// its socket has to take it first. The rest is kept.
     pub fn hear<S: Sink + Drop, W: Watcher + Drop>(
         &mut self,
-        alloc: Global,
         bytes: &[u8],
         desk: &mut Desk<S, W>,
         rt: &impl Eprint,
     )
-        requires { desk.old.outlet.written ≡ 0 }
-        ensures written { desk.new.outlet.written ≡ 0 }
         ensures accepted { desk.new.counts.accepted ≡ desk.old.counts.accepted }
+        ensures syncs { desk.new.hub.keeper.syncs ≡ desk.old.hub.keeper.syncs }
     {
         let mut rest = bytes;
         for _ in 0..UNITS {
-            if rest.is_empty() && !self.is_starved || self.answers.len() >= ANSWERS {
+            if rest.is_empty() && self.phase != Phase::Starved {
                 break;
             }
-            self.is_starved = false;
-            let mut sink = Device::new(mem::replace(&mut desk.recorded, Vec::new(alloc)));
-            let heard = desk.hub.hear(self.key, rest, &mut sink);
-            desk.recorded = sink.into_inner();
-            let Ok(stepped) = heard else {
-                self.finish(&mut desk.hub);
+            let Some(key) = self.key else {
                 break;
             };
-            let taken = rest.get(..stepped.used).unwrap_or(&[]);
-            rest = rest.get(stepped.used..).unwrap_or(&[]);
-            if !self.go_on(alloc, taken, &stepped, desk, rt) {
-                break;
+            let waited = desk.hub.answers(key).len();
+            match desk.hub.hear(key, rest) {
+                Ok(stepped) => {
+                    let taken = rest.get(..stepped.used).unwrap_or(&[]);
+                    rest = rest.get(stepped.used..).unwrap_or(&[]);
+                    if !self.go_on(key, taken, waited, &stepped, desk, rt) {
+                        break;
+                    }
+                }
+                Err(HubFault::Unsent | HubFault::NoRoom) => break,
+                Err(_) => {
+                    self.finish(&mut desk.hub);
+                    break;
+                }
             }
         }
         self.keep(rest, &mut desk.hub);
         desk.watcher.waits(self.at);
     }
 
-    /// Goes on after a step that took these bytes. Returns `false` if no more is to be heard now.
+    /// Goes on after a step that took these bytes, before which so many bytes of answers waited. Returns `false` if no
+    /// more is to be heard now.
     fn go_on<S: Sink + Drop, W: Watcher + Drop>(
         &mut self,
-        alloc: Global,
+        key: usize,
         taken: &[u8],
+        waited: usize,
         stepped: &Stepped,
         desk: &mut Desk<S, W>,
         rt: &impl Eprint,
     ) -> bool
-        requires { desk.old.outlet.written ≡ 0 }
-        ensures written { desk.new.outlet.written ≡ 0 }
         ensures accepted { desk.new.counts.accepted ≡ desk.old.counts.accepted }
+        ensures syncs { desk.new.hub.keeper.syncs ≡ desk.old.hub.keeper.syncs }
     {
-        let is_kept = keep_record(alloc, self.number, stepped, desk).is_ok();
-        if is_kept {
-            desk.counts.step(stepped);
-        }
-        if is_broken(stepped.done) {
-            self.is_gone = true; // the hub has removed it
-        }
-        let waited = self.answers.len();
-        if self.is_gone || !is_kept || self.take_answers(&mut desk.hub).is_err() {
+        if let Err(ServeFault::Read | ServeFault::Write | ServeFault::Sink) = stepped.done {
+            self.key = None; // the hub has removed it
             self.give_up(&mut desk.hub, Ending::NoMemory);
             return false;
         }
-        let answers = self.answers.get(waited..).unwrap_or(&[]);
+        desk.counts.step(stepped);
+        let answers = answers_after(&desk.hub, key, waited);
         desk.watcher.stepped(self.at, taken, stepped, answers);
         self.tell(stepped.told, &desk.hub, rt);
         if stepped.done.is_err() {
-            self.is_starved = true;
+            self.phase = Phase::Starved;
             return false;
         }
+        self.phase = Phase::Served;
         if self.is_over(&desk.hub) {
             self.finish(&mut desk.hub);
             return false;
@@ -331,15 +347,17 @@ impl Peer {
     }
 
     /// Keeps what is to be heard later, unless it has ended.
-    fn keep(&mut self, rest: &[u8], hub: &mut Hub) {
-        if self.ending.is_none() && self.unheard.extend_from_slice(rest).is_err() {
+    fn keep<S: Sink + Drop>(&mut self, rest: &[u8], hub: &mut Hub<Outlet<S>>)
+        ensures { hub.new.keeper ≡ hub.old.keeper }
+    {
+        if self.ending().is_none() && self.unheard.extend_from_slice(rest).is_err() {
             self.give_up(hub, Ending::NoMemory);
         }
     }
 
     /// Reports on standard error what concerns the operator: its open, and what this side ended, at most
     /// [`MOST_TOLD`] times.
-    fn tell(&mut self, told: Outcome, hub: &Hub, rt: &impl Eprint) {
+    fn tell<S: Sink + Drop>(&mut self, told: Outcome, hub: &Hub<Outlet<S>>, rt: &impl Eprint) {
         match told {
             Outcome::Event(Event::Opened) => self.opened(hub, rt),
             Outcome::Event(
@@ -349,7 +367,6 @@ impl Peer {
                     ..
                 },
             ) => {
-                self.has_failed = self.has_failed || scope == Scope::Connection;
                 if self.told <= MOST_TOLD {
                     self.told = self.told.saturating_add(1);
                     self.tell_failure(scope, condition, rt);
@@ -377,99 +394,95 @@ impl Peer {
         };
     }
 
-    /// Notes that its open came, and what it says [2.7.1].
-    fn opened(&mut self, hub: &Hub, rt: &impl Eprint) {
-        self.is_open = true;
-        let Some(endpoint) = hub.endpoint(self.key) else {
-            return;
-        };
-        let Some(said) = endpoint.peer() else {
-            return;
-        };
-        self.beat = said.idle_time_out.unwrap_or(0) as u64 / 2;
-        let number = self.number;
-        let name = said.container_id.as_str();
-        let _ = eprintln!(rt; "connection {number}: opened by {name:?}");
-    }
-
-    /// Takes what the hub has for it.
-    fn take_answers(&mut self, hub: &mut Hub) -> Result<(), AllocError> {
-        for _ in 0..u64::MAX {
-            if !take_front(hub, self.key, &mut self.answers)? {
-                break;
-            }
+    /// Reports that its open came, and whose it says that it is [2.7.1].
+    fn opened<S: Sink + Drop>(&self, hub: &Hub<Outlet<S>>, rt: &impl Eprint) {
+        if let Some(endpoint) = self.endpoint(hub)
+            && let Some(said) = endpoint.peer()
+        {
+            let number = self.number;
+            let name = said.container_id.as_str();
+            let _ = eprintln!(rt; "connection {number}: opened by {name:?}");
         }
-        Ok(())
     }
 
     /// Returns whether its connection is over. If this side ended it with an error, it is so at once if what came was no
     /// frame. Else it awaits the peer's close [2.4.3].
-    fn is_over(&self, hub: &Hub) -> bool {
-        match hub.endpoint(self.key) {
+    fn is_over<S: Sink + Drop>(&self, hub: &Hub<Outlet<S>>) -> bool {
+        match self.endpoint(hub) {
             Some(endpoint) => endpoint.is_over(),
             None => true,
         }
     }
 
     /// Ends it, since its input has ended or its connection is over.
-    pub fn finish(&mut self, hub: &mut Hub) {
-        if self.ending.is_some() {
+    pub fn finish<S: Sink + Drop>(&mut self, hub: &mut Hub<Outlet<S>>)
+        ensures { hub.new.keeper ≡ hub.old.keeper }
+    {
+        if self.ending().is_some() {
             return;
         }
-        self.ending = Some(match hub.finish(self.key) {
-            Ok(end) => {
-                self.end = Some(end);
-                Ending::of(end)
-            }
-            Err(HubFault::Starved) => Ending::NoMemory,
-            Err(_) => Ending::Failed,
-        });
+        let Some(key) = self.key else {
+            return;
+        };
+        self.phase = match hub.finish(key) {
+            Ok(end) => Phase::Ended(Ending::of(end), Some(end)),
+            Err(HubFault::Starved) => Phase::Ended(Ending::NoMemory, None),
+            Err(_) => Phase::Ended(Ending::Failed, None),
+        };
     }
 
     /// Closes it if it is open, and ends it.
-    pub fn close(&mut self, hub: &mut Hub, watcher: &mut impl Watcher, ending: Ending) {
-        if self.ending.is_some() {
+    pub fn close<S: Sink + Drop>(
+        &mut self,
+        hub: &mut Hub<Outlet<S>>,
+        watcher: &mut impl Watcher,
+        ending: Ending,
+    )
+        ensures { hub.new.keeper ≡ hub.old.keeper }
+    {
+        if self.ending().is_some() {
             return;
         }
-        self.ending = Some(ending);
-        let _ = hub.close(self.key);
-        let waited = self.answers.len();
-        if self.take_answers(hub).is_err() {
-            self.give_up(hub, ending);
-        } else {
-            watcher.said(self.at, self.answers.get(waited..).unwrap_or(&[]));
+        self.phase = Phase::Ended(ending, None);
+        if let Some(key) = self.key
+            && hub.close(key).is_ok()
+        {
+            watcher.said(self.at, &CLOSE);
         }
     }
 
     /// Ends it without a word.
-    pub fn give_up(&mut self, hub: &mut Hub, ending: Ending) {
-        self.ending = Some(ending);
+    pub fn give_up<S: Sink + Drop>(&mut self, hub: &mut Hub<Outlet<S>>, ending: Ending)
+        ensures { hub.new.keeper ≡ hub.old.keeper }
+    {
+        self.phase = Phase::Ended(ending, self.end());
         self.leave(hub);
-        self.answers.clear();
-        self.written = 0;
+        self.owed = 0;
     }
 
     /// Checks it for time-outs. Returns whether it has something to say, is over, or is to be tried again.
-    pub fn judge(
+    pub fn judge<S: Sink + Drop>(
         &mut self,
-        hub: &mut Hub,
+        hub: &mut Hub<Outlet<S>>,
         watcher: &mut impl Watcher,
         now: u64,
         idle: u64,
         slow: u64,
-    ) -> bool {
+    ) -> bool
+        ensures { hub.new.keeper ≡ hub.old.keeper }
+    {
         if let Some(since) = self.blocked {
             if now.saturating_sub(since) >= slow {
-                let ending = self.ending.unwrap_or(Ending::Slow);
+                let ending = self.ending().unwrap_or(Ending::Slow);
                 self.give_up(hub, ending);
                 return true;
             }
         }
-        if self.ending.is_some() || self.is_blocked() {
+        if !self.may_be_heard(hub) {
             return false;
         }
-        if idle > 0 && self.is_late(now, idle) {
-            let ending = if self.has_failed {
+        if idle > 0 && self.is_late(hub, now, idle) {
+            let ending = if self.has_failed(hub) {
                 Ending::Failed
             } else {
                 Ending::Idle
@@ -477,61 +490,108 @@ impl Peer {
             self.close(hub, watcher, ending);
             return true;
         }
-        if self.beat > 0 && now.saturating_sub(self.said) >= self.beat {
+        let beat = self.beat(hub);
+        if beat > 0 && now.saturating_sub(self.said) >= beat {
             return self.say_beat(hub, watcher, now);
         }
-        self.is_starved
+        self.phase == Phase::Starved
     }
 
     /// Returns whether it was silent for `idle` milliseconds, or has been here for as long and its open has not
     /// come.
-    fn is_late(&self, now: u64, idle: u64) -> bool {
-        let is_silent = now.saturating_sub(self.heard) >= idle;
-        is_silent || !self.is_open && now.saturating_sub(self.came) >= idle
+    fn is_late<S: Sink + Drop>(&self, hub: &Hub<Outlet<S>>, now: u64, idle: u64) -> bool {
+        now.saturating_sub(self.heard) >= idle
+            || now.saturating_sub(self.came) >= idle && !self.is_open(hub)
+    }
+
+    /// Returns whether its open came.
+    fn is_open<S: Sink + Drop>(&self, hub: &Hub<Outlet<S>>) -> bool {
+        match self.endpoint(hub) {
+            Some(endpoint) => endpoint.peer().is_some(),
+            None => false,
+        }
+    }
+
+    /// Returns how long after the last write an empty frame is due, by what its open says; 0 is never [2.4.5].
+    fn beat<S: Sink + Drop>(&self, hub: &Hub<Outlet<S>>) -> u64 {
+        match self.endpoint(hub) {
+            Some(endpoint) => match endpoint.peer() {
+                Some(said) => said.idle_time_out.unwrap_or(0) as u64 / 2,
+                None => 0,
+            },
+            None => 0,
+        }
     }
 
     /// Sends an empty frame, which says that this side is there [2.4.5]. Returns whether there is one to write.
-    fn say_beat(&mut self, hub: &mut Hub, watcher: &mut impl Watcher, now: u64) -> bool {
-        let Ok(frame) = hub.heartbeat(self.key) else {
+    fn say_beat<S: Sink + Drop>(
+        &mut self,
+        hub: &mut Hub<Outlet<S>>,
+        watcher: &mut impl Watcher,
+        now: u64,
+    ) -> bool
+        ensures { hub.new.keeper ≡ hub.old.keeper }
+    {
+        let Some(key) = self.key else {
             return false;
         };
-        if self.answers.extend_from_slice(&frame).is_err() {
+        let Ok(frame) = hub.heartbeat(key) else {
             return false;
-        }
+        };
         watcher.said(self.at, &frame);
+        self.frame = frame;
+        self.owed = frame.len();
         self.said = now;
         true
     }
 
     /// Notes that its socket takes nothing more.
     fn block(&mut self, now: u64) -> Next {
-        self.is_deaf = true;
         if self.blocked.is_none() {
             self.blocked = Some(now);
         }
         Next::Wait
     }
 
-    /// Writes what the socket takes of its answers, and returns what comes next. The records that they answer must
-    /// be settled.
-    pub fn send<S: Sink + Drop>(
-        &mut self,
-        alloc: Global,
-        outlet: &Outlet<S>,
-        sync: bool,
-        now: u64,
-    ) -> Next
-        requires { IsSettled sync outlet.now }
+    /// Writes once of what waits for it: what is left of an empty frame, or what the hub lends. Returns how many bytes the
+    /// socket took, or `None` if nothing waits.
+    fn write_once<S: Sink + Drop>(&mut self, hub: &mut Hub<Outlet<S>>) -> io::Result<Option<usize>>
+        ensures { hub.new.keeper ≡ hub.old.keeper }
     {
+        if self.owed > 0 {
+            return Ok(Some(self.write_frame()?));
+        }
+        let Some(key) = self.key else {
+            return Ok(None);
+        };
+        let front = hub.lend(key);
+        if front.is_empty() {
+            return Ok(None);
+        }
+        let count = self.stream.write(front)?;
+        hub.sent(key, count);
+        Ok(Some(count))
+    }
+
+    /// Writes once of what is left of an empty frame.
+    fn write_frame(&mut self) -> io::Result<usize> {
+        let taken = self.frame.len().saturating_sub(self.owed);
+        let count = self.stream.write(self.frame.get(taken..).unwrap_or(&[]))?;
+        self.owed = self.owed.saturating_sub(count);
+        Ok(count)
+    }
+
+    /// Writes what the socket takes of what waits for it, and returns what comes next. The keeper must be settled.
+    pub fn send<S: Sink + Drop>(&mut self, hub: &mut Hub<Outlet<S>>, now: u64) -> Next
+        requires { is_settled hub.old.keeper ≡ true }
+        ensures { hub.new.keeper ≡ hub.old.keeper }
+    {
+        let was_blocked = self.blocked.is_some();
         for _ in 0..u64::MAX {
-            let rest = self.answers.get(self.written..).unwrap_or(&[]);
-            if rest.is_empty() {
-                break;
-            }
-            match self.stream.write(rest) {
-                Ok(0) => return Next::Over(self.ending.unwrap_or(Ending::Write)),
-                Ok(count) => {
-                    self.written = self.written.saturating_add(count);
+            match self.write_once(hub) {
+                Ok(None) => break,
+                Ok(Some(0)) => return Next::Over(self.ending().unwrap_or(Ending::Write)),
+                Ok(Some(_)) => {
                     self.said = now;
                     self.blocked = None;
                 }
@@ -539,18 +599,13 @@ impl Peer {
                 Err(error) if error.kind() == ErrorKind::WouldBlock => {
                     return self.block(now);
                 }
-                Err(_) => return Next::Over(self.ending.unwrap_or(Ending::Write)),
+                Err(_) => return Next::Over(self.ending().unwrap_or(Ending::Write)),
             }
         }
-        self.written = 0;
-        if !self.answers.is_empty() {
-            self.answers = Vec::new(alloc);
-        }
-        if self.is_deaf {
-            self.is_deaf = false;
+        if was_blocked {
             self.heard = now; // it was not read meanwhile
         }
-        match self.ending {
+        match self.ending() {
             Some(ending) => {
                 let _ = self.stream.shutdown(Shutdown::Write);
                 Next::Over(ending)
@@ -561,46 +616,9 @@ impl Peer {
     }
 }
 
-/// If the room for a record is larger than this, in bytes, it is given back.
-const LARGE: usize = 262_144;
-
-/// Adds the record of a step to those that wait. A step that broke off has none: its peer hears nothing of it.
-fn keep_record<S: Sink + Drop, W: Watcher + Drop>(
-    alloc: Global,
-    number: u64,
-    stepped: &Stepped,
-    desk: &mut Desk<S, W>,
-) -> Result<(), AllocError>
-    requires { desk.old.outlet.written ≡ 0 }
-    ensures written { desk.new.outlet.written ≡ 0 }
-    ensures counts { desk.new.counts ≡ desk.old.counts }
+/// Returns the answers that wait for the peer under a key, after the first `waited` bytes of them.
+fn answers_after<S: Sink + Drop>(hub: &Hub<Outlet<S>>, key: usize, waited: usize) -> &[u8]
+    ensures { result.now ≡ drop waited (answers_of (get hub.now.members key)) }
 {
-    let is_kept = match stepped.done {
-        Ok(_) | Err(ServeFault::NoMemory) => desk.outlet.put(number, &desk.recorded),
-        Err(_) => Ok(()),
-    };
-    desk.recorded.clear();
-    if desk.recorded.capacity() > LARGE {
-        desk.recorded = Vec::new(alloc);
-    }
-    is_kept
-}
-
-/// Returns whether a step with this result broke off, so that the hub has removed its connection.
-fn is_broken(done: Result<Done, ServeFault>) -> bool
-    ensures { result ≡ is_broken done }
-{
-    match done {
-        Ok(_) | Err(ServeFault::NoMemory) => false,
-        Err(_) => true,
-    }
-}
-
-/// Takes the first bytes that the hub has for a peer, as many as lie in one piece. Returns `false` if it has none.
-fn take_front(hub: &mut Hub, key: usize, answers: &mut Vec<u8>) -> Result<bool, AllocError> {
-    let front = hub.unsent_front(key);
-    let count = front.len();
-    answers.extend_from_slice(front)?;
-    hub.sent(key, count);
-    Ok(count > 0)
+    hub.answers(key).get(waited..).unwrap_or(&[])
 }

@@ -1,3 +1,5 @@
 mod Asked
 mod Livings
+mod Putting
+mod Settling
 mod Turning

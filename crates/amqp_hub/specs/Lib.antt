@@ -1,4 +1,6 @@
 pub mod Members
-pub mod Lives
+pub mod Keepers
+pub mod Ledgers
 pub mod Turns
 pub mod Kept
+pub mod LedgerLaws

@@ -1,4 +1,5 @@
 //! Why a call is refused.
+use amqp_serve::ServerFault;
 use thiserror::Error;
 
 /// Why a call of a hub is refused. Nothing has changed then, of this connection or of any other.
@@ -13,6 +14,9 @@ pub enum HubFault {
     /// Memory was refused.
     #[error("memory was refused")]
     NoMemory,
+    /// The keeper of records takes none now.
+    #[error("no record is taken now")]
+    NoRoom,
     /// Bytes wait for the peer, and must be sent first.
     #[error("bytes wait for the peer")]
     Unsent,
@@ -27,4 +31,19 @@ pub enum HubFault {
     /// A unit waits, and memory was refused for it.
     #[error("a unit waits for memory")]
     Starved,
+}
+
+impl From<ServerFault> for HubFault {
+    ghost use Rattle.std.specs.Prelude.{◌≡◌};
+    ghost use Rattle.amqp_hub.specs.Members.{fault_of};
+
+    ghost from_gives = { λ f e. e ≡ fault_of f };
+
+    fn from(fault: ServerFault) -> HubFault {
+        match fault {
+            ServerFault::NotOpen => HubFault::NotOpen,
+            ServerFault::Over => HubFault::Over,
+            ServerFault::Starved => HubFault::Starved,
+        }
+    }
 }

@@ -1,49 +1,60 @@
-//! The hub: connections under keys.
-ghost use Rattle.std.specs.Prelude.{◌≡◌, ◌↔◌, ◌<◌, ◌^◌, ◌-◌, [], min, IsTrue, IsSome, None, Some, IfOk, IfErr, OnOk, option_map};
+//! The hub: servers under keys, and one keeper of their records.
+ghost use Rattle.std.specs.Prelude.{◌≡◌, ◌↔◌, ◌<◌, ◌^◌, ◌-◌, [], ℕ, List, true, false, min, IsTrue, IsSome, None, Some, IfOk, IfErr, OnOk, option_map};
 ghost use Rattle.amqp_endpoint.specs.Calls.{heartbeat};
-ghost use Rattle.amqp_frame.specs.Devices.{device_inner, has_failed};
-ghost use Rattle.amqp_hub.specs.Members.{status_behind, hear_fault, beat_fault, finish_fault, close_fault};
-ghost use Rattle.amqp_hub.specs.Turns.{IsOpened, OpenRefused, IsHeardAt, HearsBy, IsGone, IsFrontAt, IsDueAt, SendsAt, IsBeatAt, IsEndedAt, IsClosedAt, AreSame, AreAlike, refusal_at, all_held, turn_of, answer_of, TurnDone};
-ghost use Rattle.amqp_hub.specs.Turns as turn;
+ghost use Rattle.amqp_hub.specs.Ledgers.{will_take};
+ghost use Rattle.amqp_serve.specs.Servers.{status_after};
+ghost use Rattle.amqp_hub.specs.Members.{hear_fault, beat_fault, end_fault, close_fault};
+ghost use Rattle.amqp_hub.specs.Turns.{IsOpened, OpenRefused, HearsTo, HearRefusedBy, IsKeptSo, IsGone, IsRuledAt, IsFrontAt, IsLentBy, due_of, answers_of, IsDueAt, SendsAt, IsBeatAt, IsEndedAt, IsClosedAt, AreSame, AreAlike, refusal_at, all_held};
 ghost use Rattle.slab.specs.Slab.{get, slab_len};
 ghost use Rattle.std.specs.Option.{option_copied};
 
-use crate::member::{Member, Status, status_behind};
-use crate::{HubFault, Turn, TurnAnswer};
+use crate::HubFault;
+use crate::keeper::{Keeper, Progress};
+use crate::ledger::Ledger;
+use crate::servers::{Servers, is_lost};
 use amqp_endpoint::{Config, End, Endpoint};
 use amqp_frame::Device;
-use amqp_serve::{Rule, Stepped};
-use slab::Slab;
-use std::alloc::{Allocator, Global};
-use std::io::Write;
+use amqp_serve::{Rule, ServeFault, Stepped};
+use std::alloc::{AllocError, Allocator, Global};
 use std::marker::Model;
+use std::mem;
 
-/// Connections under keys, up to a limit.
+/// If the room for a record is larger than this, in bytes, it is given back.
+const LARGE: usize = 262_144;
+
+/// Connections under keys, up to a limit, and one keeper of their records.
 #[derive(Drop)]
-pub struct Hub<A: Allocator + Copy = Global> {
-    members: Slab<Member<A>, A>,
-    limit: usize,
+pub struct Hub<K: Keeper + Drop, A: Allocator + Copy = Global> {
+    servers: Servers<A>,
+    keeper: K,
+    /// Room for the record of a step.
+    recorded: Vec<u8, A>,
     alloc: A,
 }
 
-impl<A: Allocator + Copy> Model for Hub<A> {
+impl<K: Keeper + Drop, A: Allocator + Copy> Model for Hub<K, A> {
+    ghost use Rattle.std.specs.Prelude.{◌≡◌, []};
     ghost use Rattle.amqp_hub.specs.Turns.{HubState};
 
-    ghost Value = { HubState };
+    ghost Value = { HubState K };
 
-    ghost view = { λ a. record { members = a.members; limit = a.limit } };
+    ghost view = { λ a. record { members = a.servers.members; limit = a.servers.limit; keeper = a.keeper } };
+
+    ghost invariant = { λ a. a.recorded.items ≡ [] };
 }
 
-impl<A: Allocator + Copy> Hub<A> {
-    /// Makes a hub with no connection, for at most `limit`. It takes memory for each connection when that is
-    /// opened.
-    pub fn new(alloc: A, limit: usize) -> Self
+impl<K: Keeper + Drop, A: Allocator + Copy> Hub<K, A> {
+    /// Makes a hub with no connection, for at most `limit`, whose records the keeper gets. It takes memory for each
+    /// connection when that is opened.
+    pub fn new(alloc: A, limit: usize, keeper: K) -> Self
         ensures members { result.members.slots ≡ [] }
         ensures limit { result.limit ≡ limit }
+        ensures keeper { result.keeper ≡ keeper }
     {
         Hub {
-            members: Slab::new(alloc),
-            limit,
+            servers: Servers::new(alloc, limit),
+            keeper,
+            recorded: Vec::new(alloc),
             alloc,
         }
     }
@@ -52,136 +63,180 @@ impl<A: Allocator + Copy> Hub<A> {
     pub fn len(&self) -> usize
         ensures { result ≡ slab_len self.now.members }
     {
-        self.members.len()
+        self.servers.len()
     }
 
     /// Returns whether no connection is open.
     pub fn is_empty(&self) -> bool
         ensures { IsTrue result ↔ (slab_len self.now.members ≡ 0) }
     {
-        self.members.len() == 0
+        self.servers.is_empty()
     }
 
     /// Returns whether there is a connection under a key.
     pub fn contains(&self, key: usize) -> bool
         ensures { IsTrue result ↔ IsSome (get self.now.members key) }
     {
-        self.members.contains(key)
+        self.servers.contains(key)
     }
 
     /// Returns the endpoint of the connection under a key, as it stands: what its peer said of itself, its links, and
     /// whether it is over.
     pub fn endpoint(&self, key: usize) -> Option<&Endpoint<A>>
-        ensures { option_copied result ≡ option_map (λ m. m.endpoint) (get self.now.members key) }
+        ensures { option_copied result ≡ option_map (λ m. m.server.endpoint) (get self.now.members key) }
     {
-        match self.members.get(key) {
-            Some(member) => Some(member.endpoint()),
-            None => None,
-        }
+        self.servers.endpoint(key)
+    }
+
+    /// Returns the keeper.
+    pub fn keeper(&self) -> &K
+        ensures { result.now ≡ self.now.keeper }
+    {
+        &self.keeper
+    }
+
+    /// Returns the keeper alone, with all that it was given.
+    pub fn into_keeper(self) -> K
+        ensures { result ≡ self.keeper }
+    {
+        self.keeper
+    }
+
+    /// Returns what it takes memory of.
+    pub(crate) fn alloc(&self) -> A {
+        self.alloc
+    }
+
+    /// Returns the first bytes that wait for the peer under a key, whether they may be lent or not.
+    pub(crate) fn waiting_front(&self, key: usize) -> &[u8]
+        ensures { IsFrontAt (get self.now.members key) result.now }
+    {
+        self.servers.unsent_front(key)
     }
 
     /// Opens a connection, which waits for its peer's header [2.2], and returns its key, which no other open
-    /// connection has. It is served by `rule`.
+    /// connection has. It is served by `rule`. Its records are put under this number.
     ///
     /// # Errors
     ///
     /// `Full` if as many connections are open as may be, else `NoMemory` if memory is refused for it. No
     /// connection has changed then.
-    pub fn open(&mut self, config: Config<A>, rule: Rule) -> Result<usize, HubFault>
+    pub fn open(&mut self, config: Config<A>, rule: Rule, number: u64) -> Result<usize, HubFault>
         ensures limit { self.new.limit ≡ self.old.limit }
-        ensures opened { IfOk result (λ key. IsOpened rule config self.old.members self.new.members key × (slab_len self.old.members < self.old.limit)) }
+        ensures keeper { self.new.keeper ≡ self.old.keeper }
+        ensures opened { IfOk result (λ key. IsOpened rule config number self.old.members self.new.members key × (slab_len self.old.members < self.old.limit)) }
         ensures refused { IfErr result (λ f. AreSame self.old.members self.new.members × OpenRefused self.old.limit (slab_len self.old.members) f) }
     {
-        if self.members.len() >= self.limit {
-            return Err(HubFault::Full);
-        }
-        let Ok(member) = Member::new(self.alloc, config, rule) else {
-            return Err(HubFault::NoMemory);
-        };
-        let Ok(key) = self.members.insert(member) else {
-            return Err(HubFault::NoMemory);
-        };
-        Ok(key)
+        self.servers.open(config, rule, number)
     }
 
-    /// Takes a piece of what the peer under a key sent, up to the end of one unit at most, and serves it as
-    /// [`amqp_serve::serve_piece`] does. The answers wait for the peer, and records go to the sink, which is not
-    /// flushed. The host flushes it before it sends what waits, so that no answer is sent before the record that
-    /// it answers. The rest of the piece is for the next call, once nothing waits. No other connection changes.
+    /// Takes a piece of what the peer under a key sent, up to the end of one unit, and serves it as
+    /// [`amqp_serve::serve_piece`] does. If that made a record, it is put into the keeper under the number of the
+    /// connection. The answers wait, and are lent once the keeper is settled. The rest of the piece is for the next
+    /// call, once nothing waits. No other connection changes.
     ///
     /// If the step results in `NoMemory`, the unit waits, and the next call, also one of no bytes, tries it again.
-    /// If it results in `Sink`, or in `Write` since memory was refused for an answer, the connection is removed:
-    /// it has no key any more.
+    /// If it results in `Sink`, since memory was refused for the record, or in `Write`, since it was refused for an
+    /// answer, the connection is removed: it has no key any more, and its record is not put.
     ///
     /// # Errors
     ///
-    /// The first that holds of `NoKey`; `Over` if the connection is over, its input has ended, or this side has
-    /// closed it; and `Unsent` if bytes wait for its peer. No connection has changed then.
-    pub fn hear<S: Write + Drop>(
-        &mut self,
-        key: usize,
-        piece: &[u8],
-        sink: &mut Device<S>,
-    ) -> Result<Stepped, HubFault>
-        requires sink { ¬ (IsTrue (has_failed sink.old)) }
+    /// The first that holds of `NoRoom`, if the keeper takes no record now; `NoKey`; `Over` if the connection is over,
+    /// its input has ended, or this side has closed it; and `Unsent` if bytes wait for its peer. Nothing has changed
+    /// then.
+    pub fn hear(&mut self, key: usize, piece: &[u8]) -> Result<Stepped, HubFault>
         ensures limit { self.new.limit ≡ self.old.limit }
-        ensures heard { IfOk result (λ s. HearsBy (status_behind s.done) self.old.members self.new.members key piece.now s
-            (S.contents (device_inner sink.old)) (S.contents (device_inner sink.new))) }
-        ensures refused { IfErr result (λ f. AreSame self.old.members self.new.members × (refusal_at (get self.old.members key) hear_fault ≡ Some f)) }
+        ensures room { IfOk result (λ s. K.roomy self.old.keeper ≡ true) }
+        ensures heard { IfOk result (λ s. (noted : List ℕ) × HearsTo K.accepts (status_after s.done) self.old.members self.new.members key piece.now s noted self.old.keeper self.new.keeper) }
+        ensures refused { IfErr result (λ f. AreSame self.old.members self.new.members × (self.new.keeper ≡ self.old.keeper) × HearRefusedBy (K.roomy self.old.keeper) (refusal_at (get self.old.members key) hear_fault) f) }
     {
-        let stepped = self.hear_there(key, piece, sink)?;
-        if let Status::Broken = status_behind(stepped.done) {
-            self.members.remove(key);
-            return Ok(stepped);
+        if !self.keeper.has_room() {
+            return Err(HubFault::NoRoom);
         }
-        Ok(stepped)
-    }
-
-    /// Takes a piece of what the peer under a key sent, and serves it. If serving breaks off, the connection keeps
-    /// its key, and is broken.
-    fn hear_there<S: Write + Drop>(
-        &mut self,
-        key: usize,
-        piece: &[u8],
-        sink: &mut Device<S>,
-    ) -> Result<Stepped, HubFault>
-        requires sink { ¬ (IsTrue (has_failed sink.old)) }
-        ensures limit { self.new.limit ≡ self.old.limit }
-        ensures heard { IfOk result (λ s. IsHeardAt self.old.members self.new.members key piece.now s
-            (S.contents (device_inner sink.old)) (S.contents (device_inner sink.new))) }
-        ensures refused { IfErr result (λ f. AreSame self.old.members self.new.members × (refusal_at (get self.old.members key) hear_fault ≡ Some f)) }
-    {
-        let alloc = self.alloc;
-        let Some(member) = self.members.get_mut(key) else {
+        let Some(number) = self.servers.number(key) else {
             return Err(HubFault::NoKey);
         };
-        if let Some(fault) = member.hear_fault() {
-            return Err(fault);
-        }
-        Ok(member.hear(alloc, piece, sink))
+        let mut sink = Device::new(mem::replace(&mut self.recorded, Vec::new(self.alloc)));
+        let heard = self.servers.hear(key, piece, &mut sink);
+        let noted = sink.into_inner();
+        let heard = match heard {
+            Ok(stepped) => Ok(self.keep(key, number, stepped, &noted)),
+            Err(fault) => Err(fault),
+        };
+        self.recorded = emptied(noted, self.alloc);
+        heard
     }
 
-    /// Returns the first bytes that wait for the peer under a key, as many as lie in one piece. If any wait, it
-    /// returns some; if there is no connection, it returns none.
-    pub fn unsent_front(&self, key: usize) -> &[u8]
-        ensures { IsFrontAt (get self.now.members key) result.now }
+    /// Puts what a step recorded, if it was done and recorded something, and returns the step. If memory for that is
+    /// refused, the connection is removed, and the step resulted in `Sink`.
+    fn keep(&mut self, key: usize, number: u64, stepped: Stepped, noted: &[u8]) -> Stepped
+        requires there { IfOk stepped.done (λ d. IsSome (get self.old.members key)) }
+        requires room { K.roomy self.old.keeper ≡ true }
+        ensures limit { self.new.limit ≡ self.old.limit }
+        ensures kept { IsKeptSo K.accepts number noted.now self.old.members self.new.members key stepped result self.old.keeper self.new.keeper }
     {
-        let Some(member) = self.members.get(key) else {
+        if stepped.done.is_err() || noted.is_empty() || self.keeper.put(number, noted).is_ok() {
+            return stepped;
+        }
+        let _ = self.servers.remove(key);
+        Stepped {
+            done: Err(ServeFault::Sink),
+            ..stepped
+        }
+    }
+
+    /// Has the keeper take all records for good. `Out` says that it has, so that what waits for peers is lent.
+    pub fn settle(&mut self) -> Progress
+        ensures limit { self.new.limit ≡ self.old.limit }
+        ensures members { self.new.members ≡ self.old.members }
+        ensures settles { K.settles self.old.keeper result self.new.keeper }
+    {
+        self.keeper.settle()
+    }
+
+    /// Has the keeper make room for records. `Out` says that pieces are heard.
+    pub fn make_room(&mut self) -> Progress
+        ensures limit { self.new.limit ≡ self.old.limit }
+        ensures members { self.new.members ≡ self.old.members }
+        ensures makes_room { K.makes_room self.old.keeper result self.new.keeper }
+    {
+        self.keeper.make_room()
+    }
+
+    /// Returns whether bytes wait for the peer under a key, lent or not.
+    pub fn waits(&self, key: usize) -> bool
+        ensures { IsTrue result ↔ (0 < due_of (get self.now.members key)) }
+    {
+        self.servers.waits(key)
+    }
+
+    /// Returns the answers that wait for the peer under a key, for a host that watches. What may be sent is lent by
+    /// [`Hub::lend`].
+    pub fn answers(&self, key: usize) -> &[u8]
+        ensures { result.now ≡ answers_of (get self.now.members key) }
+    {
+        self.servers.answers(key)
+    }
+
+    /// Lends the first bytes that wait for the peer under a key, as many as lie in one piece, if the keeper has taken
+    /// all records for good. If any wait then, it lends some.
+    pub fn lend(&self, key: usize) -> &[u8]
+        ensures { IsLentBy (K.settled self.now.keeper) (get self.now.members key) result.now }
+    {
+        if !self.keeper.is_settled() {
             return &[];
-        };
-        member.unsent_front()
+        }
+        self.servers.unsent_front(key)
     }
 
     /// Drops the first `n` bytes that wait for the peer under a key: they were sent. No other connection changes.
     pub fn sent(&mut self, key: usize, n: usize)
         requires { IsDueAt (get self.old.members key) n }
         ensures limit { self.new.limit ≡ self.old.limit }
+        ensures keeper { self.new.keeper ≡ self.old.keeper }
         ensures sent { SendsAt (get self.old.members key) self.old.members self.new.members key n }
     {
-        let Some(member) = self.members.get_mut(key) else {
-            return;
-        };
-        member.sent(n);
+        self.servers.sent(key, n);
     }
 
     /// Returns the eight bytes of an empty frame for the peer under a key [2.4.5], which tells it that this side
@@ -195,13 +250,11 @@ impl<A: Allocator + Copy> Hub<A> {
     /// holds is named, and no connection has changed then.
     pub fn heartbeat(&mut self, key: usize) -> Result<[u8; 8], HubFault>
         ensures limit { self.new.limit ≡ self.old.limit }
+        ensures keeper { self.new.keeper ≡ self.old.keeper }
         ensures beat { IfOk result (λ frame. IsBeatAt self.old.members self.new.members key × (frame ≡ heartbeat)) }
         ensures refused { IfErr result (λ f. AreAlike self.old.members self.new.members × (refusal_at (get self.old.members key) beat_fault ≡ Some f)) }
     {
-        let Some(member) = self.members.get_mut(key) else {
-            return Err(HubFault::NoKey);
-        };
-        member.heartbeat()
+        self.servers.heartbeat(key)
     }
 
     /// Ends the input of the connection under a key, and returns how it stood [2.4.6], as `Endpoint::finish` does.
@@ -214,13 +267,11 @@ impl<A: Allocator + Copy> Hub<A> {
     /// connection has changed then.
     pub fn finish(&mut self, key: usize) -> Result<End, HubFault>
         ensures limit { self.new.limit ≡ self.old.limit }
+        ensures keeper { self.new.keeper ≡ self.old.keeper }
         ensures ended { IfOk result (λ how. IsEndedAt self.old.members self.new.members key how) }
-        ensures refused { IfErr result (λ f. AreSame self.old.members self.new.members × (refusal_at (get self.old.members key) (λ m. finish_fault m.status) ≡ Some f)) }
+        ensures refused { IfErr result (λ f. AreSame self.old.members self.new.members × (refusal_at (get self.old.members key) end_fault ≡ Some f)) }
     {
-        let Some(member) = self.members.get_mut(key) else {
-            return Err(HubFault::NoKey);
-        };
-        member.finish()
+        self.servers.finish(key)
     }
 
     /// Closes the connection under a key [2.4.3]: its close follows what waits for its peer. It hears nothing any
@@ -232,30 +283,40 @@ impl<A: Allocator + Copy> Hub<A> {
     /// ended, or this side has closed it: then there is no close to send. No connection has changed then.
     pub fn close(&mut self, key: usize) -> Result<(), HubFault>
         ensures limit { self.new.limit ≡ self.old.limit }
+        ensures keeper { self.new.keeper ≡ self.old.keeper }
         ensures closed { OnOk result (IsClosedAt self.old.members self.new.members key) }
         ensures refused { IfErr result (λ f. AreAlike self.old.members self.new.members × (refusal_at (get self.old.members key) close_fault ≡ Some f)) }
     {
-        let Some(member) = self.members.get_mut(key) else {
-            return Err(HubFault::NoKey);
-        };
-        member.close()
+        self.servers.close(key)
+    }
+
+    /// Serves the connection under a key by another rule from its next step on. No other connection changes.
+    ///
+    /// # Errors
+    ///
+    /// `NoKey` if there is no connection under it.
+    pub fn rule(&mut self, key: usize, rule: Rule) -> Result<(), HubFault>
+        ensures limit { self.new.limit ≡ self.old.limit }
+        ensures keeper { self.new.keeper ≡ self.old.keeper }
+        ensures ruled { OnOk result (IsRuledAt self.old.members self.new.members key rule) }
+        ensures refused { IfErr result (λ f. AreSame self.old.members self.new.members × (get self.old.members key ≡ None) × (f ≡ HubFault.NoKey)) }
+    {
+        self.servers.rule(key, rule)
     }
 
     /// Removes the connection under a key, with what waits for its peer, and frees the key, which another may then
-    /// get. No other connection changes.
+    /// get. No other connection changes. What the keeper has of it stays.
     ///
     /// # Errors
     ///
     /// `NoKey` if there is no connection under it.
     pub fn remove(&mut self, key: usize) -> Result<(), HubFault>
         ensures limit { self.new.limit ≡ self.old.limit }
+        ensures keeper { self.new.keeper ≡ self.old.keeper }
         ensures gone { OnOk result (IsGone self.old.members self.new.members key) }
         ensures refused { IfErr result (λ f. AreSame self.old.members self.new.members × (get self.old.members key ≡ None) × (f ≡ HubFault.NoKey)) }
     {
-        let Some(_) = self.members.try_remove(key) else {
-            return Err(HubFault::NoKey);
-        };
-        Ok(())
+        self.servers.remove(key)
     }
 
     /// Returns how many bytes all connections hold, or `u64::MAX` if more: those of each endpoint, and the answers
@@ -263,125 +324,29 @@ impl<A: Allocator + Copy> Hub<A> {
     pub fn held(&self) -> u64
         ensures { result ≡ min (all_held self.now.members) (2 ^ 64 - 1) }
     {
-        let mut sum: u64 = 0;
-        for (_, member) in self.members.iter() {
-            sum = sum.saturating_add(member.held());
-        }
-        sum
+        self.servers.held()
     }
+}
 
-    /// Makes one turn, and returns its answer. A connection that it opens has these settings and this rule.
-    pub fn make(&mut self, config: &Config<A>, rule: Rule, turn: &Turn<'_>) -> TurnAnswer<A>
-        ensures limit { self.new.limit ≡ self.old.limit }
-        ensures done { TurnDone rule config.now self.old.limit self.old.members self.new.members (turn_of turn.now) (answer_of result) }
-    {
-        match *turn {
-            Turn::Open => self.open_one(config, rule),
-            Turn::Hear { key, piece } => self.hear_one(config, rule, key, piece),
-            Turn::Hand { key, room } => self.hand_one(config, rule, key, room),
-            Turn::Heartbeat { key } => self.beat_one(config, rule, key),
-            Turn::Finish { key } => self.finish_one(config, rule, key),
-            Turn::Close { key } => self.close_one(config, rule, key),
-            Turn::Remove { key } => self.remove_one(config, rule, key),
-            Turn::Held => TurnAnswer::Holds(self.held()),
-            Turn::Count => TurnAnswer::Counts(self.len()),
-        }
+/// Returns an empty vector, with the room of this one unless that is large.
+fn emptied<A: Allocator + Copy>(room: Vec<u8, A>, alloc: A) -> Vec<u8, A>
+    ensures { result.items ≡ [] }
+{
+    if room.capacity() > LARGE {
+        return Vec::new(alloc);
     }
+    let mut room = room;
+    room.clear();
+    room
+}
 
-    /// Opens a connection with a copy of these settings.
-    fn open_one(&mut self, config: &Config<A>, rule: Rule) -> TurnAnswer<A>
+impl<A: Allocator + Copy> Hub<Ledger<A>, A> {
+    /// Lets the ledger take at most this many records for good at the next settling, or fail then.
+    pub fn will_take(&mut self, most: Option<usize>)
+        ensures members { self.new.members ≡ self.old.members }
         ensures limit { self.new.limit ≡ self.old.limit }
-        ensures done { TurnDone rule config.now self.old.limit self.old.members self.new.members turn.Open (answer_of result) }
+        ensures keeper { self.new.keeper ≡ will_take most self.old.keeper }
     {
-        let Ok(copy) = config.copy(self.alloc) else {
-            return TurnAnswer::Refused(HubFault::NoMemory);
-        };
-        match self.open(copy, rule) {
-            Ok(key) => TurnAnswer::Opened(key),
-            Err(fault) => TurnAnswer::Refused(fault),
-        }
-    }
-
-    /// Hears a piece, and writes its records to memory.
-    fn hear_one(
-        &mut self,
-        config: &Config<A>,
-        rule: Rule,
-        key: usize,
-        piece: &[u8],
-    ) -> TurnAnswer<A>
-        ensures limit { self.new.limit ≡ self.old.limit }
-        ensures done { TurnDone rule config.now self.old.limit self.old.members self.new.members (turn.Hear key piece.now) (answer_of result) }
-    {
-        let mut sink = Device::new(Vec::new(self.alloc));
-        match self.hear(key, piece, &mut sink) {
-            Ok(stepped) => TurnAnswer::Heard {
-                stepped,
-                due: self.unsent_front(key).len(),
-                noted: sink.into_inner(),
-            },
-            Err(fault) => TurnAnswer::Refused(fault),
-        }
-    }
-
-    /// Hands out at most `room` of the bytes that wait.
-    fn hand_one(&mut self, config: &Config<A>, rule: Rule, key: usize, room: usize) -> TurnAnswer<A>
-        ensures limit { self.new.limit ≡ self.old.limit }
-        ensures done { TurnDone rule config.now self.old.limit self.old.members self.new.members (turn.Hand key room) (answer_of result) }
-    {
-        if !self.contains(key) {
-            return TurnAnswer::Refused(HubFault::NoKey);
-        }
-        let front = self.unsent_front(key);
-        let count = front.len().min(room);
-        let Ok(bytes) = Vec::from_slice(self.alloc, &front[..count]) else {
-            return TurnAnswer::Refused(HubFault::NoMemory);
-        };
-        self.sent(key, count);
-        TurnAnswer::Handed(bytes)
-    }
-
-    /// Requests an empty frame.
-    fn beat_one(&mut self, config: &Config<A>, rule: Rule, key: usize) -> TurnAnswer<A>
-        ensures limit { self.new.limit ≡ self.old.limit }
-        ensures done { TurnDone rule config.now self.old.limit self.old.members self.new.members (turn.Heartbeat key) (answer_of result) }
-    {
-        match self.heartbeat(key) {
-            Ok(frame) => TurnAnswer::Beat(frame),
-            Err(fault) => TurnAnswer::Refused(fault),
-        }
-    }
-
-    /// Ends an input.
-    fn finish_one(&mut self, config: &Config<A>, rule: Rule, key: usize) -> TurnAnswer<A>
-        ensures limit { self.new.limit ≡ self.old.limit }
-        ensures done { TurnDone rule config.now self.old.limit self.old.members self.new.members (turn.Finish key) (answer_of result) }
-    {
-        match self.finish(key) {
-            Ok(end) => TurnAnswer::Ended(end),
-            Err(fault) => TurnAnswer::Refused(fault),
-        }
-    }
-
-    /// Closes a connection.
-    fn close_one(&mut self, config: &Config<A>, rule: Rule, key: usize) -> TurnAnswer<A>
-        ensures limit { self.new.limit ≡ self.old.limit }
-        ensures done { TurnDone rule config.now self.old.limit self.old.members self.new.members (turn.Close key) (answer_of result) }
-    {
-        match self.close(key) {
-            Ok(()) => TurnAnswer::Closed,
-            Err(fault) => TurnAnswer::Refused(fault),
-        }
-    }
-
-    /// Removes a connection.
-    fn remove_one(&mut self, config: &Config<A>, rule: Rule, key: usize) -> TurnAnswer<A>
-        ensures limit { self.new.limit ≡ self.old.limit }
-        ensures done { TurnDone rule config.now self.old.limit self.old.members self.new.members (turn.Remove key) (answer_of result) }
-    {
-        match self.remove(key) {
-            Ok(()) => TurnAnswer::Removed,
-            Err(fault) => TurnAnswer::Refused(fault),
-        }
+        self.keeper.will_take(most);
     }
 }

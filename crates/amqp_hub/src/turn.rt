@@ -1,7 +1,8 @@
-//! Turns of a hub, and their answers, as data.
+//! Turns of a hub whose keeper is a ledger, and their answers, as data.
 use crate::HubFault;
+use crate::keeper::Progress;
 use amqp_endpoint::End;
-use amqp_serve::Stepped;
+use amqp_serve::{Rule, Stepped};
 use std::alloc::{Allocator, Global};
 
 /// One turn of a hub.
@@ -21,6 +22,10 @@ pub enum Turn<'a> {
     Close { key: usize },
     /// Removes the connection under this key, and frees the key.
     Remove { key: usize },
+    /// Serves the connection under this key by another rule from its next step on.
+    Rule { key: usize, rule: Rule },
+    /// Settles the ledger, which takes at most so many records for good; at `None` it fails.
+    Settle { most: Option<usize> },
     /// Requests how many bytes all connections hold.
     Held,
     /// Requests how many connections are open.
@@ -32,8 +37,8 @@ pub enum Turn<'a> {
 pub enum TurnAnswer<A: Allocator + Copy = Global> {
     /// The new connection has this key.
     Opened(usize),
-    /// A step was made with what came. `due` bytes wait for the peer then, and `noted` is to be recorded. If
-    /// serving broke off, the connection is removed.
+    /// A step was made with what came. `due` bytes wait for the peer then, and `noted` was put into the ledger. If
+    /// serving broke off, the connection is removed, and nothing was put.
     Heard {
         stepped: Stepped,
         due: usize,
@@ -49,6 +54,10 @@ pub enum TurnAnswer<A: Allocator + Copy = Global> {
     Closed,
     /// The connection is removed.
     Removed,
+    /// It goes by the other rule.
+    Changed,
+    /// The ledger has come so far.
+    Settled(Progress),
     /// All connections hold this many bytes.
     Holds(u64),
     /// This many connections are open.

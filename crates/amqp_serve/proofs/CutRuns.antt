@@ -60,11 +60,11 @@ ended (Passes supply supplies lacks x) h = absurd h
 ended (Finishes next end none does x) h = absurd h
 
 -- once memory was refused bytes are moved out, and nothing else is done
-record IsHalted (s t : EndpointState) (xs : List Step) (b : Stand) (w r : List ℕ) : Type 0 where
+pub record IsHalted (s t : EndpointState) (xs : List Step) (b : Stand) (w r : List ℕ) : Type 0 where
   made : made_at s w r ≡ made_at t (w ++ moved xs) (r ++ recorded xs)
   input : IsUnchanged s.input t.input
   none : fed xs ≡ []
-  stand : b ≡ Starved
+  pub stand : b ≡ Starved
 
 -- What is kept true. --------------------------------------------------------------------------------------------------
 
@@ -168,7 +168,7 @@ front_same xs ys zs ws e l =
     sym (take-append_seam xs ys) ∙ ap (λ (k : List ℕ). take (length xs) k) e ∙ ap (λ (n : ℕ). take n (zs ++ ws)) l ∙ take-append_seam zs ws
 
 -- no unit ends before the last byte that was taken
-ends_last : (max : ℕ) (stage : Stage) (held piece : List ℕ) (used : ℕ) (u : StreamUnit) (more : List ℕ) → used ≤ length piece → IsRest max stage held →
+pub ends_last : (max : ℕ) (stage : Stage) (held piece : List ℕ) (used : ℕ) (u : StreamUnit) (more : List ℕ) → used ≤ length piece → IsRest max stage held →
     ((k : ℕ) → k + 1 ≤ used → IsRest max stage (held ++ take k piece)) → IsUnit max stage u → held ++ take used piece ≡ bytes_of u ++ more → more ≡ []
 ends_last max stage held piece used u [] bound rest early is e = refl
 ends_last max stage held piece used u (b ∷ more) bound rest early is e = by (cases_lt (length held) (length (bytes_of u)))
@@ -361,7 +361,7 @@ module _ (p : Rule) (s next : EndpointState) (b : Stand) (t : EndpointState) (pi
   fed_made silent true is d halts rest = fed_dead d.0 d.1 d.2 rest
   fed_made silent false is d halts rest = fed_alive d.between d.taken is silent d.comes.unit d.comes.none halts rest
 
-halted : {p : Rule} {a b : Stand} {s t : EndpointState} {xs : List Step} → Serves p a s xs b t → a ≡ Starved → (w r : List ℕ) → IsHalted s t xs b w r
+pub halted : {p : Rule} {a b : Stand} {s t : EndpointState} {xs : List Step} → Serves p a s xs b t → a ≡ Starved → (w r : List ℕ) → IsHalted s t xs b w r
 halted (Rests {p} {a} {s}) e w r = record {
   made = made_same s.connection s.connection (w ++ s.unsent) ((w ++ []) ++ s.unsent) r (r ++ []) refl (ap (λ (l : List ℕ). l ++ s.unsent) (sym (append-nil w))) (sym (append-nil r));
   input = record { limit = refl; stage = refl; filled = refl };

@@ -34,7 +34,7 @@ new_still : (p : Rule) (config : Configured) (supply : Supply) → Still p (conn
 new_still p config (WindowOf channel) = inl (ap (λ (x : Slot SessionState). window_lack config.window x) (free_at 0 (channels config) channel))
 new_still p config (CreditOf channel handle) = inl (ap (λ (x : Slot SessionState). credit_lack p (link_in handle x)) (free_at 0 (channels config) channel))
 
-all_new : (p : Rule) (config : Configured) (supplies : List Supply) → AreStill p (connection_begins config) supplies
+pub all_new : (p : Rule) (config : Configured) (supplies : List Supply) → AreStill p (connection_begins config) supplies
 all_new p config [] = tt
 all_new p config (supply ∷ supplies) = (new_still p config supply, all_new p config supplies)
 
@@ -79,7 +79,7 @@ at_first (Finishes next end none does x) = (none, does.1)
 -- What is left in the buffer. -------------------------------------------------------------------------------------------
 
 -- the buffer holds what is left of the stream
-left_is : (s : ConnectionState) (buffer : List ℕ) → (buffer ≡ []) ⊎ (is_dead s.phase ≡ false) → buffer ≡ left_over s buffer
+pub left_is : (s : ConnectionState) (buffer : List ℕ) → (buffer ≡ []) ⊎ (is_dead s.phase ≡ false) → buffer ≡ left_over s buffer
 left_is s buffer left = by (is_dead s.phase) refl
   where
     by : (b : Bool) → is_dead s.phase ≡ b → buffer ≡ (if b then [] else buffer)

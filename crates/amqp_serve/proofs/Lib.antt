@@ -23,3 +23,6 @@ pub mod Interrupted
 pub mod Rooms
 pub mod Policies
 pub mod Gifts
+pub mod OneSteps
+pub mod Effects
+pub mod Livings

@@ -1,5 +1,5 @@
 -- What a policy's rule lacks.
-use Rattle.std.proofs.Common.{arith, ◌≡◌, ℕ, ◌-◌, Bool, true, false, refl}
+use Rattle.std.proofs.Common.{arith, ◌≡◌, ◌-◌, Bool, true, false, refl}
 use Rattle.std.specs.Prelude.{if◌then◌else◌, min, nat_le}
 use Rattle.std.proofs.lemmas.Bool.{leb-false}
 use Rattle.amqp_link.specs.Links.{open_count}

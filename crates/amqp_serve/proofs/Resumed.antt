@@ -130,7 +130,7 @@ pub record DoNothing (s t : EndpointState) (xs : List Step) : Type 0 where
   pub moved : moved xs ≡ []
   pub recorded : recorded xs ≡ []
 
-moved_none : (s next : EndpointState) (room : ℕ) (bytes : List ℕ) → IsMoved s next room bytes → s.unsent ≡ [] → (bytes ≡ []) × IsKept s next
+pub moved_none : (s next : EndpointState) (room : ℕ) (bytes : List ℕ) → IsMoved s next room bytes → s.unsent ≡ [] → (bytes ≡ []) × IsKept s next
 moved_none s next room bytes d none = (
   d.moved ∙ ap (λ (l : List ℕ). take room l) none ∙ take-nil room,
   record { input = d.input; unsent = d.unsent ∙ ap (λ (l : List ℕ). drop room l) none ∙ drop-nil room ∙ sym none; connection = d.connection },

@@ -1,8 +1,7 @@
 -- How long the answers to one step are at most.
-use Rattle.std.proofs.Common.{◌≡◌, ℕ, ◌+◌, ◌*◌, ◌≤◌, arith, ◌⊎◌, inl, inr, Bool, true, false, List, [], ◌∷◌, ◌++◌, length, length-append, take, drop, Option, Some, None, refl, sym, ap, subst, ◌∙◌}
+use Rattle.std.proofs.Common.{◌≡◌, ℕ, ◌+◌, ◌*◌, ◌≤◌, arith, inl, inr, Bool, true, false, List, [], ◌∷◌, ◌++◌, length, length-append, take, drop, refl, sym, ap, subst, ◌∙◌}
 use Rattle.std.proofs.lemmas.List.{take-append-drop}
 use Rattle.std.specs.List.{flat_map}
-use Rattle.amqp_frame.specs.Splits.{Waits}
 use Rattle.amqp_frame.specs.Units.{StreamUnit}
 use Rattle.amqp_frame.proofs.Fronts.{waits_or_not}
 use Rattle.amqp_session.specs.Calls as session
@@ -15,7 +14,7 @@ use Rattle.amqp_endpoint.specs.Configs.{Configured}
 use Rattle.amqp_endpoint.specs.Connections.{ConnectionState, is_dead, slot_at}
 use Rattle.amqp_endpoint.specs.Lines.{line_of}
 use Rattle.amqp_endpoint.specs.Replies.{joined, reply_on}
-use Rattle.amqp_endpoint.specs.Runs.{Call, InSession, Answer, Fed, Accepted, Dropped, Named, Handed, HandedUp, Refused, MovedOut, Holds, Ended, IsWritten, CallDone, Does, accepted_answer}
+use Rattle.amqp_endpoint.specs.Runs.{InSession, Answer, Fed, Accepted, Dropped, Named, Handed, HandedUp, Refused, MovedOut, Holds, Ended, IsWritten, CallDone, Does, accepted_answer}
 use Rattle.amqp_endpoint.specs.Steps as steps
 use Rattle.amqp_endpoint.specs.Steps.{EndpointState, IsKept, IsFed, Acts, room_for}
 use Rattle.amqp_endpoint.specs.Traces.{moved_by}

@@ -1,5 +1,5 @@
 -- One step: a feed, and what follows from it.
-use Rattle.std.proofs.Common.{arith, ◌≡◌, ◌≢◌, ℕ, ◌<◌, ◌≤◌, Bool, true, false, List, [], None, Result, Ok, Err, take, slice_index, refl, sym, ap, subst, ◌∙◌}
+use Rattle.std.proofs.Common.{arith, ◌≡◌, ◌≢◌, ℕ, ◌<◌, ◌≤◌, Bool, true, false, List, [], ◌++◌, Result, Ok, Err, length, take, slice_index, refl, sym, ap, subst, ◌∙◌}
 use Rattle.std.proofs.KnownBytes.{Keeps-refl}
 use Rattle.amqp_endpoint.specs.declared.event.Outcome.{Outcome}
 use Rattle.amqp_endpoint.specs.declared.event.Outcome.TheVariants as outcome
@@ -7,12 +7,15 @@ use Rattle.amqp_endpoint.specs.Configs.{Configured}
 use Rattle.amqp_endpoint.specs.Connections.{ConnectionState, is_dead}
 use Rattle.amqp_endpoint.specs.Runs.{Feed, Fed, Does}
 use Rattle.amqp_endpoint.specs.Steps.{EndpointState, IsKept, IsFed, FeedDone}
+use Rattle.amqp_frame.specs.Splits.{SplitterState}
 use Rattle.amqp_serve.specs.declared.rules.Rule.{Rule}
+use Rattle.amqp_serve.specs.declared.server.Status.{Status}
+use Rattle.amqp_serve.specs.declared.server.Status.TheVariants as status
 use Rattle.amqp_serve.specs.declared.serving.ServeFault.{ServeFault}
 use Rattle.amqp_serve.specs.declared.serving.ServeFault.TheVariants as fault
 use Rattle.amqp_serve.specs.declared.steps.Done.{Done}
 use Rattle.amqp_serve.specs.Deeds.{Deeds, fed_deeds, rest_deeds, done_deeds, receipt_deeds, topped_deeds, no_deeds, Ends, AreOpen, IsOfEnds, WentOn, WentOff, HasFollowed, HasFailed, filled, Follows, IsStepped, ReachesBy}
-use Rattle.amqp_serve.specs.Servers.{lost_by}
+use Rattle.amqp_serve.specs.Servers.{hears, status_after, waiting_by}
 use Rattle.amqp_serve.specs.Serving.{Starved, ToppingUp, all_supplies, reading, stand_told, Served, BrokeOff, IsStarved}
 use Rattle.amqp_serve.specs.Supplied.{IsSuppliedBut, IsOnlyAt, told_look, received_look, look_behind}
 use Rattle.amqp_serve.proofs.Deeds.{deeds_on, rest_both, done_both, one_done, went_on, went_off, then_quiet, marked_neither}
@@ -127,13 +130,29 @@ module _ (law : (s t u : EndpointState) (piece : List ℕ) (used : ℕ) (told : 
         let left = f.starved is in
         let waits = wanting_waits t u piece used (record { least = least; silent = none; fed = subst (λ (o : Outcome). IsFed t u piece used o) left.0 x1 }) in
         (ap (λ (z : EndpointState). z.connection) left.1 ∙ waits.kept.connection ∙ kept.connection, left.2);
+    added = λ is.
+        let left = f.starved is in
+        let waits = wanting_waits t u piece used (record { least = least; silent = none; fed = subst (λ (o : Outcome). IsFed t u piece used o) left.0 x1 }) in
+        let input = ap (λ (z : EndpointState). z.input) left.1 in
+        record {
+          limit = ap (λ (i : SplitterState). i.limit) input ∙ waits.kept.input.limit ∙ waits.taken.limit ∙ kept.input.limit;
+          stage = ap (λ (i : SplitterState). i.stage) input ∙ waits.kept.input.stage ∙ waits.taken.stage ∙ kept.input.stage;
+          filled = ap (λ (i : SplitterState). i.filled) input ∙ waits.kept.input.filled ∙ waits.taken.filled ∙ ap (λ (l : List ℕ). l ++ take used piece) kept.input.filled;
+        };
     marked = f.marked;
   }
 
--- No answer waits behind a step, unless an end was lost.
-pub rests : (p : Rule) (bytes : List ℕ) (told : Outcome) (r : Result Done ServeFault) (s t : EndpointState) (x y : Ends) → IsStepped p bytes told r s t x y → lost_by r ≡ None → t.unsent ≡ []
-rests p bytes told (Ok d) s t x y on none = on.sent
-rests p bytes told (Err fault.Read) s t x y off none = absurd (off.which refl)
-rests p bytes told (Err fault.Write) s t x y off none = absurd (grind (arith, none))
-rests p bytes told (Err fault.Sink) s t x y off none = absurd (grind (arith, none))
-rests p bytes told (Err fault.NoMemory) s t x y off none = (off.starved refl).sent
+-- No answer waits behind a step after which the server hears.
+pub rests : (p : Rule) (bytes : List ℕ) (told : Outcome) (r : Result Done ServeFault) (s t : EndpointState) (x y : Ends) → IsStepped p bytes told r s t x y → hears (status_after r) ≡ true → t.unsent ≡ []
+rests p bytes told (Ok d) s t x y on is = on.sent
+rests p bytes told (Err fault.Read) s t x y off is = absurd (grind (arith, is))
+rests p bytes told (Err fault.Write) s t x y off is = absurd (grind (arith, is))
+rests p bytes told (Err fault.Sink) s t x y off is = absurd (grind (arith, is))
+rests p bytes told (Err fault.NoMemory) s t x y off is = (off.starved refl).sent
+
+-- What waits to be written waits in the endpoint.
+pub few_wait : (status : Status) (unsent : List ℕ) (n : ℕ) → n ≤ length (waiting_by status unsent) → n ≤ length unsent
+few_wait status.Serving unsent n few = few
+few_wait status.Starved unsent n few = few
+few_wait status.Ended unsent n few = few
+few_wait (status.Lost x) unsent n few = let none : length (waiting_by (status.Lost x) unsent) ≡ 0 = refl in omega (arith, few, none)

@@ -1,5 +1,5 @@
 -- What a serving call did, and how it ended.
-use Rattle.std.specs.Prelude.{◌≡◌, ◌≢◌, ◌↔◌, ℕ, ◌+◌, ◌-◌, ◌^◌, min, sum_by, length, Bool, true, false, List, [], ◌∷◌, Option, Result, Ok, Err, IsTrue}
+use Rattle.std.specs.Prelude.{◌≡◌, ◌≢◌, ◌↔◌, ℕ, ◌+◌, ◌-◌, ◌^◌, min, sum_by, length, Bool, true, false, List, [], ◌∷◌, ◌++◌, Option, Result, Ok, Err, IsTrue}
 use Rattle.std.specs.List.{flat_map}
 use Rattle.amqp_frame.specs.Devices.{device_inner, has_failed}
 use Rattle.amqp_frame.specs.declared.device.Device.{Device}
@@ -208,13 +208,20 @@ pub record HasStepped (p : Rule) (told : Outcome) (d : Done) (bytes : List ℕ) 
   pub idle : is_dead old.connection.phase ≡ false → IsIdle new
   pub still : AreOpen f
 
--- The step broke off instead. If memory was refused, the unit waits, nothing was written or recorded, and the connection did
--- not change.
+-- only these bytes came into the buffer
+pub record IsAdded (old new : SplitterState) (bytes : List ℕ) : Type 0 where
+  pub limit : new.limit ≡ old.limit
+  pub stage : new.stage ≡ old.stage
+  pub filled : new.filled ≡ old.filled ++ bytes
+
+-- The step broke off instead. If memory was refused, the bytes are in the buffer and the unit waits, nothing was written or
+-- recorded, and the connection did not change.
 pub record HasStopped (p : Rule) (x : ServeFault) (bytes : List ℕ) (old new : EndpointState) (e f : Ends) : Type 0 where
   pub which : x ≢ fault.Read
   pub broke : BrokeOff p x reading bytes old new e.writer f.writer e.sink f.sink
   pub starved : x ≡ fault.NoMemory → IsStarved new
   pub still : x ≡ fault.NoMemory → (new.connection ≡ old.connection) × (f ≡ e)
+  pub added : x ≡ fault.NoMemory → IsAdded old.input new.input bytes
   pub marked : IsMarked x f
 
 abbrev pub IsStepped : Rule → List ℕ → Outcome → Result Done ServeFault → EndpointState → EndpointState → Ends → Ends → Type 0

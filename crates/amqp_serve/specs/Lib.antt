@@ -7,3 +7,5 @@ pub mod Servers
 pub mod Policies
 pub mod Interrupted
 pub mod Rooms
+pub mod Lives
+pub mod Kept

@@ -10,6 +10,7 @@
 #![tactic(auto)]
 
 pub mod laws;
+pub mod life_laws;
 mod records;
 mod rules;
 mod sending;
@@ -22,7 +23,7 @@ mod supplying;
 mod watch;
 
 pub use rules::Rule;
-pub use server::Server;
+pub use server::{Server, ServerFault, Status};
 pub use serving::{Policy, ServeFault, serve, serve_watched};
 pub use steps::{Course, Done, Receipt, Received, Stepped, serve_piece, serve_read};
 pub use supplies::{Supply, Topped};

@@ -1,9 +1,9 @@
 //! A server for a host with a loop of its own.
-ghost use Rattle.std.specs.Prelude.{◌≡◌, ◌≤◌, [], take, length, Err, IfSome, None};
-ghost use Rattle.amqp_endpoint.specs.Runs.{IsFinished, end_of};
-ghost use Rattle.amqp_serve.specs.Deeds.{IsStepped, Reaches, ends, AreOpen};
+ghost use Rattle.std.specs.Prelude.{◌≡◌, ◌≤◌, ◌<◌, ◌++◌, ℕ, List, [], take, length, true, false, None, IfSome, IfOk, IfErr, OnOk};
+ghost use Rattle.amqp_endpoint.specs.Calls.{heartbeat};
 ghost use Rattle.amqp_endpoint.specs.Connections.{ConnectionState};
-ghost use Rattle.amqp_serve.specs.Servers.{lost_by};
+ghost use Rattle.amqp_serve.specs.Deeds.{IsStepped, Reaches, ends, AreOpen};
+ghost use Rattle.amqp_serve.specs.Servers.{hears, is_over, status_after, refused_step, open_fault, finish_fault, waiting, IsSame, IsFinishedSo, IsClosed, IsSent};
 ghost use Rattle.amqp_serve.specs.Supplied.{IsRight};
 
 use crate::steps::{Course, Done, Stepped, serve_piece};
@@ -14,6 +14,35 @@ use amqp_perform::Outcome;
 use std::alloc::{Allocator, Global};
 use std::io::Write;
 use std::marker::Model;
+use thiserror::Error;
+
+/// How a server is between two calls.
+#[derive(Clone, Copy, Debug, PartialEq, Eq)]
+pub enum Status {
+    /// It hears what comes.
+    Serving,
+    /// It hears what comes. Memory was refused for the unit that waits; the next step tries it again.
+    Starved,
+    /// It hears nothing any more: its input has ended, or this side has closed the connection.
+    Ended,
+    /// It hears nothing any more: its writer or its sink has failed, and answers or records may be missing.
+    Lost(ServeFault),
+}
+
+/// Why a call of a server is refused. Nothing that counts has changed then.
+#[derive(Clone, Copy, Debug, PartialEq, Eq, Drop, Error)]
+pub enum ServerFault {
+    /// The connection is not open [2.4.6]: its peer's open has not come, it is over, or the server hears nothing any
+    /// more.
+    #[error("the connection is not open")]
+    NotOpen,
+    /// The server hears nothing any more.
+    #[error("the server hears nothing any more")]
+    Over,
+    /// A unit waits, and memory was refused for it.
+    #[error("a unit waits for memory")]
+    Starved,
+}
 
 /// Of a server that has made no step. No link is topped up by it.
 const NO_RULE: Rule = Rule {
@@ -23,13 +52,15 @@ const NO_RULE: Rule = Rule {
 };
 
 /// Serves one connection step by step, with the bytes that its host brings. Between two steps all answers have
-/// gone to the writer. Once a writer or a sink has failed, an answer may be missing: from then on each step is
-/// refused with that fault.
+/// gone to the writer.
+///
+/// It hears nothing any more once its input has ended, this side has closed the connection, or a writer or a sink
+/// has failed. After a close its host writes what waits in it, by [`Server::unsent_front`] and [`Server::sent`].
 #[derive(Drop)]
 pub struct Server<A: Allocator + Copy = Global> {
     endpoint: Endpoint<A>,
     course: Course,
-    lost: Option<ServeFault>,
+    status: Status,
 }
 
 impl<A: Allocator + Copy> Model for Server<A> {
@@ -37,9 +68,9 @@ impl<A: Allocator + Copy> Model for Server<A> {
 
     ghost Value = { ServerState };
 
-    ghost view = { λ a. record { endpoint = a.endpoint; lost = a.lost } };
+    ghost view = { λ a. record { endpoint = a.endpoint; status = a.status } };
 
-    ghost invariant = { λ a. IsAtRest a.endpoint a.course a.lost };
+    ghost invariant = { λ a. IsAtRest a.endpoint a.course a.status };
 }
 
 impl<A: Allocator + Copy> Server<A> {
@@ -47,7 +78,7 @@ impl<A: Allocator + Copy> Server<A> {
     pub fn new(endpoint: Endpoint<A>) -> Self
         requires { endpoint.unsent ≡ [] }
         ensures endpoint { result.endpoint ≡ endpoint }
-        ensures lost { result.lost ≡ None }
+        ensures status { result.status ≡ Status.Serving }
     {
         Server {
             endpoint,
@@ -55,7 +86,7 @@ impl<A: Allocator + Copy> Server<A> {
                 rule: NO_RULE,
                 supplied: false,
             },
-            lost: None,
+            status: Status::Serving,
         }
     }
 
@@ -63,10 +94,12 @@ impl<A: Allocator + Copy> Server<A> {
     /// follows is done, as [`serve_piece`] says. The rest of the piece is for the next step. Another step may have
     /// another rule.
     ///
+    /// A server that hears nothing any more uses no byte and changes nothing. It tells `Dead`, or returns the fault
+    /// of the writer or the sink that has failed.
+    ///
     /// # Errors
     ///
-    /// `Write`, `Sink` and `NoMemory`, each when [`serve_piece`] returns it. After `Write` or `Sink` each step is
-    /// refused with that fault: it uses no byte and changes nothing.
+    /// `Write`, `Sink` and `NoMemory`, each when [`serve_piece`] returns it.
     #[tactic(auto, using(crate::proofs::Stepping::rests))]
     pub fn step<W: Write + HoldsBack + Drop, S: Write + Drop>(
         &mut self,
@@ -77,34 +110,116 @@ impl<A: Allocator + Copy> Server<A> {
     ) -> Stepped
         requires ends { AreOpen (ends W.contents S.contents writer.old sink.old) }
         ensures bound { result.used ≤ length piece.now }
-        ensures reaches { self.old.lost ≡ None → Reaches self.old.endpoint piece.now result.used }
-        ensures stepped { self.old.lost ≡ None → IsStepped rule (take result.used piece.now) result.told result.done self.old.endpoint self.new.endpoint
+        ensures reaches { refused_step self.old.status ≡ None → Reaches self.old.endpoint piece.now result.used }
+        ensures stepped { refused_step self.old.status ≡ None → IsStepped rule (take result.used piece.now) result.told result.done self.old.endpoint self.new.endpoint
             (ends W.contents S.contents writer.old sink.old) (ends W.contents S.contents writer.new sink.new) }
-        ensures lost { self.old.lost ≡ None → self.new.lost ≡ lost_by result.done }
-        ensures refused { IfSome self.old.lost (λ x. (result ≡ record { used = 0; told = Told.More; done = Err x }) × (self.new ≡ self.old)) }
+        ensures status { refused_step self.old.status ≡ None → self.new.status ≡ status_after result.done }
+        ensures refused { IfSome (refused_step self.old.status) (λ x. (result ≡ x) × (self.new ≡ self.old)
+            × (ends W.contents S.contents writer.new sink.new ≡ ends W.contents S.contents writer.old sink.old)) }
     {
-        if let Some(fault) = self.lost {
-            return Stepped {
-                used: 0,
-                told: Told::More,
-                done: Err(fault),
-            };
+        match self.status {
+            Status::Serving | Status::Starved => {}
+            Status::Ended => {
+                return Stepped {
+                    used: 0,
+                    told: Told::Dead,
+                    done: Ok(Done::NOTHING),
+                };
+            }
+            Status::Lost(fault) => {
+                return Stepped {
+                    used: 0,
+                    told: Told::More,
+                    done: Err(fault),
+                };
+            }
         }
         self.course = course_by(rule, self.course);
         let stepped = serve_piece(&mut self.endpoint, &mut self.course, piece, writer, sink);
-        self.lost = lost_by(stepped.done);
+        self.status = status_after(stepped.done);
         stepped
     }
 
-    /// Ends the input, and returns how the connection stood, as [`Endpoint::finish`] does. The connection is over
-    /// then.
-    pub fn finish(&mut self) -> End
-        ensures end { result ≡ end_of self.old.endpoint }
-        ensures finished { IsFinished self.old.endpoint self.new.endpoint }
-        ensures lost { self.new.lost ≡ self.old.lost }
+    /// Returns an empty frame for the peer [2.4.5], which is written before anything else. Returns `NotOpen` if the
+    /// connection is not open, or the server hears nothing any more.
+    pub fn heartbeat(&mut self) -> Result<[u8; 8], ServerFault>
+        ensures fault { IfErr result (λ f. open_fault self.old ≡ Some f) }
+        ensures beat { IfOk result (λ frame. (frame ≡ heartbeat) × (open_fault self.old ≡ None)) }
+        ensures same { IsSame self.old self.new }
     {
+        if !self.hears() || self.endpoint.heartbeat().is_err() {
+            return Err(ServerFault::NotOpen);
+        }
+        let mut frame = [0; 8];
+        self.endpoint.output(&mut frame);
+        Ok(frame)
+    }
+
+    /// Closes the connection [2.4.3]. The close waits, and the server hears nothing any more. Returns `NotOpen` if
+    /// the connection is not open, or the server heard nothing any more before.
+    pub fn close(&mut self) -> Result<(), ServerFault>
+        ensures fault { IfErr result (λ f. (open_fault self.old ≡ Some f) × IsSame self.old self.new) }
+        ensures closed { OnOk result (IsClosed self.old self.new) }
+    {
+        if !self.hears() || self.endpoint.close().is_err() {
+            return Err(ServerFault::NotOpen);
+        }
         self.course.supplied = false;
-        self.endpoint.finish()
+        self.status = Status::Ended;
+        Ok(())
+    }
+
+    /// Ends the input, and returns how the connection stood, as [`Endpoint::finish`] does. The server hears nothing
+    /// any more then. Returns `Starved` if a unit waits for memory, and `Over` if the server heard nothing any more
+    /// before.
+    pub fn finish(&mut self) -> Result<End, ServerFault>
+        ensures fault { IfErr result (λ f. (finish_fault self.old.status ≡ Some f) × (self.new ≡ self.old)) }
+        ensures ended { IfOk result (λ end. IsFinishedSo self.old self.new end) }
+    {
+        match self.status {
+            Status::Serving => {}
+            Status::Starved => return Err(ServerFault::Starved),
+            Status::Ended | Status::Lost(_) => return Err(ServerFault::Over),
+        }
+        self.course.supplied = false;
+        self.status = Status::Ended;
+        Ok(self.endpoint.finish())
+    }
+
+    /// Returns the first bytes that wait to be written, as many as lie in one piece: at least one if any wait. None
+    /// do as long as the server hears, and after a writer or a sink has failed.
+    pub fn unsent_front(&self) -> &[u8]
+        ensures front { (behind : List ℕ) × (waiting self.now ≡ result.now ++ behind) }
+        ensures some { 0 < length (waiting self.now) → 0 < length result.now }
+        ensures none { hears self.now.status ≡ true → result.now ≡ [] }
+    {
+        match self.status {
+            Status::Serving | Status::Starved | Status::Ended => self.endpoint.unsent_front(),
+            Status::Lost(_) => &[],
+        }
+    }
+
+    /// Drops the first `n` bytes that wait, which the caller has written.
+    #[tactic(auto, using(crate::proofs::Stepping::few_wait))]
+    pub fn sent(&mut self, n: usize)
+        requires { n ≤ length (waiting self.old) }
+        ensures { IsSent self.old self.new n }
+    {
+        self.endpoint.sent(n);
+    }
+
+    /// Returns how the server is.
+    pub fn status(&self) -> Status
+        ensures { result ≡ self.now.status }
+    {
+        self.status
+    }
+
+    /// Returns whether the server takes no more bytes: it hears nothing any more, or its connection is over.
+    pub fn is_over(&self) -> bool
+        ensures { result ≡ is_over self.now }
+    {
+        !self.hears() || self.endpoint.is_over()
     }
 
     /// Returns the endpoint that it serves.
@@ -112,6 +227,16 @@ impl<A: Allocator + Copy> Server<A> {
         ensures { result.now ≡ self.now.endpoint }
     {
         &self.endpoint
+    }
+
+    /// Returns whether it hears what comes.
+    fn hears(&self) -> bool
+        ensures { result ≡ hears self.now.status }
+    {
+        match self.status {
+            Status::Serving | Status::Starved => true,
+            Status::Ended | Status::Lost(_) => false,
+        }
     }
 }
 
@@ -130,13 +255,13 @@ fn course_by(rule: Rule, before: Course) -> Course
     }
 }
 
-/// Returns the fault of a step at which the writer or the sink failed.
-fn lost_by(done: Result<Done, ServeFault>) -> Option<ServeFault>
-    ensures { result ≡ lost_by done }
+/// Returns the status of a server after a step with this result.
+fn status_after(done: Result<Done, ServeFault>) -> Status
+    ensures { result ≡ status_after done }
 {
     match done {
-        Err(ServeFault::Write) => Some(ServeFault::Write),
-        Err(ServeFault::Sink) => Some(ServeFault::Sink),
-        _ => None,
+        Ok(_) => Status::Serving,
+        Err(ServeFault::NoMemory) => Status::Starved,
+        Err(fault) => Status::Lost(fault),
     }
 }

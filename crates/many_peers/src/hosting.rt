@@ -3,26 +3,77 @@
 use crate::digest::Digest;
 use crate::failure::Failure;
 use amqp_endpoint::Config;
-use amqp_frame::Device;
-use amqp_hub::Hub;
+use amqp_hub::{Hub, Keeper, Progress};
 use amqp_perform::Outcome;
 use amqp_serve::Rule;
-use std::alloc::Global;
-use std::mem;
+use std::alloc::{AllocError, Global};
 
 /// The credit of a link, which is topped up once half of it is left.
 const CREDIT: u32 = 16;
 
-/// A hub with its peers, and what they were answered and had recorded.
+/// A keeper that takes each record at once, and keeps a digest of all.
+#[derive(Drop)]
+pub struct Digester {
+    digest: Digest,
+}
+
+impl Keeper for Digester {
+    ghost use Rattle.std.specs.Prelude.{◌≡◌, true, false, None};
+    ghost use Rattle.amqp_hub.specs.declared.keeper.Progress.TheVariants.{Out};
+    ghost use Rattle.many_peers.specs.Keeping.{nothing_known, accepts_more, comes_so};
+
+    ghost puts = { λ _. None };
+
+    ghost taken = { λ _. None };
+
+    ghost settled = { λ _. true };
+
+    ghost roomy = { λ _. true };
+
+    ghost broken = { λ _. false };
+
+    ghost accepts = { λ _ _ _ _. Unit {0} };
+
+    ghost makes_room = { λ old p new. (p ≡ Out) × (new ≡ old) };
+
+    ghost settles = { λ old p new. (p ≡ Out) × (new ≡ old) };
+
+    ghost settled_is_taken = { λ _ is. nothing_known is };
+
+    ghost accepted_is_put = { λ _ _ number bytes _. accepts_more number bytes };
+
+    ghost room_is_made = { λ _ _ p x. comes_so p x.0 };
+
+    ghost settling_takes = { λ _ _ p x. comes_so p x.0 };
+
+    fn has_room(&self) -> bool {
+        true
+    }
+
+    fn put(&mut self, _number: u64, record: &[u8]) -> Result<(), AllocError> {
+        self.digest.add(record);
+        Ok(())
+    }
+
+    fn make_room(&mut self) -> Progress {
+        Progress::Out
+    }
+
+    fn settle(&mut self) -> Progress {
+        Progress::Out
+    }
+
+    fn is_settled(&self) -> bool {
+        true
+    }
+}
+
+/// A hub with its peers, and what they were answered.
 #[derive(Drop)]
 pub struct Host {
-    alloc: Global,
-    hub: Hub,
+    hub: Hub<Digester>,
     keys: Vec<usize>,
-    /// Room for the record of a unit.
-    record: Vec<u8>,
     pub answers: Digest,
-    pub records: Digest,
 }
 
 impl Host {
@@ -33,19 +84,24 @@ impl Host {
             mark: CREDIT / 2,
             outcome: Outcome::Accepted,
         };
-        let mut hub = Hub::new(alloc, peers);
+        let keeper = Digester {
+            digest: Digest::NONE,
+        };
+        let mut hub = Hub::new(alloc, peers, keeper);
         let mut keys = Vec::new(alloc);
-        for _ in 0..peers {
-            keys.push(hub.open(settings(alloc)?, rule)?)?;
+        for number in 0..peers as u64 {
+            keys.push(hub.open(settings(alloc)?, rule, number)?)?;
         }
         Ok(Host {
-            alloc,
             hub,
             keys,
-            record: Vec::new(alloc),
             answers: Digest::NONE,
-            records: Digest::NONE,
         })
+    }
+
+    /// Returns the digest of what was recorded.
+    pub fn records(&self) -> Digest {
+        self.hub.keeper().digest
     }
 
     /// Lets the peer at a place be heard, unit by unit, and hands out what is answered after each.
@@ -58,12 +114,8 @@ impl Host {
             if rest.is_empty() {
                 break;
             }
-            let mut sink = Device::new(mem::replace(&mut self.record, Vec::new(self.alloc)));
-            let heard = self.hub.hear(key, rest, &mut sink);
-            self.record = sink.into_inner();
-            rest = rest.get(heard?.used..).unwrap_or(&[]);
-            self.records.add(&self.record);
-            self.record.clear();
+            let stepped = self.hub.hear(key, rest)?;
+            rest = rest.get(stepped.used..).unwrap_or(&[]);
             self.hand_out(key);
         }
         Ok(())
@@ -80,8 +132,8 @@ impl Host {
 }
 
 /// Hands out the first bytes that wait for a peer, as many as lie in one piece. False if none do.
-fn hand_front(hub: &mut Hub, key: usize, answers: &mut Digest) -> bool {
-    let front = hub.unsent_front(key);
+fn hand_front(hub: &mut Hub<Digester>, key: usize, answers: &mut Digest) -> bool {
+    let front = hub.lend(key);
     let count = front.len();
     answers.add(front);
     hub.sent(key, count);

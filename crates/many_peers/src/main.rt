@@ -31,7 +31,7 @@ fn main(rt: HostRuntime) -> Result<(), Failure> {
     let (seed, turns) = numbers_of(&words)?;
     let mut host = Host::new(rt.alloc(), PEERS)?;
     serve(rt.alloc(), &mut host, seed, turns)?;
-    show(&rt, &host.answers, &host.records)
+    show(&rt, &host.answers, &host.records())
 }
 
 /// Returns the seed and how many turns the words after the program's name ask for.

@@ -4,10 +4,13 @@ use crate::devices::Kept;
 use crate::serving::{ENDS, RECORDS, STREAM, WRITTEN, config, one_by_one};
 use amqp_endpoint::{End, Endpoint, Event, Outcome};
 use amqp_frame::{Device, Direct};
-use amqp_serve::{Receipt, Received, Rule, Server, Stepped, Topped};
+use amqp_serve::{Receipt, Received, Rule, Server, ServerFault, Status, Stepped, Topped};
 use std::alloc::Global;
 use std::process::Abort;
 use std::test::Fail;
+
+/// The close of this side [2.7.9].
+const CLOSE: &[u8] = b"\x00\x00\x00\x0c\x02\x00\x00\x00\x00S\x18E";
 
 /// What steps resulted in: their answers, and the bytes that they wrote and recorded.
 #[derive(Drop)]
@@ -37,7 +40,7 @@ fn step_through(alloc: Global, mut bytes: &[u8], most: usize) -> Result<Steps, F
         told,
         written: written.bytes,
         recorded: recorded.bytes,
-        end: server.finish(),
+        end: server.finish()?,
     })
 }
 
@@ -107,4 +110,30 @@ fn assert_step(
     assert_eq!(rt; done.receipt, receipt);
     assert_eq!(rt; done.topped, topped);
     Ok(())
+}
+
+/// A server that has closed its connection hands out the close, and hears nothing any more.
+#[test]
+fn a_server_that_closed_hears_nothing(rt: HostRuntime) -> Result<(), Fail> {
+    let alloc = rt.alloc();
+    let mut server = Server::new(Endpoint::new(alloc, config(alloc)?)?);
+    assert_eq!(rt; server.heartbeat(), Err(ServerFault::NotOpen));
+    let header = step_once(alloc, &mut server, STREAM);
+    let rest = STREAM.get(header.used..).unwrap_or(&[]);
+    let open = step_once(alloc, &mut server, rest);
+    assert_eq!(rt; server.heartbeat(), Ok([0, 0, 0, 8, 2, 0, 0, 0]));
+    assert_eq!(rt; server.close(), Ok(()));
+    assert_eq!(rt; server.unsent_front(), CLOSE);
+    let begin = rest.get(open.used..).unwrap_or(&[]);
+    assert_eq!(rt; step_once(alloc, &mut server, begin).used, 0);
+    assert_eq!(rt; server.finish(), Err(ServerFault::Over));
+    assert_eq!(rt; server.status(), Status::Ended);
+    Ok(())
+}
+
+/// Makes one step, and drops what it writes and records.
+fn step_once(alloc: Global, server: &mut Server, piece: &[u8]) -> Stepped {
+    let mut writer = Device::new(Direct::new(Kept::all(alloc)));
+    let mut sink = Device::new(Kept::all(alloc));
+    server.step(Rule::of(one_by_one()), piece, &mut writer, &mut sink)
 }

@@ -189,6 +189,8 @@ impl Write for Shared<'_> {
 }
 
 impl Sink for Shared<'_> {
+    ghost on_disk = { λ _. Unit {0} };
+
     fn sync(&mut self) -> io::Result<()> {
         let Ok(mut store) = self.0.try_borrow_mut() else {
             return Err(io::Error::from(ErrorKind::Other));

@@ -83,7 +83,9 @@ impl Life {
         let is_all = self.is_served_whole(server, &mut writer, &mut sink)?;
         let mut told = writer.into_inner().into_inner();
         self.tell_close(&mut told)?;
-        let end = server.finish();
+        let Ok(end) = server.finish() else {
+            return Ok(Some("no end"));
+        };
         Ok(self.judged(is_all, &told, &sink.into_inner(), end))
     }
 

@@ -3,10 +3,10 @@
 use crate::alone::Life;
 use crate::numbers::Numbers;
 use crate::peers::stream;
-use crate::rows::{LIMIT, RULE, settings};
+use crate::rows::{LIMIT, ROOM, RULE, settings};
 use amqp_endpoint::Config;
-use amqp_hub::{Hub, Turn, TurnAnswer};
-use std::alloc::Global;
+use amqp_hub::{Hub, Ledger, Turn, TurnAnswer};
+use std::alloc::{AllocError, Global};
 use test_row_files::{Heap, Miss};
 
 /// How often each came, so that lists that reach too little are seen.
@@ -21,7 +21,8 @@ pub struct Came {
 /// A hub beside what its turns say.
 #[derive(Drop)]
 struct Bench<'a> {
-    hub: Hub<Heap<'a>>,
+    hub: Hub<Ledger<Heap<'a>>, Heap<'a>>,
+    opened: u64,
     config: Config<Heap<'a>>,
     lives: Vec<Option<Life>>,
 }
@@ -41,7 +42,8 @@ pub fn difference(
     let config = settings(heap)?;
     heap.restart(refused);
     let mut bench = Bench {
-        hub: Hub::new(heap, LIMIT),
+        hub: Hub::new(heap, LIMIT, Ledger::new(heap, ROOM)),
+        opened: 0,
         config,
         lives,
     };
@@ -96,31 +98,66 @@ fn turn(
         return Ok(Some(difference));
     }
     let answer = match choice {
-        0..=7 => make(bench, &Turn::Open),
+        0..=7 => open(bench),
         8..=31 => hear(bench, key, most),
         56..=58 => make(bench, &Turn::Heartbeat { key }),
         59 => make(bench, &Turn::Finish { key }),
         60 => make(bench, &Turn::Close { key }),
         61 => make(bench, &Turn::Remove { key }),
-        _ => make(bench, &Turn::Hand { key, room: most }),
+        _ => hand(bench, key, most),
     };
-    note(alloc, bench, key, answer, numbers, came)
+    match answer {
+        Ok(answer) => note(alloc, bench, key, answer, numbers, came),
+        Err(AllocError) => Ok(forget(bench, key)),
+    }
 }
 
-fn make<'a>(bench: &mut Bench<'a>, turn: &Turn<'_>) -> TurnAnswer<Heap<'a>> {
-    bench.hub.make(&bench.config, RULE, turn)
+fn make<'a>(bench: &mut Bench<'a>, turn: &Turn<'_>) -> Result<TurnAnswer<Heap<'a>>, AllocError> {
+    bench.hub.make(&bench.config, RULE, bench.opened, turn)
+}
+
+/// Opens a connection, whose number no other has.
+fn open<'a>(bench: &mut Bench<'a>) -> Result<TurnAnswer<Heap<'a>>, AllocError> {
+    bench.opened = bench.opened.saturating_add(1);
+    make(bench, &Turn::Open)
+}
+
+/// Hands out at most this many bytes, once the ledger has taken all records for good.
+fn hand<'a>(
+    bench: &mut Bench<'a>,
+    key: usize,
+    room: usize,
+) -> Result<TurnAnswer<Heap<'a>>, AllocError> {
+    let _ = make(bench, &Turn::Settle { most: Some(ROOM) })?;
+    make(bench, &Turn::Hand { key, room })
 }
 
 /// Hears this many bytes at most of those that are to come.
-fn hear<'a>(bench: &mut Bench<'a>, key: usize, most: usize) -> TurnAnswer<Heap<'a>> {
+fn hear<'a>(
+    bench: &mut Bench<'a>,
+    key: usize,
+    most: usize,
+) -> Result<TurnAnswer<Heap<'a>>, AllocError> {
     let rest = match bench.lives.get(key) {
         Some(Some(life)) => life.rest(),
         _ => &[],
     };
     let piece = &rest[..rest.len().min(most)];
-    bench
-        .hub
-        .make(&bench.config, RULE, &Turn::Hear { key, piece })
+    bench.hub.make(
+        &bench.config,
+        RULE,
+        bench.opened,
+        &Turn::Hear { key, piece },
+    )
+}
+
+/// Removes a connection whose answer is not known, since memory for it was refused.
+fn forget(bench: &mut Bench<'_>, key: usize) -> Option<&'static str> {
+    let _ = make(bench, &Turn::Remove { key });
+    if let Some(place) = bench.lives.get_mut(key) {
+        *place = None;
+    }
+    None
 }
 
 /// Notes an answer in the life of its connection.
@@ -171,10 +208,12 @@ fn compared(
         return Ok(None);
     };
     came.compared = came.compared.saturating_add(1);
-    let turn = Turn::Hand { key, room: 10_000 };
     // What waits lies in two pieces at most, and one request is refused.
     for _ in 0..3 {
-        let answer = bench.hub.make(&bench.config, RULE, &turn);
+        let settle = Turn::Settle { most: Some(ROOM) };
+        bench.hub.make(&bench.config, RULE, bench.opened, &settle)?;
+        let turn = Turn::Hand { key, room: 10_000 };
+        let answer = bench.hub.make(&bench.config, RULE, bench.opened, &turn)?;
         life.goes_on(answer, came)?;
     }
     life.difference(alloc)

@@ -15,9 +15,9 @@ mod rows;
 
 use crate::lists::{Came, difference};
 use crate::numbers::Numbers;
-use crate::rows::{LIMIT, RULE, Rows, settings, text_of};
+use crate::rows::{LIMIT, ROOM, RULE, Rows, settings, text_of};
 use amqp_endpoint::Config;
-use amqp_hub::{Turn, TurnAnswer, hub_replay};
+use amqp_hub::{Replayed, Turn, TurnAnswer, hub_replay};
 use std::alloc::{AllocError, AllocGlobal, Allocator, Global};
 use std::io::Print;
 use std::{env, fs};
@@ -135,8 +135,8 @@ fn replay<R: Print + AllocGlobal>(rt: &R, heap: Heap<'_>) -> Result<(), Miss> {
         Turn::Close { key: 1 },
         Turn::Count,
     ];
-    let answers = replayed(heap, &settings(heap)?, &turns)?;
-    print_answers(rt, &answers)
+    let replayed = replayed(heap, &settings(heap)?, &turns)?;
+    print_answers(rt, &replayed.answers)
 }
 
 /// Makes these turns on a new hub.
@@ -144,8 +144,8 @@ fn replayed<A: Allocator + Copy>(
     alloc: A,
     config: &Config<A>,
     turns: &[Turn<'_>],
-) -> Result<Vec<TurnAnswer<A>, A>, AllocError> {
-    hub_replay(alloc, config, RULE, LIMIT, turns)
+) -> Result<Replayed<A>, AllocError> {
+    hub_replay(alloc, config, RULE, LIMIT, ROOM, turns)
 }
 
 fn print_answers<R: Print + AllocGlobal>(

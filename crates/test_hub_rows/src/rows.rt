@@ -1,10 +1,11 @@
 //! Turns as rows.
 //!
-//! `open`, `hear KEY HEX`, `hand KEY ROOM`, `heartbeat KEY`, `finish KEY`, `close KEY`, `remove KEY`, `held` and `count` are turns of a
-//! hub of three connections at most. Shown is what was recorded of the last one.
+//! `open`, `hear KEY HEX`, `hand KEY ROOM`, `heartbeat KEY`, `finish KEY`, `close KEY`, `remove KEY`, `rule KEY CREDIT`, `settle MOST`, `fail`, `held` and
+//! `count` are turns of a hub of three connections at most, whose ledger has room for three records. Shown is what was recorded of the
+//! last one.
 
 use amqp_endpoint::{Config, End};
-use amqp_hub::{Hub, HubFault, Turn, TurnAnswer};
+use amqp_hub::{Hub, HubFault, Ledger, Progress, Turn, TurnAnswer};
 use amqp_perform::Outcome;
 use amqp_serve::Rule;
 use std::alloc::Global;
@@ -21,6 +22,9 @@ pub const RULE: Rule = Rule {
 /// How many connections there may be.
 pub const LIMIT: usize = 3;
 
+/// How many records the ledger has room for.
+pub const ROOM: usize = 3;
+
 /// Returns the settings of each: frames of 512 bytes, channel 0, the handles 0 and 1, four deliveries of 100 bytes
 /// for a link, and a window of 100 places.
 pub fn settings(heap: Heap<'_>) -> Result<Config<Heap<'_>>, Miss> {
@@ -32,7 +36,8 @@ pub fn settings(heap: Heap<'_>) -> Result<Config<Heap<'_>>, Miss> {
 #[derive(Drop)]
 pub struct Rows<'a> {
     heap: Heap<'a>,
-    hub: Hub<Heap<'a>>,
+    hub: Hub<Ledger<Heap<'a>>, Heap<'a>>,
+    opened: u64,
     recorded: Option<Vec<u8>>,
 }
 
@@ -40,14 +45,18 @@ impl<'a> Rows<'a> {
     pub fn new(heap: Heap<'a>) -> Rows<'a> {
         Rows {
             heap,
-            hub: Hub::new(heap, LIMIT),
+            hub: Hub::new(heap, LIMIT, Ledger::new(heap, ROOM)),
+            opened: 0,
             recorded: None,
         }
     }
 
     /// Makes a turn, and returns it as it stands in a row.
     fn make(&mut self, alloc: Global, turn: &Turn<'_>) -> Result<String, Miss> {
-        let answer = made(&mut self.hub, self.heap, turn)?;
+        let answer = made(&mut self.hub, self.heap, self.opened, turn)?;
+        if let TurnAnswer::Opened(_) = answer {
+            self.opened = self.opened.saturating_add(1);
+        }
         let text = text_of(alloc, &answer)?;
         if let TurnAnswer::Heard { noted, .. } = &answer {
             let mut recorded = Vec::new(alloc);
@@ -60,12 +69,13 @@ impl<'a> Rows<'a> {
 
 /// Makes a turn of a hub.
 fn made<'a>(
-    hub: &mut Hub<Heap<'a>>,
+    hub: &mut Hub<Ledger<Heap<'a>>, Heap<'a>>,
     heap: Heap<'a>,
+    number: u64,
     turn: &Turn<'_>,
 ) -> Result<TurnAnswer<Heap<'a>>, Miss> {
     let config = settings(heap)?;
-    Ok(hub.make(&config, RULE, turn))
+    Ok(hub.make(&config, RULE, number, turn)?)
 }
 
 impl Subject for Rows<'_> {
@@ -94,6 +104,15 @@ impl Subject for Rows<'_> {
             "finish" => self.make(alloc, &Turn::Finish { key }),
             "close" => self.make(alloc, &Turn::Close { key }),
             "remove" => self.make(alloc, &Turn::Remove { key }),
+            "rule" => {
+                let rule = Rule {
+                    credit: number(rest)?,
+                    ..RULE
+                };
+                self.make(alloc, &Turn::Rule { key, rule })
+            }
+            "settle" => self.make(alloc, &Turn::Settle { most: Some(key) }),
+            "fail" => self.make(alloc, &Turn::Settle { most: None }),
             "held" => self.make(alloc, &Turn::Held),
             "count" => self.make(alloc, &Turn::Count),
             _ => Err(Miss::Unread("no such turn")),
@@ -117,7 +136,10 @@ pub fn text_of(alloc: Global, answer: &TurnAnswer<Heap<'_>>) -> Result<String, M
         TurnAnswer::Handed(bytes) => bytes_text(alloc, bytes),
         TurnAnswer::Beat(frame) => bytes_text(alloc, frame),
         TurnAnswer::Ended(end) => end_text(alloc, *end),
-        TurnAnswer::Closed | TurnAnswer::Removed => Ok(String::from_str(alloc, "Ok(())")?),
+        TurnAnswer::Closed | TurnAnswer::Removed | TurnAnswer::Changed => Ok(String::from_str(
+            alloc, "Ok(())",
+        )?),
+        TurnAnswer::Settled(progress) => progress_text(alloc, *progress),
         TurnAnswer::Holds(held) => count_text(alloc, *held),
         TurnAnswer::Counts(count) => count_text(alloc, *count as u64),
         TurnAnswer::Refused(fault) => fault_text(alloc, *fault),
@@ -135,6 +157,10 @@ fn bytes_text(alloc: Global, bytes: &[u8]) -> Result<String, Miss> {
 
 fn end_text(alloc: Global, end: End) -> Result<String, Miss> {
     Ok(format!(in alloc; "Ok({end:?})")?)
+}
+
+fn progress_text(alloc: Global, progress: Progress) -> Result<String, Miss> {
+    Ok(format!(in alloc; "{progress:?}")?)
 }
 
 fn count_text(alloc: Global, count: u64) -> Result<String, Miss> {

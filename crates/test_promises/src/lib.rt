@@ -6,6 +6,7 @@
 
 pub mod config;
 pub mod endpoint;
+pub mod hub;
 pub mod laws;
 pub mod link;
 pub mod pair;

@@ -1,23 +1,26 @@
 //! What `amqp_serve` promises.
 
-ghost use Rattle.std.specs.Prelude.{◌≡◌, ◌↔◌, ◌<◌, ◌≤◌, ◌-◌, [], ℕ, suc, List, true, false, Err, None, min, take, length, IsTrue, IfOk, IfErr, IfSome, OnOk};
+ghost use Rattle.std.specs.Prelude.{◌≡◌, ◌↔◌, ◌<◌, ◌≤◌, ◌-◌, ◌++◌, [], ℕ, suc, List, true, false, Err, None, Some, min, take, length, IsTrue, IfOk, IfErr, IfSome, OnOk};
 ghost use Rattle.std.specs.Io.KnownBytes.{Consumes};
 ghost use Rattle.amqp_link.specs.Links.{open_count};
 ghost use Rattle.amqp_session.specs.Sessions.{LiveLink};
 ghost use Rattle.amqp_session.specs.declared.slot.Slot.TheVariants.{Live};
 ghost use Rattle.amqp_frame.specs.Devices.{device_inner, has_failed, has_ended, is_flushed};
+ghost use Rattle.amqp_endpoint.specs.Calls.{heartbeat};
+ghost use Rattle.amqp_endpoint.specs.Configs.{Configured};
 ghost use Rattle.amqp_endpoint.specs.Connections.{is_dead, slot_at};
 ghost use Rattle.amqp_endpoint.specs.Steps.{EndpointState, MayRead, IsKept};
 ghost use Rattle.amqp_serve.specs.Deeds.{IsStepped, Reaches, ends, AreOpen};
-ghost use Rattle.amqp_serve.specs.Servers.{lost_by};
+ghost use Rattle.amqp_serve.specs.Kept.{LifeGoesOn, LifeIsAlone};
+ghost use Rattle.amqp_serve.specs.Servers.{hears, refused_step, status_after, open_fault, finish_fault, waiting, IsSame, IsFinishedSo, IsClosed, IsSent};
 ghost use Rattle.amqp_serve.specs.Policies.{rule_of, BrokeOff, IsServed};
 ghost use Rattle.amqp_serve.specs.Serving.{credit_lack, reading, session_supplies, IsStarved, HasAllTaken};
 ghost use Rattle.amqp_serve.specs.Supplied.{IsRight};
 ghost use Rattle.amqp_serve.specs.Supplying.{half_rule, GaveIn, LacksNothing};
 
-use amqp_endpoint::{CallFault, End, Endpoint, Outcome};
+use amqp_endpoint::{CallFault, End, Endpoint};
 use amqp_frame::{AtHand, Device, HoldsBack};
-use amqp_serve::{Course, Policy, Rule, ServeFault, Server, Stepped};
+use amqp_serve::{Course, Policy, Rule, ServeFault, Server, ServerFault, Stepped};
 use std::alloc::Allocator;
 use std::io::Write;
 
@@ -105,7 +108,7 @@ pub fn serve_read<A: Allocator + Copy, W: Write + HoldsBack + Drop, S: Write + D
     amqp_serve::serve_read(endpoint, course, n, writer, sink)
 }
 
-/// Serves a piece of what the peer sent by this rule, whatever the one of the step before was, unless the server's writer or sink has failed.
+/// Serves a piece of what the peer sent by this rule, whatever the one of the step before was, as long as the server hears.
 pub fn step<A: Allocator + Copy, W: Write + HoldsBack + Drop, S: Write + Drop>(
     server: &mut Server<A>,
     rule: Rule,
@@ -115,13 +118,65 @@ pub fn step<A: Allocator + Copy, W: Write + HoldsBack + Drop, S: Write + Drop>(
 ) -> Stepped
     requires ends { AreOpen (ends W.contents S.contents writer.old sink.old) }
     ensures bound { result.used ≤ length piece.now }
-    ensures reaches { server.old.lost ≡ None → Reaches server.old.endpoint piece.now result.used }
-    ensures stepped { server.old.lost ≡ None → IsStepped rule (take result.used piece.now) result.told result.done server.old.endpoint server.new.endpoint
+    ensures reaches { refused_step server.old.status ≡ None → Reaches server.old.endpoint piece.now result.used }
+    ensures stepped { refused_step server.old.status ≡ None → IsStepped rule (take result.used piece.now) result.told result.done server.old.endpoint server.new.endpoint
         (ends W.contents S.contents writer.old sink.old) (ends W.contents S.contents writer.new sink.new) }
-    ensures lost { server.old.lost ≡ None → server.new.lost ≡ lost_by result.done }
-    ensures refused { IfSome server.old.lost (λ x. (result ≡ record { used = 0; told = Outcome.More; done = Err x }) × (server.new ≡ server.old)) }
+    ensures status { refused_step server.old.status ≡ None → server.new.status ≡ status_after result.done }
+    ensures refused { IfSome (refused_step server.old.status) (λ x. (result ≡ x) × (server.new ≡ server.old)
+        × (ends W.contents S.contents writer.new sink.new ≡ ends W.contents S.contents writer.old sink.old)) }
 {
     server.step(rule, piece, writer, sink)
+}
+
+/// Returns an empty frame, if the connection is open and the server hears.
+pub fn server_heartbeat<A: Allocator + Copy>(server: &mut Server<A>) -> Result<[u8; 8], ServerFault>
+    ensures fault { IfErr result (λ f. open_fault server.old ≡ Some f) }
+    ensures beat { IfOk result (λ frame. (frame ≡ heartbeat) × (open_fault server.old ≡ None)) }
+    ensures same { IsSame server.old server.new }
+{
+    server.heartbeat()
+}
+
+/// Closes the connection, if it is open and the server hears. The server hears nothing any more then.
+pub fn server_close<A: Allocator + Copy>(server: &mut Server<A>) -> Result<(), ServerFault>
+    ensures fault { IfErr result (λ f. (open_fault server.old ≡ Some f) × IsSame server.old server.new) }
+    ensures closed { OnOk result (IsClosed server.old server.new) }
+{
+    server.close()
+}
+
+/// Ends the input, if no unit waits for memory and the server hears. The server hears nothing any more then.
+pub fn server_finish<A: Allocator + Copy>(server: &mut Server<A>) -> Result<End, ServerFault>
+    ensures fault { IfErr result (λ f. (finish_fault server.old.status ≡ Some f) × (server.new ≡ server.old)) }
+    ensures ended { IfOk result (λ end. IsFinishedSo server.old server.new end) }
+{
+    server.finish()
+}
+
+/// Returns the first bytes that wait: none as long as the server hears, and after a loss.
+pub fn server_unsent_front<A: Allocator + Copy>(server: &Server<A>) -> &[u8]
+    ensures front { (behind : List ℕ) × (waiting server.now ≡ result.now ++ behind) }
+    ensures some { 0 < length (waiting server.now) → 0 < length result.now }
+    ensures none { hears server.now.status ≡ true → result.now ≡ [] }
+{
+    server.unsent_front()
+}
+
+/// Drops the first bytes that wait, which were written.
+pub fn server_sent<A: Allocator + Copy>(server: &mut Server<A>, n: usize)
+    requires { n ≤ length (waiting server.old) }
+    ensures { IsSent server.old server.new n }
+{
+    server.sent(n);
+}
+
+/// A server's life goes on with each of its calls, and what it wrote and recorded is what these alone give.
+pub fn lives()
+    ensures goes_on { (config : Configured) → LifeGoesOn config }
+    ensures alone { (config : Configured) → LifeIsAlone config }
+{
+    amqp_serve::life_laws::lives_go_on();
+    amqp_serve::life_laws::lives_are_alone();
 }
 
 /// Gives a session and its links what they lack, for a host that makes all other calls itself.

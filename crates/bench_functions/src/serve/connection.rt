@@ -8,7 +8,7 @@ use crate::stream::{Block, MAX_FRAME, Shape, opening};
 use amqp_endpoint::{Config, End, Endpoint};
 use amqp_frame::{AtHand, Device, HoldsBack};
 use amqp_perform::Outcome;
-use amqp_serve::{Policy, Rule, ServeFault, Server, serve};
+use amqp_serve::{Policy, Rule, ServeFault, Server, ServerFault, serve};
 use std::alloc::{AllocError, Global};
 use std::io::{self, BufReader, BufWriter, Read, Write};
 
@@ -28,6 +28,7 @@ pub enum Stopped {
     /// The settings were refused.
     Settings,
     Fault(ServeFault),
+    Refused(ServerFault),
     /// The connection did not stand between two frames then.
     Ended(End),
     /// Not all that was sent is recorded.
@@ -49,6 +50,12 @@ impl From<AllocError> for Stopped {
 impl From<ServeFault> for Stopped {
     fn from(fault: ServeFault) -> Stopped {
         Stopped::Fault(fault)
+    }
+}
+
+impl From<ServerFault> for Stopped {
+    fn from(fault: ServerFault) -> Stopped {
+        Stopped::Refused(fault)
     }
 }
 
@@ -161,7 +168,7 @@ fn step_through(
 ) -> Result<End, Stopped> {
     let mut server = Server::new(new_endpoint(alloc, rule.credit)?);
     step_to(alloc, &mut server, rule, sender, answers, records)?;
-    Ok(server.finish())
+    Ok(server.finish()?)
 }
 
 /// Steps this server through what a sender sends.

@@ -1,6 +1,5 @@
-use Rattle.std.proofs.Common.{◌≡◌}
 use Rattle.amqp_gateway.specs.Gateways.{IsGoneOn}
 use Rattle.amqp_gateway.proofs.gateway.Gateway.hear_all.Given as goal
 
 abbrev pub invariant-loop-place : goal.invariant-loop-place
-invariant-loop-place g l = record { gone_on : IsGoneOn l.fn.self l.self; written : l.self.outlet.written ≡ 0 }
+invariant-loop-place g l = IsGoneOn l.fn.self l.self

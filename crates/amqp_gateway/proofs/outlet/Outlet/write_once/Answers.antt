@@ -7,8 +7,8 @@ use Rattle.amqp_gateway.proofs.outlet.Outlet.write_once.Goals as goal
 
 pub returns-in-Ok-clause-went : goal.returns-in-Ok-clause-went
 returns-in-Ok-clause-went g c =
-    let now : OutletState = record { sink = g.S.Write.contents c.self.inside.sink; blocks = c.self.inside.blocks; written = c.self.inside.written; is_fresh = c.self.inside.is_fresh; has_failed = c.self.inside.has_failed } in
-    let new : OutletState = record { sink = g.S.Write.contents c.write.new.self; blocks = c.self.inside.blocks; written = c.saturating_add-self-inside.result; is_fresh = true; has_failed = c.self.inside.has_failed } in
+    let now : OutletState = record { sink = g.S.Write.contents c.self.inside.sink; blocks = c.self.inside.blocks; written = c.self.inside.written; is_fresh = c.self.inside.is_fresh; has_failed = c.self.inside.has_failed; syncs = c.self.inside.syncs } in
+    let new : OutletState = record { sink = g.S.Write.contents c.write.new.self; blocks = c.self.inside.blocks; written = c.saturating_add-self-inside.result; is_fresh = true; has_failed = c.self.inside.has_failed; syncs = c.self.inside.syncs } in
     let some : 0 < length c.rest_of-rest.result.now = grind (arith, common_steps, c.is_empty.ensures, c.if-is_empty.false) in
     let long = ap length c.rest_of-rest.ensures.rest in
     subst (λ (s : OutletState). WritesOn s new) c.self.view_is

@@ -7,4 +7,5 @@ invariant-loop g l = record {
   goes_on : l.self.has_failed ≡ false;
   went : WritesOn l.fn.self l.self;
   blocks : l.self.blocks ≡ l.fn.self.blocks;
+  syncs : l.self.syncs ≡ l.fn.self.syncs;
 }

@@ -1,0 +1,5 @@
+use Rattle.std.proofs.Common.{◌≡◌}
+use Rattle.amqp_gateway.proofs.peer.Peer.send.Given as goal
+
+abbrev pub invariant-loop : goal.invariant-loop
+invariant-loop g l = l.hub.keeper ≡ l.fn.hub.keeper

@@ -1,0 +1,81 @@
+//! Where the records of all connections go.
+ghost use Rattle.std.specs.Prelude.{◌≡◌, Bool, true, ℕ, List, Option, OnOk, OnErr};
+ghost use Rattle.amqp_hub.specs.Keepers.{Entry, one_entry, IsMore, HasCome};
+ghost use Rattle.amqp_hub.specs.declared.keeper.Progress.{Progress};
+
+use std::alloc::AllocError;
+
+/// How far a keeper has come.
+#[derive(Clone, Copy, Debug, PartialEq, Eq)]
+pub enum Progress {
+    /// It has done all that it was asked for.
+    Out,
+    /// It can't go on now. It is to be asked again.
+    Stuck,
+    /// It has failed, and takes nothing any more.
+    Failed,
+}
+
+/// Keeps the records of many connections. It takes them in order, and after [`Keeper::settle`] for good: from then on
+/// their senders may hear of them.
+pub trait Keeper {
+    // The records that it was given, oldest first, if that is known.
+    ghost puts: { Self → Option (List Entry) };
+
+    // Those of them that it has taken for good.
+    ghost taken: { Self → Option (List Entry) };
+
+    // It has taken all of them for good.
+    ghost settled: { Self → Bool };
+
+    // It takes a record.
+    ghost roomy: { Self → Bool };
+
+    // Its device has failed.
+    ghost broken: { Self → Bool };
+
+    // It was given this record of the connection of this number, and is this one then.
+    ghost accepts: { Self → ℕ → List ℕ → Self → Type 0 };
+
+    // It was asked to make room for a record, came so far, and is this one then.
+    ghost makes_room: { Self → Progress → Self → Type 0 };
+
+    // It was asked to take all records for good, came so far, and is this one then.
+    ghost settles: { Self → Progress → Self → Type 0 };
+
+    /// Returns whether it takes a record now.
+    fn has_room(&self) -> bool
+        ensures { result ≡ roomy self.now };
+
+    /// Takes the bytes of a record of the connection of this number. Returns `AllocError` if memory is refused; nothing has changed
+    /// then.
+    fn put(&mut self, number: u64, bytes: &[u8]) -> Result<(), AllocError>
+        requires { roomy self.old ≡ true }
+        ensures put { OnOk result (accepts self.old number bytes.now self.new) }
+        ensures refused { OnErr result (self.new ≡ self.old) };
+
+    /// Makes room for a record, as far as it can do so without taking those that it has for good. `Out` says that
+    /// it has room.
+    fn make_room(&mut self) -> Progress
+        ensures { makes_room self.old result self.new };
+
+    /// Takes all records for good that it was given. `Out` says that it has.
+    fn settle(&mut self) -> Progress
+        ensures { settles self.old result self.new };
+
+    /// Returns whether it has taken all records for good that it was given.
+    fn is_settled(&self) -> bool
+        ensures { result ≡ settled self.now };
+
+    /// Then that is so, if it is known what it was given.
+    ghost settled_is_taken: { (k : Self) → settled k ≡ true → taken k ≡ puts k };
+
+    /// A record that it was given is its last one.
+    ghost accepted_is_put: { (k l : Self) (number : ℕ) (bytes : List ℕ) → accepts k number bytes l → IsMore (one_entry number bytes) (puts k) (puts l) (taken k) (taken l) × (broken l ≡ broken k) };
+
+    /// Making room loses none and puts none, takes those in order, and says how far it came: there is room at `Out`.
+    ghost room_is_made: { (k l : Self) (p : Progress) → makes_room k p l → HasCome p (puts k) (puts l) (taken k) (taken l) (roomy l) (broken l) };
+
+    /// So does settling: it has taken all for good at `Out`.
+    ghost settling_takes: { (k l : Self) (p : Progress) → settles k p l → HasCome p (puts k) (puts l) (taken k) (taken l) (settled l) (broken l) };
+}
