@@ -4,7 +4,9 @@ use crate::metrics::Metrics;
 use crate::traces::Traces;
 use amqp_command_line::GatewaySettings;
 use amqp_endpoint::Config;
-use amqp_gateway::{Ending, Gateway, GatewayFault, Settings, Sink, Watcher, link_most, peer_most};
+use amqp_gateway::{
+    Ending, Gateway, GatewayFault, Settings, Sink, Watcher, link_most, outlet_most, peer_most,
+};
 use amqp_perform::Outcome;
 use amqp_serve::Rule;
 use amqp_trace::Host;
@@ -72,7 +74,9 @@ where
         outcome: Outcome::Accepted,
     };
     let most = peer_most(&config, link);
-    let bound = (settings.open as u64).saturating_mul(most);
+    let bound = (settings.open as u64)
+        .saturating_mul(most)
+        .saturating_add(outlet_most(&config, link));
     let _ = eprintln!(rt; "a peer holds at most {most} bytes, and all together {bound}");
     let mut clock = Stopwatch::new(rt);
     let now = clock.millis(rt);

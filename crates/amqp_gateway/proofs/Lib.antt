@@ -1,2 +1,4 @@
+pub mod HubRuns
+pub mod HubTurns
 pub mod Mosts
 pub mod Outs

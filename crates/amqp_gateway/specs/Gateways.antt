@@ -1,7 +1,6 @@
 -- What a gateway is between two turns, and what a turn leaves.
 use Rattle.std.specs.Prelude.{◌≡◌, ℕ, ◌+◌, ◌≤◌, ◌<◌, ◌==◌, ◌&&◌, ◌||◌, nat_lt, nat_le, Bool, true, false, Option, Some, None, IsSome, Result, Ok, Err}
-use Rattle.amqp_hub.specs.Members.{MemberState}
-use Rattle.slab.specs.Slab.{Slab}
+use Rattle.amqp_hub.specs.Turns.{HubState}
 use Rattle.amqp_endpoint.specs.declared.event.End.{End}
 use Rattle.amqp_endpoint.specs.declared.event.End.TheVariants as end
 use Rattle.amqp_gateway.specs.declared.counts.Counts.{Counts}
@@ -19,12 +18,11 @@ ending_of end.Failed = ending.Failed
 ending_of end.Between = ending.Between
 ending_of (end.Inside n) = ending.Inside
 
--- its settings, what it counted, the connections of its hub, the records that wait, how many peers there are, and since when it is to end, if it is to
+-- its settings, what it counted, its hub, whose keeper has the records that wait, how many peers there are, and since when it is to end, if it is to
 pub record GatewayState : Type 0 where
   pub settings : Settings
   pub counts : Counts
-  pub members : Slab MemberState
-  pub outlet : OutletState
+  pub hub : HubState OutletState
   pub peers : ℕ
   pub stopped : Option ℕ
 
@@ -51,15 +49,14 @@ pub record IsNewGateway (asked : Settings) (s : GatewayState) : Type 0 where
   pub none : s.peers ≡ 0
   pub stopped : s.stopped ≡ None
   pub accepted : s.counts.accepted ≡ 0
-  pub settled : is_settled s.outlet ≡ true
-  pub syncs : s.outlet.syncs ≡ asked.sync
+  pub settled : is_settled s.hub.keeper ≡ true
+  pub syncs : s.hub.keeper.syncs ≡ asked.sync
 
 -- it is to end, from now on if it was not before, and nothing else changed
 pub record IsStopping (old new : GatewayState) : Type 0 where
   pub settings : new.settings ≡ old.settings
   pub counts : new.counts ≡ old.counts
-  pub members : new.members ≡ old.members
-  pub outlet : new.outlet ≡ old.outlet
+  pub hub : new.hub ≡ old.hub
   pub peers : new.peers ≡ old.peers
   pub stopped : IsSome new.stopped
   pub once : IsSome old.stopped → new.stopped ≡ old.stopped
@@ -70,7 +67,7 @@ pub record IsGoneOn (old new : GatewayState) : Type 0 where
   pub stopped : new.stopped ≡ old.stopped
   pub accepted : new.counts.accepted ≡ old.counts.accepted
   pub fewer : new.peers ≤ old.peers
-  pub syncs : new.outlet.syncs ≡ old.outlet.syncs
+  pub syncs : new.hub.keeper.syncs ≡ old.hub.keeper.syncs
 
 -- If it is to end, or has accepted as many as it was to, no peer was accepted. There are never more peers than there may be. If it syncs, it does so on.
 pub record IsTurned (old new : GatewayState) : Type 0 where
@@ -78,7 +75,7 @@ pub record IsTurned (old new : GatewayState) : Type 0 where
   pub stopped : new.stopped ≡ old.stopped
   pub last : is_last old ≡ true → IsGoneOn old new
   pub bound : old.peers ≤ old.settings.peers → new.peers ≤ old.settings.peers
-  pub syncs : new.outlet.syncs ≡ old.outlet.syncs
+  pub syncs : new.hub.keeper.syncs ≡ old.hub.keeper.syncs
 
 -- At most one peer more is there.
 pub record IsPlaced (old new : GatewayState) : Type 0 where

@@ -1,5 +1,6 @@
 pub mod Bounds
 pub mod Counts
 pub mod Gateways
+pub mod HubCalls
 pub mod Outlets
 pub mod OutletLaws

@@ -1,6 +1,7 @@
 -- An outlet is a keeper.
-use Rattle.std.proofs.Common.{◌≡◌, ℕ, arith, Bool, true, false, List, [], Option, None, refl, ap, sym, ◌∙◌}
+use Rattle.std.proofs.Common.{◌≡◌, ℕ, arith, Bool, true, List, [], Option, None, refl, ap}
 use Rattle.std.specs.Prelude.{◌↔◌}
+use Rattle.amqp_hub.specs.declared.keeper.Origin.{Origin}
 use Rattle.amqp_hub.specs.declared.keeper.Progress.{Progress}
 use Rattle.amqp_hub.specs.declared.keeper.Progress.TheVariants as progress
 use Rattle.amqp_hub.specs.Keepers.{Entry, one_entry, IsMore, HasCome}
@@ -13,8 +14,8 @@ unknown = None
 pub nothing_known : (s : OutletState) → is_settled s ≡ true → unknown ≡ unknown
 nothing_known s is = refl
 
-pub accepts_more : (s t : OutletState) (number : ℕ) (bytes : List ℕ) → Accepts s number bytes t → IsMore (one_entry number bytes) unknown unknown unknown unknown × (t.has_failed ≡ s.has_failed)
-accepts_more s t number bytes x = (record { grown = refl; still = refl }, ap (λ (o : OutletState). o.has_failed) x.rest)
+pub accepts_more : (s t : OutletState) (origin : Origin) (bytes : List ℕ) → Accepts s origin bytes t → IsMore (one_entry origin bytes) unknown unknown unknown unknown × (t.has_failed ≡ s.has_failed)
+accepts_more s t origin bytes x = (record { grown = refl; still = refl }, ap (λ (o : OutletState). o.has_failed) x.rest)
 
 failed_so : (p : Progress) (b : Bool) → b ≡ has_failed_by p → (p ≡ progress.Failed) ↔ (b ≡ true)
 failed_so progress.Out b e = (λ is. absurd (grind (arith, is)), λ is. absurd (grind (arith, is, e)))

@@ -1,9 +1,10 @@
 //! The gateway: all peers, turn by turn.
 
 ghost use Rattle.slab.specs.Slab.{slab_len};
-ghost use Rattle.std.specs.Prelude.{◌≡◌, ◌≤◌, ◌^◌, ◌-◌, true, min, Err, IsTrue, IfOk, OnErr};
+ghost use Rattle.std.specs.Prelude.{◌≡◌, ◌≤◌, ◌+◌, ◌^◌, ◌-◌, true, min, length, Err, IsTrue, IfOk, OnErr};
 ghost use Rattle.amqp_hub.specs.Turns.{all_held};
 ghost use Rattle.amqp_gateway.specs.Gateways.{IsNewGateway, IsStopping, IsGoneOn, IsTurned, IsPlaced, LeavesNone, MayOpen, is_done, is_last};
+ghost use Rattle.amqp_gateway.specs.HubCalls.{Went, HasAnswered, IsTurnOf, takes, tells};
 ghost use Rattle.amqp_gateway.specs.Outlets.{is_settled};
 
 use crate::counts::Counts;
@@ -102,7 +103,7 @@ impl<S: Sink + Drop, W: Watcher + Drop> Model for Gateway<S, W> {
 
     ghost Value = { GatewayState };
 
-    ghost view = { λ a. record { settings = a.settings; counts = a.desk.counts; members = a.desk.hub.members; outlet = a.desk.hub.keeper; peers = slab_len a.peers; stopped = a.stopped } };
+    ghost view = { λ a. record { settings = a.settings; counts = a.desk.counts; hub = a.desk.hub; peers = slab_len a.peers; stopped = a.stopped } };
 }
 
 impl<S: Sink + Drop, W: Watcher + Drop> Gateway<S, W> {
@@ -238,10 +239,10 @@ impl<S: Sink + Drop, W: Watcher + Drop> Gateway<S, W> {
         self.desk.counts
     }
 
-    /// Returns how many bytes the endpoints of all peers hold, with what waits for the peers and what came from
-    /// them; `u64::MAX` if more. It visits all peers.
+    /// Returns how many bytes the endpoints of all peers hold, with what waits for the peers, what came from them and
+    /// the records that wait for the sink; `u64::MAX` if more. It visits all peers.
     pub fn held(&self) -> u64
-        ensures { min (all_held self.entry.now.members) (2 ^ 64 - 1) ≤ result }
+        ensures { min (all_held self.entry.now.hub.members + length self.entry.now.hub.keeper.blocks.bytes) (2 ^ 64 - 1) ≤ result }
     {
         let mut sum = self.desk.hub.held();
         for (_, peer) in self.peers.iter() {
@@ -260,9 +261,11 @@ impl<S: Sink + Drop, W: Watcher + Drop> Gateway<S, W> {
     ///
     /// `Sink` if the sink has failed, or has not taken all within the time of grace. Each peer is gone then, and
     /// none was sent an answer to a record that waits. `NoMemory` if memory for the gateway itself is refused.
+    #[tactic(auto, using(crate::proofs::HubRuns::went_none))]
     pub fn turn<R: Eprint>(&mut self, rt: &R, now: u64) -> Result<(), GatewayFault>
         ensures turned { IsTurned self.old self.new }
         ensures gone { LeavesNone result self.new }
+        ensures ran { IsTurnOf result self.old.hub self.new.hub }
     {
         if self.is_stuck {
             self.passed.stand_still(now);
@@ -276,22 +279,28 @@ impl<S: Sink + Drop, W: Watcher + Drop> Gateway<S, W> {
     }
 
     /// Accepts peers, and takes what ready ones sent, unless records wait for the sink.
+    #[tactic(auto, using(crate::proofs::HubRuns::went_none))]
     fn take_all<R: Eprint>(&mut self, rt: &R) -> Result<(), GatewayFault>
         ensures turned { IsTurned self.old self.new }
         ensures gone { LeavesNone result self.new }
+        ensures ran { Went takes self.old.hub self.new.hub }
+        ensures fault { OnErr result (result ≡ Err GatewayFault.NoMemory) }
     {
-        if !self.is_stuck {
-            self.accept_some(rt)?;
-            mem::swap(&mut self.now, &mut self.next);
-            self.hear_all(rt);
+        if self.is_stuck {
+            return Ok(());
         }
+        self.accept_some(rt)?;
+        mem::swap(&mut self.now, &mut self.next);
+        self.hear_all(rt);
         Ok(())
     }
 
     /// Ends all that are left once the time of grace is over, or else checks the peers for time-outs.
+    #[tactic(auto, using(crate::proofs::HubRuns::went_none))]
     fn look_at_times<R: Eprint>(&mut self, rt: &R) -> Result<(), GatewayFault>
         ensures gone_on { IsGoneOn self.old self.new }
         ensures gone { LeavesNone result self.new }
+        ensures ran { Went tells self.old.hub self.new.hub }
     {
         if self.has_no_grace() {
             return self.end_stopped(rt);
@@ -336,6 +345,7 @@ impl<S: Sink + Drop, W: Watcher + Drop> Gateway<S, W> {
     fn note_events(&mut self) -> Result<(), GatewayFault>
         ensures same { self.new ≡ self.old }
         ensures gone { LeavesNone result self.new }
+        ensures fault { OnErr result (result ≡ Err GatewayFault.NoMemory) }
     {
         let came = note_all(&self.events, &mut self.peers, &mut self.next)?;
         self.may_accept = self.may_accept || came.listener;
@@ -350,10 +360,13 @@ impl<S: Sink + Drop, W: Watcher + Drop> Gateway<S, W> {
         self.may_accept && !self.is_last() && self.peers.len() < self.settings.peers
     }
 
+    #[tactic(auto, using(crate::proofs::HubRuns::went_none))]
     fn accept_some<R: Eprint>(&mut self, rt: &R) -> Result<(), GatewayFault>
         ensures turned { IsTurned self.old self.new }
         ensures gone { LeavesNone result self.new }
-        ensures outlet { self.new.outlet ≡ self.old.outlet }
+        ensures outlet { self.new.hub.keeper ≡ self.old.hub.keeper }
+        ensures ran { Went takes self.old.hub self.new.hub }
+        ensures fault { OnErr result (result ≡ Err GatewayFault.NoMemory) }
     {
         for _ in 0..ACCEPTS {
             if !self.may_open() {
@@ -371,6 +384,7 @@ impl<S: Sink + Drop, W: Watcher + Drop> Gateway<S, W> {
         Ok(())
     }
 
+    #[tactic(auto, using(crate::proofs::HubRuns::went_none))]
     fn open_one<R: Eprint>(
         &mut self,
         rt: &R,
@@ -380,7 +394,9 @@ impl<S: Sink + Drop, W: Watcher + Drop> Gateway<S, W> {
         requires { MayOpen self.old }
         ensures turned { IsTurned self.old self.new }
         ensures gone { LeavesNone result self.new }
-        ensures outlet { self.new.outlet ≡ self.old.outlet }
+        ensures outlet { self.new.hub.keeper ≡ self.old.hub.keeper }
+        ensures ran { Went takes self.old.hub self.new.hub }
+        ensures fault { OnErr result (result ≡ Err GatewayFault.NoMemory) }
     {
         self.desk.counts.accepted = self.desk.counts.accepted.saturating_add(1);
         let number = self.desk.counts.accepted;
@@ -398,9 +414,11 @@ impl<S: Sink + Drop, W: Watcher + Drop> Gateway<S, W> {
     }
 
     /// Makes a peer of a stream, and returns its place, or how its connection ends at once: `NoMemory` or `Poll`.
+    #[tactic(auto, using(crate::proofs::HubRuns::went_none))]
     fn place(&mut self, number: u64, stream: TcpStream) -> Result<usize, Ending>
         ensures opened { IsPlaced self.old self.new }
-        ensures outlet { self.new.outlet ≡ self.old.outlet }
+        ensures outlet { self.new.hub.keeper ≡ self.old.hub.keeper }
+        ensures ran { Went takes self.old.hub self.new.hub }
     {
         let Ok(config) = self.config.copy(self.alloc) else {
             return Err(Ending::NoMemory);
@@ -425,13 +443,16 @@ impl<S: Sink + Drop, W: Watcher + Drop> Gateway<S, W> {
     }
 
     /// Takes what each ready peer sent, as long as the sink takes the records.
+    #[tactic(auto, using(crate::proofs::HubRuns::went_none))]
     fn hear_all<R: Eprint>(&mut self, rt: &R)
-        ensures { IsGoneOn self.old self.new }
+        ensures gone_on { IsGoneOn self.old self.new }
+        ensures ran { Went takes self.old.hub self.new.hub }
     {
         for place in 0..self.now.len() {
-            if let Some(at) = self.now.get(place).copied() {
-                self.hear(rt, at);
-            }
+            let Some(at) = self.now.get(place).copied() else {
+                break;
+            };
+            self.hear(rt, at);
             if self.desk.hub.make_room() != Progress::Out {
                 self.is_stuck = true;
                 break;
@@ -440,15 +461,15 @@ impl<S: Sink + Drop, W: Watcher + Drop> Gateway<S, W> {
     }
 
     /// Takes a piece of what a peer sent.
+    #[tactic(auto, using(crate::proofs::HubRuns::went_none))]
     fn hear<R: Eprint>(&mut self, rt: &R, at: usize)
         ensures gone_on { IsGoneOn self.old self.new }
+        ensures ran { Went takes self.old.hub self.new.hub }
     {
         let Some(peer) = self.peers.get_mut(at) else {
             return;
         };
-        if peer.may_be_heard(&self.desk.hub) {
-            peer.hear_again(self.alloc, self.passed.millis(), &mut self.desk, rt);
-        }
+        peer.hear_again(self.alloc, self.passed.millis(), &mut self.desk, rt);
         if !peer.may_be_read(&self.desk.hub) {
             return;
         }
@@ -463,9 +484,11 @@ impl<S: Sink + Drop, W: Watcher + Drop> Gateway<S, W> {
     }
 
     /// Writes the records of the turn, and then the answers to them.
+    #[tactic(auto, using(crate::proofs::HubRuns::went_none))]
     fn answer_all<R: Eprint>(&mut self, rt: &R) -> Result<(), GatewayFault>
         ensures gone_on { IsGoneOn self.old self.new }
         ensures gone { LeavesNone result self.new }
+        ensures ran { HasAnswered self.old.hub self.new.hub }
     {
         let progress = self.desk.hub.settle();
         self.is_stuck = progress != Progress::Out;
@@ -480,10 +503,12 @@ impl<S: Sink + Drop, W: Watcher + Drop> Gateway<S, W> {
     }
 
     /// Sends the answers of the turn.
+    #[tactic(auto, using(crate::proofs::HubRuns::went_none))]
     fn send_all<R: Eprint>(&mut self, rt: &R) -> Result<(), GatewayFault>
-        requires { is_settled self.old.outlet ≡ true }
+        requires { is_settled self.old.hub.keeper ≡ true }
         ensures gone_on { IsGoneOn self.old self.new }
         ensures gone { LeavesNone result self.new }
+        ensures ran { Went tells self.old.hub self.new.hub }
     {
         for place in 0..self.now.len() {
             if let Some(at) = self.now.get(place).copied() {
@@ -495,11 +520,13 @@ impl<S: Sink + Drop, W: Watcher + Drop> Gateway<S, W> {
     }
 
     /// Sends what waits for a peer. No record waits that the answers may speak of.
+    #[tactic(auto, using(crate::proofs::HubRuns::went_none))]
     fn send<R: Eprint>(&mut self, rt: &R, at: usize) -> Result<(), GatewayFault>
-        requires { is_settled self.old.outlet ≡ true }
+        requires { is_settled self.old.hub.keeper ≡ true }
         ensures gone_on { IsGoneOn self.old self.new }
         ensures gone { LeavesNone result self.new }
-        ensures outlet { self.new.outlet ≡ self.old.outlet }
+        ensures outlet { self.new.hub.keeper ≡ self.old.hub.keeper }
+        ensures ran { Went tells self.old.hub self.new.hub }
     {
         let now = self.passed.millis();
         let Some(peer) = self.peers.get_mut(at) else {
@@ -513,9 +540,11 @@ impl<S: Sink + Drop, W: Watcher + Drop> Gateway<S, W> {
         Ok(())
     }
 
+    #[tactic(auto, using(crate::proofs::HubRuns::went_none, crate::proofs::HubRuns::as_tells))]
     fn remove<R: Eprint>(&mut self, rt: &R, at: usize, ending: Ending)
         ensures gone_on { IsGoneOn self.old self.new }
-        ensures outlet { self.new.outlet ≡ self.old.outlet }
+        ensures outlet { self.new.hub.keeper ≡ self.old.hub.keeper }
+        ensures ran { Went tells self.old.hub self.new.hub }
     {
         let Some(mut peer) = self.peers.try_remove(at) else {
             return;
@@ -529,7 +558,7 @@ impl<S: Sink + Drop, W: Watcher + Drop> Gateway<S, W> {
     fn note_end<R: Eprint>(&mut self, rt: &R, number: u64, ending: Ending)
         ensures gone_on { IsGoneOn self.old self.new }
         ensures peers { self.new.peers ≡ self.old.peers }
-        ensures outlet { self.new.outlet ≡ self.old.outlet }
+        ensures hub { self.new.hub ≡ self.old.hub }
     {
         self.desk.counts.end(ending);
         let _ = eprintln!(rt; "connection {number}: {ending}");
@@ -544,9 +573,11 @@ impl<S: Sink + Drop, W: Watcher + Drop> Gateway<S, W> {
     }
 
     /// Ends all that are left once the time of grace is over.
+    #[tactic(auto, using(crate::proofs::HubRuns::went_none))]
     fn end_stopped<R: Eprint>(&mut self, rt: &R) -> Result<(), GatewayFault>
         ensures gone_on { IsGoneOn self.old self.new }
         ensures gone { LeavesNone result self.new }
+        ensures ran { Went tells self.old.hub self.new.hub }
     {
         let is_settled = self.desk.hub.keeper().is_settled();
         self.end_all(rt, Ending::Stopped);
@@ -558,9 +589,11 @@ impl<S: Sink + Drop, W: Watcher + Drop> Gateway<S, W> {
     }
 
     /// Checks the peers for time-outs.
+    #[tactic(auto, using(crate::proofs::HubRuns::went_none))]
     fn sweep(&mut self) -> Result<(), GatewayFault>
         ensures gone_on { IsGoneOn self.old self.new }
         ensures gone { LeavesNone result self.new }
+        ensures ran { Went tells self.old.hub self.new.hub }
     {
         let now = self.passed.millis();
         if self.is_stuck || now < self.swept {
@@ -574,9 +607,11 @@ impl<S: Sink + Drop, W: Watcher + Drop> Gateway<S, W> {
         Ok(())
     }
 
+    #[tactic(auto, using(crate::proofs::HubRuns::went_none))]
     fn judge(&mut self, at: usize, now: u64) -> Result<(), GatewayFault>
         ensures gone_on { IsGoneOn self.old self.new }
         ensures gone { LeavesNone result self.new }
+        ensures ran { Went tells self.old.hub self.new.hub }
     {
         let Some(peer) = self.peers.get_mut(at) else {
             return Ok(());
@@ -597,9 +632,11 @@ impl<S: Sink + Drop, W: Watcher + Drop> Gateway<S, W> {
 
     /// Ends all peers at once, for a gateway that goes on no more, and waits for none. If no records wait, each
     /// open peer is sent a close.
+    #[tactic(auto, using(crate::proofs::HubRuns::went_none))]
     pub fn end_all<R: Eprint>(&mut self, rt: &R, ending: Ending)
         ensures gone_on { IsGoneOn self.old self.new }
         ensures none { self.new.peers ≡ 0 }
+        ensures ran { Went tells self.old.hub self.new.hub }
     {
         for at in 0..self.peers.capacity() {
             self.end_one(rt, at, ending);
@@ -611,9 +648,11 @@ impl<S: Sink + Drop, W: Watcher + Drop> Gateway<S, W> {
 
     /// Closes one peer, and waits for nothing. If records wait, the peer is dropped without a word, since its
     /// answers may speak of them.
+    #[tactic(auto, using(crate::proofs::HubRuns::went_none))]
     fn end_one<R: Eprint>(&mut self, rt: &R, at: usize, ending: Ending)
         ensures gone_on { IsGoneOn self.old self.new }
-        ensures outlet { self.new.outlet ≡ self.old.outlet }
+        ensures outlet { self.new.hub.keeper ≡ self.old.hub.keeper }
+        ensures ran { Went tells self.old.hub self.new.hub }
     {
         let Some(peer) = self.peers.get_mut(at) else {
             return;

@@ -19,7 +19,7 @@ mod peer;
 mod settings;
 mod watcher;
 
-pub use bound::{link_most, peer_most};
+pub use bound::{link_most, outlet_most, peer_most};
 pub use counts::Counts;
 pub use ending::Ending;
 pub use gateway::{Gateway, GatewayFault};

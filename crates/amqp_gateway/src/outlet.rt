@@ -5,7 +5,7 @@ ghost use Rattle.std.specs.Io.KnownBytes.{Keeps};
 ghost use Rattle.amqp_gateway.specs.Outlets.{is_empty, is_settled, WritesOn, waiting, waiting_most, WhereOut, WhereStuck, has_failed_by};
 ghost use Rattle.amqp_hub.specs.declared.keeper.Progress.TheVariants as Progress;
 
-use amqp_hub::{Keeper, Progress};
+use amqp_hub::{Keeper, Origin, Progress};
 use amqp_records::Blocks;
 use std::alloc::{AllocError, Global};
 use std::io::{self, ErrorKind, Write};
@@ -48,7 +48,7 @@ impl<W: Write> Sink for Unsynced<W> {
 }
 
 /// How many bytes of records may wait; from this many on they are written, even in the middle of a turn.
-const MOST: usize = 262_144;
+pub const MOST: usize = 262_144;
 
 /// The records that wait, and the sink.
 #[derive(Drop)]
@@ -234,7 +234,7 @@ impl<S: Sink + Drop> Outlet<S> {
 }
 
 impl<S: Sink + Drop> Keeper for Outlet<S> {
-    ghost use Rattle.std.specs.Prelude.{None};
+    ghost use Rattle.std.specs.Prelude.{None, length};
     ghost use Rattle.amqp_gateway.specs.Outlets.{is_settled, is_roomy, Accepts, MakesRoom, Settles};
     ghost use Rattle.amqp_gateway.specs.OutletLaws.{nothing_known, accepts_more, makes_room_so, settles_so};
 
@@ -248,6 +248,8 @@ impl<S: Sink + Drop> Keeper for Outlet<S> {
     ghost roomy = { is_roomy };
 
     ghost broken = { λ o. o.has_failed };
+
+    ghost holds = { λ o. length o.blocks.bytes };
 
     ghost accepts = { Accepts };
 
@@ -269,14 +271,14 @@ impl<S: Sink + Drop> Keeper for Outlet<S> {
     }
 
     /// Adds a record to those that wait. A record of 2^32 bytes or more is refused as if for want of memory.
-    fn put(&mut self, number: u64, record: &[u8]) -> Result<(), AllocError> {
-        if record.is_empty() {
+    fn put(&mut self, origin: Origin, bytes: &[u8]) -> Result<(), AllocError> {
+        if bytes.is_empty() {
             return Ok(());
         }
-        if record.len() > u32::MAX as usize {
+        if bytes.len() > u32::MAX as usize {
             return Err(AllocError);
         }
-        self.blocks.put(number, record)
+        self.blocks.put(origin.number, bytes)
     }
 
     /// Writes and flushes what waits, if it is much, without syncing it to the disk.
@@ -301,6 +303,10 @@ impl<S: Sink + Drop> Keeper for Outlet<S> {
     /// Returns whether the sink took and flushed all, has not failed and, if that is asked for, has it on the disk.
     fn is_settled(&self) -> bool {
         self.is_empty() && !(self.syncs && self.is_fresh) && !self.has_failed
+    }
+
+    fn held(&self) -> u64 {
+        self.blocks.as_bytes().len() as u64
     }
 }
 

@@ -2,7 +2,10 @@
 
 ghost use Rattle.std.specs.Prelude.{◌≡◌, true, drop};
 ghost use Rattle.slab.specs.Slab.{get};
+ghost use Rattle.amqp_endpoint.specs.Calls.{close_call_spoken};
+ghost use Rattle.amqp_endpoint.specs.Replies.{joined};
 ghost use Rattle.amqp_hub.specs.Turns.{answers_of};
+ghost use Rattle.amqp_gateway.specs.HubCalls.{Went, parts, takes, tells};
 ghost use Rattle.amqp_gateway.specs.Outlets.{is_settled};
 
 use crate::counts::Counts;
@@ -40,9 +43,6 @@ pub enum Next {
     /// It is over.
     Over(Ending),
 }
-
-/// The close of this side [2.7.9], as the hub writes it.
-const CLOSE: [u8; 12] = [0, 0, 0, 12, 2, 0, 0, 0, 0, 0x53, 0x18, 0x45];
 
 /// What a read of a socket gave.
 #[derive(Clone, Copy, Debug, PartialEq, Eq)]
@@ -148,8 +148,10 @@ impl Peer {
     }
 
     /// Gives its key back to the hub.
+    #[tactic(auto, using(crate::proofs::HubRuns::went_none))]
     pub fn leave<S: Sink + Drop>(&mut self, hub: &mut Hub<Outlet<S>>)
-        ensures { hub.new.keeper ≡ hub.old.keeper }
+        ensures keeper { hub.new.keeper ≡ hub.old.keeper }
+        ensures ran { Went parts hub.old hub.new }
     {
         if let Some(key) = self.key.take() {
             let _ = hub.remove(key);
@@ -252,7 +254,8 @@ impl Peer {
         }
     }
 
-    /// Lets the hub hear what was kept, if anything was.
+    /// Lets the hub hear what was kept, if anything was and it may be heard.
+    #[tactic(auto, using(crate::proofs::HubRuns::went_none))]
     pub fn hear_again<S: Sink + Drop, W: Watcher + Drop>(
         &mut self,
         alloc: Global,
@@ -262,8 +265,9 @@ impl Peer {
     )
         ensures accepted { desk.new.counts.accepted ≡ desk.old.counts.accepted }
         ensures syncs { desk.new.hub.keeper.syncs ≡ desk.old.hub.keeper.syncs }
+        ensures ran { Went takes desk.old.hub desk.new.hub }
     {
-        if self.has_unheard() {
+        if self.has_unheard() && self.may_be_heard(&desk.hub) {
             if !self.has_failed(&desk.hub) {
                 self.heard = now; // it was this side that could not go on
             }
@@ -274,6 +278,7 @@ impl Peer {
 
     /// Lets the hub hear what came, unit by unit: at most [`UNITS`], and none once so much waits for the peer that
     /// its socket has to take it first. The rest is kept.
+    #[tactic(auto, using(crate::proofs::HubRuns::went_none))]
     pub fn hear<S: Sink + Drop, W: Watcher + Drop>(
         &mut self,
         bytes: &[u8],
@@ -282,6 +287,7 @@ impl Peer {
     )
         ensures accepted { desk.new.counts.accepted ≡ desk.old.counts.accepted }
         ensures syncs { desk.new.hub.keeper.syncs ≡ desk.old.hub.keeper.syncs }
+        ensures ran { Went takes desk.old.hub desk.new.hub }
     {
         let mut rest = bytes;
         for _ in 0..UNITS {
@@ -313,6 +319,7 @@ impl Peer {
 
     /// Goes on after a step that took these bytes, before which so many bytes of answers waited. Returns `false` if no
     /// more is to be heard now.
+    #[tactic(auto, using(crate::proofs::HubRuns::went_none, crate::proofs::HubRuns::as_takes))]
     fn go_on<S: Sink + Drop, W: Watcher + Drop>(
         &mut self,
         key: usize,
@@ -324,6 +331,7 @@ impl Peer {
     ) -> bool
         ensures accepted { desk.new.counts.accepted ≡ desk.old.counts.accepted }
         ensures syncs { desk.new.hub.keeper.syncs ≡ desk.old.hub.keeper.syncs }
+        ensures ran { Went takes desk.old.hub desk.new.hub }
     {
         if let Err(ServeFault::Read | ServeFault::Write | ServeFault::Sink) = stepped.done {
             self.key = None; // the hub has removed it
@@ -347,8 +355,10 @@ impl Peer {
     }
 
     /// Keeps what is to be heard later, unless it has ended.
+    #[tactic(auto, using(crate::proofs::HubRuns::went_none))]
     fn keep<S: Sink + Drop>(&mut self, rest: &[u8], hub: &mut Hub<Outlet<S>>)
-        ensures { hub.new.keeper ≡ hub.old.keeper }
+        ensures keeper { hub.new.keeper ≡ hub.old.keeper }
+        ensures ran { Went parts hub.old hub.new }
     {
         if self.ending().is_none() && self.unheard.extend_from_slice(rest).is_err() {
             self.give_up(hub, Ending::NoMemory);
@@ -415,8 +425,10 @@ impl Peer {
     }
 
     /// Ends it, since its input has ended or its connection is over.
+    #[tactic(auto, using(crate::proofs::HubRuns::went_none))]
     pub fn finish<S: Sink + Drop>(&mut self, hub: &mut Hub<Outlet<S>>)
-        ensures { hub.new.keeper ≡ hub.old.keeper }
+        ensures keeper { hub.new.keeper ≡ hub.old.keeper }
+        ensures ran { Went takes hub.old hub.new }
     {
         if self.ending().is_some() {
             return;
@@ -432,13 +444,15 @@ impl Peer {
     }
 
     /// Closes it if it is open, and ends it.
+    #[tactic(auto, using(crate::proofs::HubRuns::went_none))]
     pub fn close<S: Sink + Drop>(
         &mut self,
         hub: &mut Hub<Outlet<S>>,
         watcher: &mut impl Watcher,
         ending: Ending,
     )
-        ensures { hub.new.keeper ≡ hub.old.keeper }
+        ensures keeper { hub.new.keeper ≡ hub.old.keeper }
+        ensures ran { Went tells hub.old hub.new }
     {
         if self.ending().is_some() {
             return;
@@ -447,13 +461,15 @@ impl Peer {
         if let Some(key) = self.key
             && hub.close(key).is_ok()
         {
-            watcher.said(self.at, &CLOSE);
+            watcher.said(self.at, &close_frame());
         }
     }
 
     /// Ends it without a word.
+    #[tactic(auto, using(crate::proofs::HubRuns::went_none))]
     pub fn give_up<S: Sink + Drop>(&mut self, hub: &mut Hub<Outlet<S>>, ending: Ending)
-        ensures { hub.new.keeper ≡ hub.old.keeper }
+        ensures keeper { hub.new.keeper ≡ hub.old.keeper }
+        ensures ran { Went parts hub.old hub.new }
     {
         self.phase = Phase::Ended(ending, self.end());
         self.leave(hub);
@@ -461,6 +477,7 @@ impl Peer {
     }
 
     /// Checks it for time-outs. Returns whether it has something to say, is over, or is to be tried again.
+    #[tactic(auto, using(crate::proofs::HubRuns::went_none, crate::proofs::HubRuns::as_tells))]
     pub fn judge<S: Sink + Drop>(
         &mut self,
         hub: &mut Hub<Outlet<S>>,
@@ -469,7 +486,8 @@ impl Peer {
         idle: u64,
         slow: u64,
     ) -> bool
-        ensures { hub.new.keeper ≡ hub.old.keeper }
+        ensures keeper { hub.new.keeper ≡ hub.old.keeper }
+        ensures ran { Went tells hub.old hub.new }
     {
         if let Some(since) = self.blocked {
             if now.saturating_sub(since) >= slow {
@@ -524,13 +542,15 @@ impl Peer {
     }
 
     /// Sends an empty frame, which says that this side is there [2.4.5]. Returns whether there is one to write.
+    #[tactic(auto, using(crate::proofs::HubRuns::went_none))]
     fn say_beat<S: Sink + Drop>(
         &mut self,
         hub: &mut Hub<Outlet<S>>,
         watcher: &mut impl Watcher,
         now: u64,
     ) -> bool
-        ensures { hub.new.keeper ≡ hub.old.keeper }
+        ensures keeper { hub.new.keeper ≡ hub.old.keeper }
+        ensures ran { Went tells hub.old hub.new }
     {
         let Some(key) = self.key else {
             return false;
@@ -555,8 +575,10 @@ impl Peer {
 
     /// Writes once of what waits for it: what is left of an empty frame, or what the hub lends. Returns how many bytes the
     /// socket took, or `None` if nothing waits.
+    #[tactic(auto, using(crate::proofs::HubRuns::went_none))]
     fn write_once<S: Sink + Drop>(&mut self, hub: &mut Hub<Outlet<S>>) -> io::Result<Option<usize>>
-        ensures { hub.new.keeper ≡ hub.old.keeper }
+        ensures keeper { hub.new.keeper ≡ hub.old.keeper }
+        ensures ran { Went tells hub.old hub.new }
     {
         if self.owed > 0 {
             return Ok(Some(self.write_frame()?));
@@ -582,9 +604,11 @@ impl Peer {
     }
 
     /// Writes what the socket takes of what waits for it, and returns what comes next. The keeper must be settled.
+    #[tactic(auto, using(crate::proofs::HubRuns::went_none))]
     pub fn send<S: Sink + Drop>(&mut self, hub: &mut Hub<Outlet<S>>, now: u64) -> Next
         requires { is_settled hub.old.keeper ≡ true }
-        ensures { hub.new.keeper ≡ hub.old.keeper }
+        ensures keeper { hub.new.keeper ≡ hub.old.keeper }
+        ensures ran { Went tells hub.old hub.new }
     {
         let was_blocked = self.blocked.is_some();
         for _ in 0..u64::MAX {
@@ -621,4 +645,11 @@ fn answers_after<S: Sink + Drop>(hub: &Hub<Outlet<S>>, key: usize, waited: usize
     ensures { result.now ≡ drop waited (answers_of (get hub.now.members key)) }
 {
     hub.answers(key).get(waited..).unwrap_or(&[])
+}
+
+/// Returns the close of this side, as the hub writes it [2.7.9].
+fn close_frame() -> [u8; 12]
+    ensures { result ≡ joined close_call_spoken }
+{
+    [0, 0, 0, 12, 2, 0, 0, 0, 0, 0x53, 0x18, 0x45]
 }

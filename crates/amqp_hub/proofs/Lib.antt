@@ -1,5 +1,6 @@
 mod Asked
 mod Livings
+mod Numbers
 mod Putting
 mod Settling
 mod Turning

@@ -8,6 +8,8 @@ use Rattle.amqp_endpoint.specs.declared.event.End.{End}
 use Rattle.amqp_endpoint.specs.Calls.{open_call_fault}
 use Rattle.amqp_endpoint.specs.Configs.{Configured}
 use Rattle.amqp_endpoint.specs.Connections.{is_dead}
+use Rattle.amqp_endpoint.specs.Steps.{EndpointState}
+use Rattle.amqp_endpoint.specs.declared.event.Outcome.{Outcome}
 use Rattle.amqp_serve.specs.declared.rules.Rule.{Rule}
 use Rattle.amqp_serve.specs.declared.serving.ServeFault.{ServeFault}
 use Rattle.amqp_serve.specs.declared.serving.ServeFault.TheVariants as lost
@@ -15,11 +17,11 @@ use Rattle.amqp_serve.specs.declared.server.Status.{Status}
 use Rattle.amqp_serve.specs.declared.server.Status.TheVariants as status
 use Rattle.amqp_serve.specs.declared.steps.Done.{Done}
 use Rattle.amqp_serve.specs.declared.steps.Stepped.{Stepped}
-use Rattle.amqp_serve.specs.Deeds.{Ends, HasStepped, HasStopped, IsStepped}
+use Rattle.amqp_serve.specs.Deeds.{Ends, HasStepped, HasStopped, IsStepped, IsNotedAs}
 use Rattle.amqp_serve.specs.Kept as kept
 use Rattle.amqp_serve.specs.Lives as lived
 use Rattle.amqp_serve.specs.Lives.{Heard, Life, Parting, ByPeer, BySelf, new_life, starved_on, told_on, ended_on, IsAlone, IsOver, IsOpen, IsNotOpen}
-use Rattle.amqp_serve.specs.Rooms.{answers_room}
+use Rattle.amqp_serve.specs.Rooms.{answers_room, record_room}
 use Rattle.amqp_serve.specs.Servers as server
 use Rattle.amqp_serve.specs.Servers.{ServerState, hears, is_over, status_after}
 use Rattle.amqp_serve.specs.Serving.{moved, recorded}
@@ -30,7 +32,7 @@ use Rattle.amqp_hub.specs.Kept.{written_life, IsSeat}
 -- Known bytes. --------------------------------------------------------------------------------------------------------
 
 -- what was put after these bytes
-appends_to : (e f : Option (List ℕ)) (before w bytes : List ℕ) → e ≡ Some before → f ≡ Some w → Appends e f bytes → w ≡ before ++ bytes
+pub appends_to : (e f : Option (List ℕ)) (before w bytes : List ℕ) → e ≡ Some before → f ≡ Some w → Appends e f bytes → w ≡ before ++ bytes
 appends_to e f before w bytes is was x = subst (λ (o : Option (List ℕ)). Appends (Some before) o bytes) was (subst (λ (o : Option (List ℕ)). Appends o f bytes) is x)
 
 -- Lives. --------------------------------------------------------------------------------------------------------------
@@ -102,7 +104,7 @@ module _ (config : Configured) (go : kept.LifeGoesOn config) where
       notes : noted ≡ recorded step.served.steps
       notes = appends_to h.before.sink h.after.sink [] noted (recorded step.served.steps) h.sink h.noted step.served.recorded
 
-      stepped : kept.IsLife config (lived.heard_on (written_life x.life a.waiting) a.rule bytes more (recorded step.served.steps)) b.server × (length more ≤ answers_room config)
+      stepped : kept.IsLife config (lived.heard_on (written_life x.life a.waiting) a.rule bytes more (recorded step.served.steps)) b.server × (length more ≤ answers_room config) × (length (recorded step.served.steps) ≤ record_room config)
       stepped =
           go.steps (written_life x.life a.waiting) a.server b.server a.rule bytes s.told d h.before h.after (hears_on a may).0 step (h.status ∙ ap (λ (q : Result Done ServeFault). status_after q) done) old.lives
 
@@ -125,6 +127,15 @@ module _ (config : Configured) (go : kept.LifeGoesOn config) where
                 (ap (λ (w : List ℕ). l.noted ++ w) (sym notes)) (omega (arith, stepped.0.due, all_left, length-append b.waiting (server.waiting b.server))))
                 stepped.0;
           }
+
+      -- what it recorded
+      pub noted_so : ((r : Rule) (told : Outcome) (d : Done) (bytes : List ℕ) (old new : EndpointState) (e f : Ends) → (x : HasStepped r told d bytes old new e f) → IsNotedAs told d.receipt (recorded x.served.steps)) →
+          IsNotedAs s.told d.receipt noted × (length noted ≤ record_room config)
+      noted_so law =
+          let long = ap (λ (l : List ℕ). length l) notes in (
+            subst (λ (l : List ℕ). IsNotedAs s.told d.receipt l) (sym notes) (law a.rule s.told d bytes a.server.endpoint b.server.endpoint h.before h.after step),
+            omega (arith, long, stepped.2),
+          )
 
     -- one that was refused memory
     module _ (done : s.done ≡ Err lost.NoMemory) where

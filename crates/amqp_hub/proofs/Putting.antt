@@ -2,58 +2,53 @@
 use Rattle.std.proofs.Common.{◌≡◌, ℕ, zero, suc, arith, inl, inr, true, List, [], ◌∷◌, length, map, take, drop, Option, Some, None, Result, Ok, Err, refl, sym, ap, subst, ◌∙◌, append_assoc}
 use Rattle.std.proofs.Math.Seq.{drop-length, drop-append_seam}
 use Rattle.std.proofs.lemmas.List.{length-map}
-use Rattle.std.specs.Prelude.{◌≢◌, option_map, slice_get, IsOk, IsSome, IfOk}
+use Rattle.std.specs.Prelude.{option_map, slice_get, IsOk, IsSome, IfOk}
 use Rattle.slab.specs.Slab.{Slab, get}
+use Rattle.amqp_endpoint.specs.Steps.{EndpointState}
+use Rattle.amqp_endpoint.specs.declared.event.Event.TheVariants as event
+use Rattle.amqp_endpoint.specs.declared.event.Outcome.{Outcome}
+use Rattle.amqp_endpoint.specs.declared.event.Outcome.TheVariants as outcome
 use Rattle.amqp_serve.specs.declared.serving.ServeFault.{ServeFault}
 use Rattle.amqp_serve.specs.declared.serving.ServeFault.TheVariants as lost
 use Rattle.amqp_serve.specs.declared.steps.Done.{Done}
 use Rattle.amqp_serve.specs.declared.steps.Stepped.{Stepped}
-use Rattle.amqp_serve.specs.Deeds.{Ends, IsStepped}
+use Rattle.amqp_serve.specs.declared.rules.Rule.{Rule}
+use Rattle.amqp_serve.specs.declared.steps.Receipt.{Receipt}
+use Rattle.amqp_serve.specs.declared.steps.Received.{Received}
+use Rattle.amqp_serve.specs.Deeds.{Ends, HasStepped, IsStepped, message_in, IsNoted, IsNotedAs}
 use Rattle.amqp_serve.specs.Servers.{hears, status_after}
-use Rattle.amqp_hub.specs.Keepers.{Entry, one_entry, Given}
+use Rattle.amqp_serve.specs.Serving.{recorded}
+use Rattle.amqp_hub.specs.declared.keeper.Origin.{Origin}
+use Rattle.amqp_hub.specs.Keepers.{Entry, one_entry, Given, origin_told, received_in, origin_of}
 use Rattle.amqp_hub.specs.declared.ledger.Record.{Record}
 use Rattle.amqp_hub.specs.Ledgers.{LedgerState, record_entry, records_of, first_bytes, with_record, with_noted}
 use Rattle.amqp_hub.specs.Members.{MemberState, unsent_of}
-use Rattle.amqp_hub.specs.Turns.{IsGone, IsHeardAt, IsLostAt, HearsBy, HearsTo, GivenBy, IsKeptSo, IsFrontAt, HeardSo, put_by}
+use Rattle.amqp_hub.specs.Turns.{IsGone, IsHeardAt, IsLostAt, HearsBy, HearsTo, IsKeptSo, IsFrontAt, HeardSo, put_by}
+use Rattle.amqp_hub.proofs.Livings.{appends_to}
 use Rattle.amqp_hub.proofs.Turning.{lost_by, heard_due}
 
 -- A keeper. -----------------------------------------------------------------------------------------------------------
 
-module _ {K : Type 0} (accepts : K → ℕ → List ℕ → K → Type 0) where
-  -- nothing was recorded
-  pub given_none : (number : ℕ) (noted : List ℕ) (kept : K) → noted ≡ [] → Given accepts number noted kept kept
-  given_none number noted kept none = subst (λ (l : List ℕ). Given accepts number l kept kept) (sym none) refl
+-- a step that was not done made no record
+pub none_of : (number : ℕ) (x : Stepped) (f : ServeFault) → x.done ≡ Err f → origin_of number x ≡ None
+none_of number x f is = ap (λ (q : Result Done ServeFault). origin_told number (received_in q) x.told) is
 
-  -- something was
-  pub given_some : (number : ℕ) (noted : List ℕ) (kept keeps : K) → noted ≢ [] → accepts kept number noted keeps → Given accepts number noted kept keeps
-  given_some number [] kept keeps some x = absurd (some refl)
-  given_some number (b ∷ bytes) kept keeps some x = x
-
-  -- A step is done, or its result is a fault.
-  pub given_by : (q : Result Done ServeFault) (number : ℕ) (noted : List ℕ) (kept keeps : K) → Given accepts number noted kept keeps → IsOk q → GivenBy accepts q number noted kept keeps
-  given_by (Ok d) number noted kept keeps g is = g
-  given_by (Err f) number noted kept keeps g is = absurd (grind (arith, is))
-
-  pub given_same : (q : Result Done ServeFault) (number : ℕ) (noted : List ℕ) (kept : K) → noted ≡ [] → GivenBy accepts q number noted kept kept
-  given_same (Ok d) number noted kept none = given_none number noted kept none
-  given_same (Err f) number noted kept none = refl
-
-  pub given_fault : (q : Result Done ServeFault) (number : ℕ) (noted : List ℕ) (kept : K) → (IsOk q → ⊥) → GivenBy accepts q number noted kept kept
-  given_fault (Ok d) number noted kept off = absurd (off refl)
-  given_fault (Err f) number noted kept off = refl
+module _ {K : Type 0} (accepts : K → Origin → List ℕ → K → Type 0) where
+  given_fault : (number : ℕ) (x : Stepped) (f : ServeFault) (noted : List ℕ) (kept keeps : K) → x.done ≡ Err f → Given accepts (origin_of number x) noted kept keeps → keeps ≡ kept
+  given_fault number x f noted kept keeps is g = subst (λ (o : Option Origin). Given accepts o noted kept keeps) (none_of number x f is) g
 
   module _ (s m t : Slab MemberState) (key number : ℕ) (piece noted : List ℕ) (x r : Stepped) (kept keeps : K) (numbered : option_map (λ m. m.number) (get s key) ≡ Some number) where
     number_is : (o : Option MemberState) (a : MemberState) → option_map (λ m. m.number) o ≡ Some number → o ≡ Some a → number ≡ a.number
     number_is None a e is = absurd (grind (arith, is))
     number_is (Some b) a e is = grind (arith, e, is)
 
-    -- it was put, if something was recorded
-    put_so : (q : Result Done ServeFault) → HearsBy (status_after q) s m key piece x (Some []) (Some noted) → GivenBy accepts q number noted kept keeps → HearsTo accepts (status_after q) s m key piece x noted kept keeps
-    put_so (Ok d) h g = (h, subst (λ (n : ℕ). Given accepts n noted kept keeps) (number_is (get s key) h.before numbered h.changed.was) g)
-    put_so (Err lost.NoMemory) h g = (h, g)
-    put_so (Err lost.Read) h g = (h, g)
-    put_so (Err lost.Write) h g = (h, g)
-    put_so (Err lost.Sink) h g = (h, g)
+    -- it was put, if the step made a record
+    put_so : (q : Result Done ServeFault) → x.done ≡ q → HearsBy (status_after q) s m key piece x (Some []) (Some noted) → Given accepts (origin_of number x) noted kept keeps → HearsTo accepts (status_after q) s m key piece x noted kept keeps
+    put_so (Ok d) is h g = (h, subst (λ (n : ℕ). Given accepts (origin_of n x) noted kept keeps) (number_is (get s key) h.before numbered h.changed.was) g)
+    put_so (Err lost.NoMemory) is h g = (h, given_fault number x lost.NoMemory noted kept keeps is g)
+    put_so (Err lost.Read) is h g = (h, given_fault number x lost.Read noted kept keeps is g)
+    put_so (Err lost.Write) is h g = (h, given_fault number x lost.Write noted kept keeps is g)
+    put_so (Err lost.Sink) is h g = (h, given_fault number x lost.Sink noted kept keeps is g)
 
     -- or the connection is gone
     gone_so : (q : Result Done ServeFault) → IsOk q → HearsBy (status_after q) s m key piece x (Some []) (Some noted) → IsGone m t key → IsLostAt s t key piece x
@@ -67,7 +62,7 @@ module _ {K : Type 0} (accepts : K → ℕ → List ℕ → K → Type 0) where
         elim k [
           | inl k ↦
               subst (λ (z : Stepped). HearsTo accepts (status_after z.done) s t key piece z noted kept keeps) (sym k.0)
-              (subst (λ (u : Slab MemberState). HearsTo accepts (status_after x.done) s u key piece x noted kept keeps) (sym k.1) (put_so x.done y k.2))
+              (subst (λ (u : Slab MemberState). HearsTo accepts (status_after x.done) s u key piece x noted kept keeps) (sym k.1) (put_so x.done refl y k.2))
           | inr k ↦
               let gone = gone_so x.done k.1 y k.2 in
               subst (λ (z : Stepped). HearsTo accepts (status_after z.done) s t key piece z noted kept keeps) (sym k.0)
@@ -81,19 +76,29 @@ there_after s t key piece x a b (Err f) h = tt
 
 -- A ledger. -----------------------------------------------------------------------------------------------------------
 
-abbrev put : LedgerState → ℕ → List ℕ → LedgerState → Type 0
-put old number bytes new = new ≡ with_record number bytes old
+abbrev put : LedgerState → Origin → List ℕ → LedgerState → Type 0
+put old origin bytes new = new ≡ with_record origin bytes old
 
-noted_so : (number : ℕ) (noted : List ℕ) (old new : LedgerState) → Given put number noted old new → new ≡ with_noted number noted old
-noted_so number [] old new g = g
-noted_so number (b ∷ bytes) old new g = g
+noted_so : (origin : Option Origin) (noted : List ℕ) (old new : LedgerState) → Given put origin noted old new → new ≡ with_noted origin noted old
+noted_so None noted old new g = g
+noted_so (Some origin) noted old new g = g
 
 -- the last record of the ledger, if there is one more
-last_of : (number : ℕ) (noted : List ℕ) (old : LedgerState) → first_bytes (drop (length (records_of old)) (records_of (with_noted number noted old))) ≡ noted
-last_of number [] old = ap (λ (l : List Entry). first_bytes l) (drop-length (records_of old))
-last_of number (b ∷ bytes) old =
-    ap (λ (l : List Entry). first_bytes (drop (length (records_of old)) l)) (sym (append_assoc old.taken old.waiting (one_entry number (b ∷ bytes))))
-    ∙ ap (λ (l : List Entry). first_bytes l) (drop-append_seam (records_of old) (one_entry number (b ∷ bytes)))
+last_of : (origin : Option Origin) (noted : List ℕ) (old : LedgerState) → (origin ≡ None → noted ≡ []) → first_bytes (drop (length (records_of old)) (records_of (with_noted origin noted old))) ≡ noted
+last_of None noted old none = ap (λ (l : List Entry). first_bytes l) (drop-length (records_of old)) ∙ sym (none refl)
+last_of (Some origin) noted old none =
+    ap (λ (l : List Entry). first_bytes (drop (length (records_of old)) l)) (sym (append_assoc old.taken old.waiting (one_entry origin noted)))
+    ∙ ap (λ (l : List Entry). first_bytes l) (drop-append_seam (records_of old) (one_entry origin noted))
+
+-- a step that tells of no message recorded nothing
+pub untold : (number : ℕ) (told : Outcome) (r : Receipt) (noted : List ℕ) → IsNotedAs told r noted → origin_told number (message_in r) told ≡ None → noted ≡ []
+untold number (outcome.Event (event.Ready channel handle)) r noted x none = by (message_in r) refl
+  where
+    by : (o : Option Received) → message_in r ≡ o → noted ≡ []
+    by None e = subst (λ (q : Option Received). IsNoted q channel handle noted) e x
+    by (Some m) e = absurd (grind (arith, none, e))
+untold number (outcome.Event e) r noted x none = x.1
+untold number told r noted x none = x.1
 
 -- the record at this place is the first one from there on
 pub first_at : {A : Type 0} (records : List (Record A)) (i : ℕ) (r : Record A) → slice_get records i ≡ Some r → r.bytes.items ≡ first_bytes (drop i (map record_entry records))
@@ -114,10 +119,16 @@ copied_at (Ok v) items records i r bytes entries at is all x = x ∙ is ∙ firs
 copied_at (Err e) items records i r bytes entries at is all x = tt
 
 module _ (s t : Slab MemberState) (key : ℕ) (piece : List ℕ) (x : Stepped) (noted answer front : List ℕ) (due : ℕ) (old new : LedgerState)
+    (law : (r : Rule) (told : Outcome) (d : Done) (bytes : List ℕ) (old new : EndpointState) (e f : Ends) → (x : HasStepped r told d bytes old new e f) → IsNotedAs told d.receipt (recorded x.served.steps))
     (last : answer ≡ first_bytes (drop (length (records_of old)) (records_of new))) (count : due ≡ length front) (f : IsFrontAt (get t key) front) where
+  -- a step that was not done put nothing
+  unput : (o : Option ℕ) (g : ServeFault) → x.done ≡ Err g → old ≡ put_by o x answer old
+  unput None g e = refl
+  unput (Some n) g e = sym (ap (λ (o : Option Origin). with_noted o answer old) (none_of n x g e))
+
   -- what was put is the answer
-  answered : (number : ℕ) (n : List ℕ) → new ≡ with_noted number n old → answer ≡ n
-  answered number n is = last ∙ ap (λ (l : LedgerState). first_bytes (drop (length (records_of old)) (records_of l))) is ∙ last_of number n old
+  answered : (number : ℕ) (n : List ℕ) → (origin_of number x ≡ None → n ≡ []) → new ≡ with_noted (origin_of number x) n old → answer ≡ n
+  answered number n none is = last ∙ ap (λ (l : LedgerState). first_bytes (drop (length (records_of old)) (records_of l))) is ∙ last_of (origin_of number x) n old none
 
   whole : (y : IsHeardAt s t key piece x (Some []) (Some noted)) → hears (status_after x.done) ≡ true → answer ≡ noted → (z : IsHeardAt s t key piece x (Some []) (Some answer)) × (due ≡ length (unsent_of z.after))
   whole y alive same =
@@ -133,23 +144,32 @@ module _ (s t : Slab MemberState) (key : ℕ) (piece : List ℕ) (x : Stepped) (
       let e : Some noted ≡ Some [] = sym h.noted ∙ ap (λ (q : Ends). q.sink) same ∙ h.sink in
       grind (arith, e)
 
+  -- nor by a step that tells of no message
+  silent : (d : Done) (number : ℕ) (y : IsHeardAt s t key piece x (Some []) (Some noted)) → x.done ≡ Ok d → origin_of number x ≡ None → noted ≡ []
+  silent d number y is none =
+      let h = y.heard in
+      let step = subst (λ (q : Result Done ServeFault). IsStepped y.before.rule (take x.used piece) x.told q y.before.server.endpoint y.after.server.endpoint h.before h.after) is h.stepped in
+      let notes : noted ≡ recorded step.served.steps = appends_to h.before.sink h.after.sink [] noted (recorded step.served.steps) h.sink h.noted step.served.recorded in
+      let told = law y.before.rule x.told d (take x.used piece) y.before.server.endpoint y.after.server.endpoint h.before h.after step in
+      notes ∙ untold number x.told d.receipt (recorded step.served.steps) told (sym (ap (λ (q : Result Done ServeFault). origin_told number (received_in q) x.told) is) ∙ none)
+
   by : (q : Result Done ServeFault) → x.done ≡ q → HearsTo put (status_after q) s t key piece x noted old new →
-      HeardSo (status_after q) s t key piece x due answer × (new ≡ put_by q (option_map (λ m. m.number) (get s key)) answer old)
+      HeardSo (status_after q) s t key piece x due answer × (new ≡ put_by (option_map (λ m. m.number) (get s key)) x answer old)
   by (Ok d) e h =
       let y = h.0 in
       let n = y.before.number in
-      let kept = noted_so n noted old new h.1 in
-      let same = answered n noted kept in (
+      let kept = noted_so (origin_of n x) noted old new h.1 in
+      let same = answered n noted (silent d n y e) kept in (
         whole y (ap (λ (q : Result Done ServeFault). hears (status_after q)) e) same,
-        kept ∙ ap (λ (l : List ℕ). with_noted n l old) (sym same) ∙ ap (λ (o : Option MemberState). put_by (Ok d) (option_map (λ m. m.number) o) answer old) (sym y.changed.was),
+        kept ∙ ap (λ (l : List ℕ). with_noted (origin_of n x) l old) (sym same) ∙ ap (λ (o : Option MemberState). put_by (option_map (λ m. m.number) o) x answer old) (sym y.changed.was),
       )
   by (Err lost.NoMemory) e h =
-      let same = answered 0 [] h.1 ∙ sym (unnoted h.0 e) in
-      (whole h.0 (ap (λ (q : Result Done ServeFault). hears (status_after q)) e) same, h.1)
-  by (Err lost.Read) e h = h
-  by (Err lost.Write) e h = h
-  by (Err lost.Sink) e h = h
+      let same = answered 0 [] (λ _. refl) (h.1 ∙ sym (ap (λ (o : Option Origin). with_noted o [] old) (none_of 0 x lost.NoMemory e))) ∙ sym (unnoted h.0 e) in
+      (whole h.0 (ap (λ (q : Result Done ServeFault). hears (status_after q)) e) same, h.1 ∙ unput (option_map (λ m. m.number) (get s key)) lost.NoMemory e)
+  by (Err lost.Read) e h = (h.0, h.1 ∙ unput (option_map (λ m. m.number) (get s key)) lost.Read e)
+  by (Err lost.Write) e h = (h.0, h.1 ∙ unput (option_map (λ m. m.number) (get s key)) lost.Write e)
+  by (Err lost.Sink) e h = (h.0, h.1 ∙ unput (option_map (λ m. m.number) (get s key)) lost.Sink e)
 
   pub heard_into : HearsTo put (status_after x.done) s t key piece x noted old new →
-      HeardSo (status_after x.done) s t key piece x due answer × (new ≡ put_by x.done (option_map (λ m. m.number) (get s key)) answer old)
+      HeardSo (status_after x.done) s t key piece x due answer × (new ≡ put_by (option_map (λ m. m.number) (get s key)) x answer old)
   heard_into h = by x.done refl h

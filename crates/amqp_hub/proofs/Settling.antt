@@ -1,12 +1,14 @@
 -- A ledger takes the first of the records that wait.
-use Rattle.std.proofs.Common.{◌≡◌, ℕ, ◌+◌, min, arith, inl, inr, Bool, true, false, List, ◌++◌, length, take, drop, Option, Some, refl, sym, ap, subst, ◌∙◌}
+use Rattle.std.proofs.Common.{◌≡◌, ℕ, zero, suc, ◌+◌, min, arith, inl, inr, Bool, true, false, List, [], ◌∷◌, ◌++◌, length, map, take, drop, Option, Some, refl, sym, ap, subst, ◌∙◌}
 use Rattle.std.proofs.Math.Seq.{take-add}
 use Rattle.std.proofs.lemmas.Bool.{eqb-true, cases_lt}
 use Rattle.std.proofs.lemmas.List.{take_all, drop_all, drop-drop}
-use Rattle.std.specs.Prelude.{◌==◌}
+use Rattle.std.proofs.lemmas.List.Sums.{sum_by-cons}
+use Rattle.std.specs.Prelude.{◌==◌, sum_by}
 use Rattle.amqp_hub.specs.declared.keeper.Progress.TheVariants as progress
 use Rattle.amqp_hub.specs.Keepers.{Entry}
-use Rattle.amqp_hub.specs.Ledgers.{LedgerState, settled_on, progress_of}
+use Rattle.amqp_hub.specs.declared.ledger.Record.{Record}
+use Rattle.amqp_hub.specs.Ledgers.{LedgerState, record_entry, settled_on, progress_of}
 
 -- the first `most` of them, or all if they are fewer
 take_min : (most n : ℕ) (l : List Entry) → n ≡ min most (length l) → take n l ≡ take most l
@@ -50,3 +52,15 @@ still_stuck s n well is some = by (length s.waiting == 0) refl
     by : (b : Bool) → (length s.waiting == 0) ≡ b → progress.Stuck ≡ progress_of s
     by true e = absurd (some (is ∙ eqb-true (length s.waiting) 0 e))
     by false e = grind (arith, well, e)
+
+-- The bytes of records are those of their entries.
+entry_bytes : {A : Type 0} (records : List (Record A)) → sum_by (λ e. length e.bytes) (map record_entry records) ≡ sum_by (λ r. length r.bytes.items) records
+entry_bytes [] = refl
+entry_bytes (r ∷ records) =
+    let rest = entry_bytes records in
+    omega (arith, rest, sum_by-cons (λ (e : Entry). length e.bytes) (record_entry r) (map record_entry records), sum_by-cons (λ (x : Record _). length x.bytes.items) r records)
+
+pub waiting_is : {A : Type 0} (taken : ℕ) (records : List (Record A)) → sum_by (λ e. length e.bytes) (drop taken (map record_entry records)) ≡ sum_by (λ r. length r.bytes.items) (drop taken records)
+waiting_is zero records = entry_bytes records
+waiting_is (suc n) [] = refl
+waiting_is (suc n) (r ∷ records) = waiting_is n records

@@ -20,14 +20,15 @@ use Rattle.amqp_serve.specs.declared.steps.Stepped.{Stepped}
 use Rattle.amqp_serve.specs.Kept as kept
 use Rattle.amqp_serve.specs.Lives.{Life, ByPeer, BySelf, IsAlone, IsNotOpen, starved_on, told_on, ended_on}
 use Rattle.amqp_serve.specs.Servers.{hears, is_over, status_after, waiting_by, waiting}
+use Rattle.amqp_hub.specs.declared.turn.Turn as asked
 use Rattle.amqp_hub.specs.declared.fault.HubFault.{HubFault}
 use Rattle.amqp_hub.specs.declared.fault.HubFault.TheVariants as fault
-use Rattle.amqp_hub.specs.Ledgers.{LedgerState, new_ledger, is_settled, is_roomy, progress_of}
+use Rattle.amqp_hub.specs.Ledgers.{LedgerState, waiting_bytes, new_ledger, is_settled, is_roomy, progress_of}
 use Rattle.amqp_hub.specs.Members.{MemberState, unsent_of, answers_most, member_held, fault_of, hear_fault, beat_fault, end_fault, close_fault, IsHeard, IsSame, IsSent, IsFinishedSo, IsClosed}
 use Rattle.amqp_hub.specs.Turns.{Turn, Open, Hear, Hand, Heartbeat, Finish, Close, Remove, Ruled, Settle, Held, Count, Answer, Opened, Heard, Handed, Beat, Ended, Closed, Removed, Changed, Settled, Holds, Counts, Refused}
-use Rattle.amqp_hub.specs.Turns.{Seat, new_seat, went_on, ruled_by, if_seated, heard_on, stepped_on, seated, seat_after, put_by, ledger_behind, ledger_after, open_stepped, open_behind, most_of, IsSilent, IsHearing, MayClose, HandsBy}
+use Rattle.amqp_hub.specs.Turns.{Seat, new_seat, went_on, ruled_by, if_seated, heard_on, stepped_on, seated, seat_after, put_by, ledger_behind, ledger_after, open_stepped, open_behind, most_of, SpeaksOf, IsHearing, MayClose, HandsBy}
 use Rattle.amqp_hub.specs.Turns.{HearRefused, HearRefusedIf, HandRefused, BeatRefused, FinishRefused, CloseRefused, RemoveRefused, Fits, Suits, life_of, AllFit, IsChanged, AreSame, IsHeardAt, IsLostAt, HearsBy, HearRefusedBy, is_lost, IsRuledAt, IsFrontAt, IsLentBy}
-use Rattle.amqp_hub.specs.Turns.{IsDueAt, IsSentAt, SendsAt, IsHandedAt, IsBeatAt, IsEndedAt, IsClosedAt, SameSlot, AreAlike, HeardSo, HandRefusedAt, refusal_at, all_held, TurnDone, LedgerDone}
+use Rattle.amqp_hub.specs.Turns.{IsDueAt, IsSentAt, SendsAt, IsHandedAt, IsBeatAt, IsEndedAt, IsClosedAt, SameSlot, AreAlike, HeardSo, HandRefusedAt, refusal_at, all_held, HubState, turn_of, TurnDone, LedgerDone}
 use Rattle.amqp_hub.proofs.Asked.{rests}
 use Rattle.amqp_hub.specs.Kept.{IsSeat, IsSeated, AreSeated, SeatGoesOn, SeatIsAlone}
 
@@ -172,6 +173,14 @@ lost_by s m q t same key piece x kept keeps h u count =
       hears = h.hears;
       bound = h.heard.bound;
     }
+
+-- any other goes on
+pub goes_on : (q : Result Done ServeFault) → is_lost q ≡ false → hears (status_after q) ≡ true
+goes_on (Ok d) is = refl
+goes_on (Err lost.NoMemory) is = refl
+goes_on (Err lost.Read) is = absurd (grind (arith, is))
+goes_on (Err lost.Write) is = absurd (grind (arith, is))
+goes_on (Err lost.Sink) is = absurd (grind (arith, is))
 
 pub loses_by : (s m q t : Slab MemberState) (same : q ≡ m) (key : ℕ) (piece : List ℕ) (x : Stepped) (kept keeps : Option (List ℕ)) (y : Result Done ServeFault) → hears (status_after y) ≡ false →
     IsHeardAt s m key piece x kept keeps → Updates q t key None → slab_len t + 1 ≡ slab_len q → HearsBy (status_after y) s t key piece x kept keeps
@@ -526,7 +535,7 @@ module _ (r : Rule) (config : Configured) (limit : ℕ) (go : SeatGoesOn config)
       let y = x.0 in
       let bytes = take s.used piece in
       let on : (l : Seat) → IsSeat config l y.before → IsSeat config (heard_on l bytes due noted) y.after =
-      λ l has. subst (λ (n : ℕ). IsSeat config (heard_on l bytes n noted) y.after) (sym x.1) (go.hears l y.before y.after piece s d noted y.hears y.heard is has) in
+      λ l has. subst (λ (n : ℕ). IsSeat config (heard_on l bytes n noted) y.after) (sym x.1) (go.hears l y.before y.after piece s d noted y.hears y.heard is has).0 in
       changed old new k y.before y.after seats (λ l. heard_on l bytes due noted) y.changed on all
   heard old new k piece s due noted seats (Err lost.NoMemory) is x all =
       let y = x.0 in
@@ -602,20 +611,15 @@ module _ (r : Rule) (config : Configured) (limit : ℕ) (go : SeatGoesOn config)
   counts place ledger old new t a x = absurd (grind (arith, x))
 
   -- What the turns say of the ledger.
-  put_at : (old new : Slab MemberState) (k : ℕ) (piece : List ℕ) (s : Stepped) (due : ℕ) (noted : List ℕ) (seats : ℕ → Option Seat) (ledger : LedgerState) (q : Result Done ServeFault) →
-      HeardSo (status_after q) old new k piece s due noted → AreSeated config old seats → put_by q (option_map (λ m. m.number) (get old k)) noted ledger ≡ put_by q (option_map (λ x. x.number) (seats k)) noted ledger
-  put_at old new k piece s due noted seats ledger (Ok d) x all = ap (λ (o : Option ℕ). put_by (Ok d) o noted ledger) (number_is (get old k) (seats k) (all k))
-    where
-      number_is : (o : Option MemberState) (x : Option Seat) → IsSeated config o x → option_map (λ m. m.number) o ≡ option_map (λ y. y.number) x
-      number_is None None y = refl
-      number_is (Some m) (Some l) y = ap (λ (n : ℕ). Some n) y.number
-      number_is None (Some l) y = absurd y
-      number_is (Some m) None y = absurd y
-  put_at old new k piece s due noted seats ledger (Err f) x all = refl
+  number_is : (o : Option MemberState) (x : Option Seat) → IsSeated config o x → option_map (λ m. m.number) o ≡ option_map (λ y. y.number) x
+  number_is None None y = refl
+  number_is (Some m) (Some l) y = ap (λ (n : ℕ). Some n) y.number
+  number_is None (Some l) y = absurd y
+  number_is (Some m) None y = absurd y
 
   pub keeps_ledger : (place : ℕ) (p q : LedgerState) (old new : Slab MemberState) (t : Turn) (a : Answer) (seats : ℕ → Option Seat) → TurnDone r config limit place p old new t a →
       LedgerDone (λ key. get old key) t a p q → AreSeated config old seats → q ≡ ledger_behind seats t a p
-  keeps_ledger place p q old new (Hear k piece) (Heard s due noted) seats x y all = y.1 ∙ put_at old new k piece s due noted seats p s.done x all
+  keeps_ledger place p q old new (Hear k piece) (Heard s due noted) seats x y all = y.1 ∙ ap (λ (o : Option ℕ). put_by o s noted p) (number_is (get old k) (seats k) (all k))
   keeps_ledger place p q old new (Settle most) (Settled z) seats x y all = y.0
   keeps_ledger place p q old new t a seats x y all = grind (arith, y)
 
@@ -648,14 +652,18 @@ module _ (r : Rule) (config : Configured) (limit : ℕ) (go : SeatGoesOn config)
 
     -- serving broke off
     lost_heard : (old : Slab MemberState) (k : ℕ) (piece : List ℕ) (s : Stepped) (due : ℕ) (noted : List ℕ) (seats : ℕ → Option Seat) (f : ServeFault) (m : MemberState) → get old k ≡ Some m → hear_fault m ≡ None →
-        s.used ≤ length piece → (f ≡ lost.NoMemory → ⊥) → AreSeated config old seats → IsSomeAnd (life_of (seats k)) (λ l. IsHearing l × IsSilent (Err f) l due noted) × (s.used ≤ length piece)
+        s.used ≤ length piece → (f ≡ lost.NoMemory → ⊥) → AreSeated config old seats → IsSomeAnd (life_of (seats k)) (λ l. IsHearing l × SpeaksOf config s.told (Err f) l due noted) × (s.used ≤ length piece)
     lost_heard old k piece s due noted seats f m was hears bound other all =
         (of_life (λ l. IsHearing l × (f ≡ lost.NoMemory → (due ≡ l.due) × (noted ≡ []))) old k m seats was all (λ x has. (hears_so config law x m has hears, λ e. absurd (other e))), bound)
 
     fits_heard : (old new : Slab MemberState) (k : ℕ) (piece : List ℕ) (s : Stepped) (due : ℕ) (noted : List ℕ) (seats : ℕ → Option Seat) (q : Result Done ServeFault) → s.done ≡ q →
-        HeardSo (status_after q) old new k piece s due noted → AreSeated config old seats → IsSomeAnd (life_of (seats k)) (λ l. IsHearing l × IsSilent q l due noted) × (s.used ≤ length piece)
+        HeardSo (status_after q) old new k piece s due noted → AreSeated config old seats → IsSomeAnd (life_of (seats k)) (λ l. IsHearing l × SpeaksOf config s.told q l due noted) × (s.used ≤ length piece)
     fits_heard old new k piece s due noted seats (Ok d) is x all =
-        let y = x.0 in (of_life (λ l. IsHearing l × Unit {0}) old k y.before seats y.changed.was all (λ l has. (hears_so config law l y.before has y.hears, tt)), y.heard.bound)
+        let y = x.0 in (
+          of_life (λ l. IsHearing l × SpeaksOf config s.told (Ok d) l due noted) old k y.before seats y.changed.was all
+              (λ l has. let z = go.hears l y.before y.after piece s d noted y.hears y.heard is has in (hears_so config law l y.before has y.hears, (z.1, z.2))),
+          y.heard.bound,
+        )
     fits_heard old new k piece s due noted seats (Err lost.NoMemory) is x all =
         let y = x.0 in (
           of_life (λ l. IsHearing l × (lost.NoMemory ≡ lost.NoMemory → (due ≡ l.due) × (noted ≡ []))) old k y.before seats y.changed.was all
@@ -706,10 +714,10 @@ module _ (r : Rule) (config : Configured) (limit : ℕ) (go : SeatGoesOn config)
     fits place ledger old new (Ruled k rule) Changed seats x all = of_life (λ l. Unit {0}) old k x.before seats x.changed.was all (λ l has. tt)
     fits place ledger old new (Ruled k rule) (Refused f) seats x all = removed_not f old k seats x.1 x.2 all
     fits place ledger old new (Settle most) (Settled p) seats x all = tt
-    fits place ledger old new Held (Holds n) seats x all = let held = all_most old seats all in subst (λ (k : ℕ). k ≤ slab_len old * most_of config) (sym x.1) (min_most (all_held old) held)
+    fits place ledger old new Held (Holds n) seats x all = let held = all_most old seats all in subst (λ (k : ℕ). k ≤ slab_len old * most_of config + waiting_bytes ledger) (sym x.1) (min_most (all_held old) (waiting_bytes ledger) held)
       where
-        min_most : (h : ℕ) → h ≤ slab_len old * most_of config → min h (2 ^ 64 - 1) ≤ slab_len old * most_of config
-        min_most h le = omega (arith, le)
+        min_most : (h w : ℕ) → h ≤ slab_len old * most_of config → min (h + w) (2 ^ 64 - 1) ≤ slab_len old * most_of config + w
+        min_most h w le = omega (arith, le)
     fits place ledger old new Count (Counts n) seats x all = x.1
     fits place ledger old new t a seats x all = absurd (grind (arith, x))
 
@@ -836,3 +844,8 @@ module _ (r : Rule) (config : Configured) (limit room : ℕ) (go : SeatGoesOn co
       let more = one_more (map f (take i xs)) (map v before) (f (get_or xs i d)) (v a) old new p q (turns ∙ sym answers) x here kept in
       subst (λ (ts : List Turn). IsSoFar r config limit room ts (map v after) new q) (sym (map_more f xs i d l))
       (subst (λ (told : List Answer). IsSoFar r config limit room (map f (take i xs) ++ f (get_or xs i d) ∷ []) told new q) (sym (ap (λ w. map v w) e ∙ map-append v before (a ∷ []))) more)
+
+-- What a turn of any settings does is what the turn that was matched does.
+pub of_turn : (r : Rule) (config : Configured) (number : ℕ) (old new : HubState LedgerState) (t u : asked.Turn) (a : Answer) → t ≡ u →
+    ((r : Rule) (config : Configured) (n : ℕ) → TurnDone r config old.limit n old.keeper old.members new.members (turn_of u) a) → TurnDone r config old.limit number old.keeper old.members new.members (turn_of t) a
+of_turn r config number old new t u a is done = subst (λ (x : asked.Turn). TurnDone r config old.limit number old.keeper old.members new.members (turn_of x) a) (sym is) (done r config number)

@@ -1,15 +1,38 @@
 -- What a keeper of records was given, and what it has taken for good.
-use Rattle.std.specs.Prelude.{◌≡◌, ◌↔◌, ℕ, Bool, true, List, [], ◌∷◌, ◌++◌, Option, option_map}
+use Rattle.std.specs.Prelude.{◌≡◌, ◌↔◌, ℕ, Bool, true, List, [], ◌∷◌, ◌++◌, Option, Some, None, option_map, Result, Ok, Err}
+use Rattle.amqp_endpoint.specs.declared.event.Event.TheVariants as event
+use Rattle.amqp_endpoint.specs.declared.event.Outcome.{Outcome}
+use Rattle.amqp_endpoint.specs.declared.event.Outcome.TheVariants as outcome
+use Rattle.amqp_serve.specs.declared.serving.ServeFault.{ServeFault}
+use Rattle.amqp_serve.specs.declared.steps.Done.{Done}
+use Rattle.amqp_serve.specs.declared.steps.Received.{Received}
+use Rattle.amqp_serve.specs.declared.steps.Stepped.{Stepped}
+use Rattle.amqp_serve.specs.Deeds.{message_in}
+use Rattle.amqp_hub.specs.declared.keeper.Origin.{Origin}
 use Rattle.amqp_hub.specs.declared.keeper.Progress.{Progress}
 use Rattle.amqp_hub.specs.declared.keeper.Progress.TheVariants as progress
 
--- a record of the connection of this number
+-- a record, and where it came from
 pub record Entry : Type 0 where
-  pub number : ℕ
+  pub origin : Origin
   pub bytes : List ℕ
 
-abbrev pub one_entry : ℕ → List ℕ → List Entry
-one_entry number bytes = record { number = number; bytes = bytes } ∷ []
+abbrev pub one_entry : Origin → List ℕ → List Entry
+one_entry origin bytes = record { origin = origin; bytes = bytes } ∷ []
+
+-- Where the record of a step came from: the connection of this number, the link on which the step tells that a message is ready, and the message that its receipt tells of [2.6.14]. A step that tells of
+-- no message made no record.
+abbrev pub origin_told : ℕ → Option Received → Outcome → Option Origin
+origin_told number None told = None
+origin_told number (Some m) (outcome.Event (event.Ready channel handle)) = Some (record { number = number; channel = channel; handle = handle; delivery_tag = m.delivery_tag })
+origin_told number (Some m) told = None
+
+abbrev pub received_in : Result Done ServeFault → Option Received
+received_in (Ok d) = message_in d.receipt
+received_in (Err f) = None
+
+abbrev pub origin_of : ℕ → Stepped → Option Origin
+origin_of number s = origin_told number (received_in s.done) s.told
 
 -- these after those that were there
 abbrev pub with_entries : List Entry → Option (List Entry) → Option (List Entry)
@@ -31,7 +54,7 @@ pub record HasCome (p : Progress) (puts put taken took : Option (List Entry)) (d
   pub out : p ≡ progress.Out → done ≡ true
   pub failed : (p ≡ progress.Failed) ↔ (broken ≡ true)
 
--- What a step recorded is given to it, if it recorded something.
-abbrev pub Given : {K : Type 0} → (K → ℕ → List ℕ → K → Type 0) → ℕ → List ℕ → K → K → Type 0
-Given accepts number [] old new = new ≡ old
-Given accepts number (b ∷ bytes) old new = accepts old number (b ∷ bytes) new
+-- What a step recorded is given to it, if it made a record.
+abbrev pub Given : {K : Type 0} → (K → Origin → List ℕ → K → Type 0) → Option Origin → List ℕ → K → K → Type 0
+Given accepts None noted old new = new ≡ old
+Given accepts (Some origin) noted old new = accepts old origin noted new

@@ -11,7 +11,8 @@ use Rattle.amqp_serve.specs.declared.steps.Done.{Done}
 use Rattle.amqp_serve.specs.declared.steps.Stepped.{Stepped}
 use Rattle.amqp_serve.specs.Kept as kept
 use Rattle.amqp_serve.specs.Lives.{Life, ByPeer, BySelf, starved_on, told_on, ended_on, IsAlone, IsOver, IsOpen, IsNotOpen}
-use Rattle.amqp_serve.specs.Rooms.{answers_room}
+use Rattle.amqp_serve.specs.Deeds.{IsNotedAs}
+use Rattle.amqp_serve.specs.Rooms.{answers_room, record_room}
 use Rattle.amqp_serve.specs.Servers.{is_over}
 use Rattle.slab.specs.Slab.{Slab, get}
 use Rattle.amqp_hub.specs.Members.{MemberState, unsent_of, answers_most, hear_fault, IsNew, IsHeard, IsSame, IsSent, IsFinishedSo, IsClosed}
@@ -47,7 +48,7 @@ AreSeated config s seats = (key : ℕ) → IsSeated config (get s key) (seats ke
 pub record SeatGoesOn (config : Configured) : Type 0 where
   pub starts : (r : Rule) (number : ℕ) (m : MemberState) → IsNew config r number m → IsSeat config (new_seat r number) m
   pub hears : (x : Seat) (a b : MemberState) (piece : List ℕ) (s : Stepped) (d : Done) (noted : List ℕ) → hear_fault a ≡ None → IsHeard a b piece s (Some []) (Some noted) → s.done ≡ Ok d → IsSeat config x a →
-      IsSeat config (heard_on x (take s.used piece) (length (unsent_of b)) noted) b
+      IsSeat config (heard_on x (take s.used piece) (length (unsent_of b)) noted) b × IsNotedAs s.told d.receipt noted × (length noted ≤ record_room config)
   pub starves : (x : Seat) (a b : MemberState) (piece : List ℕ) (s : Stepped) (noted : List ℕ) → hear_fault a ≡ None → IsHeard a b piece s (Some []) (Some noted) → s.done ≡ Err lost.NoMemory → IsSeat config x a →
       IsSeat config (went_on (λ l. starved_on l (take s.used piece)) x) b × (length (unsent_of b) ≡ x.life.due) × (noted ≡ [])
   pub hands : (x : Seat) (a b : MemberState) (bytes : List ℕ) → IsSent a b (length bytes) → bytes ≡ take (length bytes) (unsent_of a) → IsSeat config x a → IsSeat config (went_on (λ l. told_on l bytes) x) b

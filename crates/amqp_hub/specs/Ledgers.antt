@@ -1,12 +1,14 @@
 -- A keeper in memory.
-use Rattle.std.specs.Prelude.{ℕ, ◌-◌, ◌^◌, ◌==◌, ◌&&◌, nat_lt, not, Bool, true, false, if◌then◌else◌, List, [], ◌∷◌, ◌++◌, length, take, drop, Option, Some, None}
+use Rattle.std.specs.Prelude.{ℕ, ◌-◌, ◌^◌, ◌==◌, ◌&&◌, nat_eq, nat_lt, not, Bool, true, false, if◌then◌else◌, List, [], ◌∷◌, ◌++◌, length, take, drop, filter, sum_by, Option, Some, None}
+use Rattle.std.specs.List.{flat_map}
 use Rattle.amqp_hub.specs.Keepers.{Entry, one_entry}
+use Rattle.amqp_hub.specs.declared.keeper.Origin.{Origin}
 use Rattle.amqp_hub.specs.declared.ledger.Record.{Record}
 use Rattle.amqp_hub.specs.declared.keeper.Progress.{Progress}
 use Rattle.amqp_hub.specs.declared.keeper.Progress.TheVariants as progress
 
 abbrev pub record_entry : {A : Type 0} → Record A → Entry
-record_entry r = record { number = r.number; bytes = r.bytes.items }
+record_entry r = record { origin = r.origin; bytes = r.bytes.items }
 
 -- The records that it has taken for good, and those that wait, each oldest first; how many may wait; how many it takes for good at the next settling (at `None` it fails then);
 -- and whether it has failed.
@@ -25,6 +27,14 @@ new_ledger room = record { taken = []; waiting = []; room = room; takes = Some (
 abbrev pub records_of : LedgerState → List Entry
 records_of l = l.taken ++ l.waiting
 
+-- a record was put under this number
+abbrev pub is_of : ℕ → Entry → Bool
+is_of number e = nat_eq e.origin.number number
+
+-- the bytes of all records that were put under a number
+abbrev pub records_under : ℕ → LedgerState → List ℕ
+records_under number l = flat_map (λ e. e.bytes) (filter (is_of number) (records_of l))
+
 -- the bytes of the first record of these, none if there is none
 abbrev pub first_bytes : List Entry → List ℕ
 first_bytes [] = []
@@ -42,13 +52,17 @@ abbrev pub will_take : Option ℕ → LedgerState → LedgerState
 will_take most l = record l { takes = most }
 
 -- one record more
-abbrev pub with_record : ℕ → List ℕ → LedgerState → LedgerState
-with_record number bytes l = record l { waiting = l.waiting ++ one_entry number bytes }
+abbrev pub with_record : Origin → List ℕ → LedgerState → LedgerState
+with_record origin bytes l = record l { waiting = l.waiting ++ one_entry origin bytes }
 
--- what a step recorded, if it recorded something
-abbrev pub with_noted : ℕ → List ℕ → LedgerState → LedgerState
-with_noted number [] l = l
-with_noted number (b ∷ bytes) l = with_record number (b ∷ bytes) l
+-- what a step recorded, if it made a record
+abbrev pub with_noted : Option Origin → List ℕ → LedgerState → LedgerState
+with_noted None noted l = l
+with_noted (Some origin) noted l = with_record origin noted l
+
+-- how many bytes of records it has not taken for good
+abbrev pub waiting_bytes : LedgerState → ℕ
+waiting_bytes l = sum_by (λ e. length e.bytes) l.waiting
 
 -- after a settling that may take so many
 abbrev pub settled_by : Option ℕ → LedgerState → LedgerState

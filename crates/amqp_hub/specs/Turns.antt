@@ -2,6 +2,7 @@
 use Rattle.std.specs.Prelude.{◌≡◌, ◌⊎◌, ℕ, ◌+◌, ◌-◌, ◌*◌, ◌^◌, ◌<◌, ◌≤◌, min, nat_eq, Bool, true, false, if◌then◌else◌, List, [], ◌∷◌, ◌++◌, length, take, Option, Some, None, option_map, IsSomeAnd, Result, Ok, Err, IsOk, sum_by}
 use Rattle.slab.specs.Slab.{Slab, get, slab_len, entries, Updates, SameValues}
 use Rattle.amqp_endpoint.specs.declared.event.End as of_end
+use Rattle.amqp_endpoint.specs.declared.event.Outcome.{Outcome}
 use Rattle.amqp_endpoint.specs.Calls.{heartbeat}
 use Rattle.amqp_endpoint.specs.Configs.{Configured}
 use Rattle.amqp_endpoint.specs.Uses.{held_by_any}
@@ -10,7 +11,8 @@ use Rattle.amqp_serve.specs.declared.serving.ServeFault.{ServeFault}
 use Rattle.amqp_serve.specs.declared.serving.ServeFault.TheVariants as lost
 use Rattle.amqp_serve.specs.declared.steps.Done.{Done}
 use Rattle.amqp_serve.specs.declared.steps.Stepped.{Stepped}
-use Rattle.amqp_serve.specs.Rooms.{answers_room}
+use Rattle.amqp_serve.specs.Deeds.{IsNotedAs}
+use Rattle.amqp_serve.specs.Rooms.{answers_room, record_room}
 use Rattle.amqp_hub.specs.declared.fault.HubFault.{HubFault}
 use Rattle.amqp_hub.specs.declared.fault.HubFault.TheVariants as fault
 use Rattle.amqp_serve.specs.declared.server.Status.{Status}
@@ -21,8 +23,9 @@ use Rattle.amqp_hub.specs.declared.turn.Turn.TheVariants as turn
 use Rattle.amqp_hub.specs.declared.turn.TurnAnswer as given
 use Rattle.amqp_hub.specs.declared.turn.TurnAnswer.TheVariants as answer
 use Rattle.amqp_hub.specs.declared.keeper.Progress.{Progress}
-use Rattle.amqp_hub.specs.Keepers.{Given}
-use Rattle.amqp_hub.specs.Ledgers.{LedgerState, with_noted, is_settled, is_roomy, settled_after, progress_of}
+use Rattle.amqp_hub.specs.declared.keeper.Origin.{Origin}
+use Rattle.amqp_hub.specs.Keepers.{Given, origin_of}
+use Rattle.amqp_hub.specs.Ledgers.{LedgerState, with_noted, waiting_bytes, is_settled, is_roomy, settled_after, progress_of}
 use Rattle.amqp_serve.specs.Lives as lived
 use Rattle.amqp_serve.specs.Lives.{Life, ByPeer, BySelf, IsOver, IsOpen, IsNotOpen, new_life, starved_on, told_on, ended_on}
 use Rattle.amqp_hub.specs.Members.{MemberState, unsent_of, answers_most, member_held, hear_fault, beat_fault, end_fault, close_fault, IsNew, IsHeard, IsSame, IsSent, IsFinishedSo, IsClosed}
@@ -135,14 +138,13 @@ seat_after r place key turns answers seat = seat
 -- What turns say of the ledger. ---------------------------------------------------------------------------------------
 
 -- what a step recorded of a connection is put under its number
-abbrev pub put_by : Result Done ServeFault → Option ℕ → List ℕ → LedgerState → LedgerState
-put_by (Ok d) (Some number) noted l = with_noted number noted l
-put_by (Ok d) None noted l = l
-put_by (Err f) number noted l = l
+abbrev pub put_by : Option ℕ → Stepped → List ℕ → LedgerState → LedgerState
+put_by (Some number) s noted l = with_noted (origin_of number s) noted l
+put_by None s noted l = l
 
 -- after one turn, before which these were the connections
 abbrev pub ledger_behind : (ℕ → Option Seat) → Turn → Answer → LedgerState → LedgerState
-ledger_behind seats (Hear k piece) (Heard s due noted) l = put_by s.done (option_map (λ x. x.number) (seats k)) noted l
+ledger_behind seats (Hear k piece) (Heard s due noted) l = put_by (option_map (λ x. x.number) (seats k)) s noted l
 ledger_behind seats (Settle most) (Settled p) l = settled_after most l
 ledger_behind seats t a l = l
 
@@ -173,10 +175,10 @@ open_behind a n = n
 abbrev pub most_of : Configured → ℕ
 most_of config = held_by_any config + answers_most + answers_room config
 
--- a step that was refused memory leaves nothing more for the peer, and nothing recorded
-abbrev pub IsSilent : Result Done ServeFault → Life → ℕ → List ℕ → Type 0
-IsSilent (Ok d) l due noted = Unit {0}
-IsSilent (Err f) l due noted = f ≡ lost.NoMemory → (due ≡ l.due) × (noted ≡ [])
+-- A step that was done recorded the message that it tells of, at most so many bytes. One that was refused memory leaves nothing more for the peer, and nothing recorded.
+abbrev pub SpeaksOf : Configured → Outcome → Result Done ServeFault → Life → ℕ → List ℕ → Type 0
+SpeaksOf config told (Ok d) l due noted = IsNotedAs told d.receipt noted × (length noted ≤ record_room config)
+SpeaksOf config told (Err f) l due noted = f ≡ lost.NoMemory → (due ≡ l.due) × (noted ≡ [])
 
 -- It hears: it has not ended, and not too much waits for its peer.
 pub record IsHearing (l : Life) : Type 0 where
@@ -244,7 +246,7 @@ OpenRefused limit n f = ⊥
 abbrev pub Fits : Configured → ℕ → ℕ → LedgerState → (ℕ → Option Life) → Turn → Answer → Type 0
 Fits config limit n ledger life Open (Opened k) = (n < limit) × (life k ≡ None)
 Fits config limit n ledger life Open (Refused f) = OpenRefused limit n f
-Fits config limit n ledger life (Hear k piece) (Heard s due noted) = IsSomeAnd (life k) (λ l. IsHearing l × IsSilent s.done l due noted) × (s.used ≤ length piece)
+Fits config limit n ledger life (Hear k piece) (Heard s due noted) = IsSomeAnd (life k) (λ l. IsHearing l × SpeaksOf config s.told s.done l due noted) × (s.used ≤ length piece)
 Fits config limit n ledger life (Hear k piece) (Refused f) = HearRefusedIf (is_roomy ledger) config f (life k)
 Fits config limit n ledger life (Hand k room) (Handed bytes) = IsSomeAnd (life k) (HandsBy (is_settled ledger) room bytes)
 Fits config limit n ledger life (Hand k room) (Refused f) = HandRefused f (life k)
@@ -259,7 +261,7 @@ Fits config limit n ledger life (Remove k) (Refused f) = RemoveRefused f (life k
 Fits config limit n ledger life (Ruled k rule) Changed = IsSomeAnd (life k) (λ l. Unit {0})
 Fits config limit n ledger life (Ruled k rule) (Refused f) = RemoveRefused f (life k)
 Fits config limit n ledger life (Settle most) (Settled p) = Unit {0}
-Fits config limit n ledger life Held (Holds held) = held ≤ n * most_of config
+Fits config limit n ledger life Held (Holds held) = held ≤ n * most_of config + waiting_bytes ledger
 Fits config limit n ledger life Count (Counts count) = count ≡ n
 Fits config limit n ledger life t a = ⊥
 
@@ -348,21 +350,16 @@ HearsBy status.Ended old new key piece s kept keeps = ⊥
 HearsBy (status.Lost f) old new key piece s kept keeps = IsLostAt old new key piece s
 
 -- It made a step, and what that recorded was put under its number. If serving broke off, or the record could not be put, it is gone, and nothing was put.
-abbrev pub HearsTo : {K : Type 0} → (K → ℕ → List ℕ → K → Type 0) → Status → Slab MemberState → Slab MemberState → ℕ → List ℕ → Stepped → List ℕ → K → K → Type 0
-HearsTo accepts status.Serving old new key piece s noted kept keeps = (x : IsHeardAt old new key piece s (Some []) (Some noted)) × Given accepts x.before.number noted kept keeps
+abbrev pub HearsTo : {K : Type 0} → (K → Origin → List ℕ → K → Type 0) → Status → Slab MemberState → Slab MemberState → ℕ → List ℕ → Stepped → List ℕ → K → K → Type 0
+HearsTo accepts status.Serving old new key piece s noted kept keeps = (x : IsHeardAt old new key piece s (Some []) (Some noted)) × Given accepts (origin_of x.before.number s) noted kept keeps
 HearsTo accepts status.Starved old new key piece s noted kept keeps = IsHeardAt old new key piece s (Some []) (Some noted) × (keeps ≡ kept)
 HearsTo accepts status.Ended old new key piece s noted kept keeps = ⊥
 HearsTo accepts (status.Lost f) old new key piece s noted kept keeps = IsLostAt old new key piece s × (keeps ≡ kept)
 
--- what a step that was done recorded is given to the keeper, if it recorded something
-abbrev pub GivenBy : {K : Type 0} → (K → ℕ → List ℕ → K → Type 0) → Result Done ServeFault → ℕ → List ℕ → K → K → Type 0
-GivenBy accepts (Ok d) number noted kept keeps = Given accepts number noted kept keeps
-GivenBy accepts (Err f) number noted kept keeps = keeps ≡ kept
-
 -- What a step recorded was put, and the step is as it was. Or memory for that was refused: then nothing was put, the connection is gone, and the step resulted in `Sink`.
-abbrev pub IsKeptSo : {K : Type 0} → (K → ℕ → List ℕ → K → Type 0) → ℕ → List ℕ → Slab MemberState → Slab MemberState → ℕ → Stepped → Stepped → K → K → Type 0
+abbrev pub IsKeptSo : {K : Type 0} → (K → Origin → List ℕ → K → Type 0) → ℕ → List ℕ → Slab MemberState → Slab MemberState → ℕ → Stepped → Stepped → K → K → Type 0
 IsKeptSo accepts number noted old new key s r kept keeps =
-    ((r ≡ s) × (new ≡ old) × GivenBy accepts s.done number noted kept keeps) ⊎ ((r ≡ record s { done = Err lost.Sink }) × IsOk s.done × IsGone old new key × (keeps ≡ kept))
+    ((r ≡ s) × (new ≡ old) × Given accepts (origin_of number s) noted kept keeps) ⊎ ((r ≡ record s { done = Err lost.Sink }) × IsOk s.done × IsGone old new key × (keeps ≡ kept))
 
 -- nothing is heard without room for a record
 abbrev pub HearRefusedBy : Bool → Option HubFault → HubFault → Type 0
@@ -492,12 +489,12 @@ TurnDone r config limit number ledger old new (Remove key) (Refused f) = AreSame
 TurnDone r config limit number ledger old new (Ruled key rule) Changed = IsRuledAt old new key rule
 TurnDone r config limit number ledger old new (Ruled key rule) (Refused f) = AreSame old new × (get old key ≡ None) × (f ≡ fault.NoKey)
 TurnDone r config limit number ledger old new (Settle most) (Settled p) = AreSame old new
-TurnDone r config limit number ledger old new Held (Holds n) = AreSame old new × (n ≡ min (all_held old) (2 ^ 64 - 1))
+TurnDone r config limit number ledger old new Held (Holds n) = AreSame old new × (n ≡ min (all_held old + waiting_bytes ledger) (2 ^ 64 - 1))
 TurnDone r config limit number ledger old new Count (Counts n) = AreSame old new × (n ≡ slab_len old)
 TurnDone r config limit number ledger old new t a = ⊥
 
 -- and what it does to the ledger
 abbrev pub LedgerDone : (ℕ → Option MemberState) → Turn → Answer → LedgerState → LedgerState → Type 0
-LedgerDone there (Hear key piece) (Heard s due noted) old new = (is_roomy old ≡ true) × (new ≡ put_by s.done (option_map (λ m. m.number) (there key)) noted old)
+LedgerDone there (Hear key piece) (Heard s due noted) old new = (is_roomy old ≡ true) × (new ≡ put_by (option_map (λ m. m.number) (there key)) s noted old)
 LedgerDone there (Settle most) (Settled p) old new = (new ≡ settled_after most old) × (p ≡ progress_of new)
 LedgerDone there t a old new = new ≡ old

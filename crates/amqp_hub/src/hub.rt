@@ -1,6 +1,7 @@
 //! The hub: servers under keys, and one keeper of their records.
-ghost use Rattle.std.specs.Prelude.{◌≡◌, ◌↔◌, ◌<◌, ◌^◌, ◌-◌, [], ℕ, List, true, false, min, IsTrue, IsSome, None, Some, IfOk, IfErr, OnOk, option_map};
+ghost use Rattle.std.specs.Prelude.{◌≡◌, ◌↔◌, ◌<◌, ◌+◌, ◌^◌, ◌-◌, [], ℕ, List, true, false, min, IsTrue, IsSome, None, Some, IfOk, IfErr, OnOk, option_map};
 ghost use Rattle.amqp_endpoint.specs.Calls.{heartbeat};
+ghost use Rattle.amqp_hub.specs.Keepers.{origin_of};
 ghost use Rattle.amqp_hub.specs.Ledgers.{will_take};
 ghost use Rattle.amqp_serve.specs.Servers.{status_after};
 ghost use Rattle.amqp_hub.specs.Members.{hear_fault, beat_fault, end_fault, close_fault};
@@ -9,12 +10,12 @@ ghost use Rattle.slab.specs.Slab.{get, slab_len};
 ghost use Rattle.std.specs.Option.{option_copied};
 
 use crate::HubFault;
-use crate::keeper::{Keeper, Progress};
+use crate::keeper::{Keeper, Origin, Progress};
 use crate::ledger::Ledger;
-use crate::servers::{Servers, is_lost};
-use amqp_endpoint::{Config, End, Endpoint};
+use crate::servers::Servers;
+use amqp_endpoint::{Config, End, Endpoint, Event, Outcome};
 use amqp_frame::Device;
-use amqp_serve::{Rule, ServeFault, Stepped};
+use amqp_serve::{Receipt, Rule, ServeFault, Stepped};
 use std::alloc::{AllocError, Allocator, Global};
 use std::marker::Model;
 use std::mem;
@@ -133,7 +134,7 @@ impl<K: Keeper + Drop, A: Allocator + Copy> Hub<K, A> {
     /// Takes a piece of what the peer under a key sent, up to the end of one unit, and serves it as
     /// [`amqp_serve::serve_piece`] does. If that made a record, it is put into the keeper under the number of the
     /// connection. The answers wait, and are lent once the keeper is settled. The rest of the piece is for the next
-    /// call, once nothing waits. No other connection changes.
+    /// call. No other connection changes.
     ///
     /// If the step results in `NoMemory`, the unit waits, and the next call, also one of no bytes, tries it again.
     /// If it results in `Sink`, since memory was refused for the record, or in `Write`, since it was refused for an
@@ -142,8 +143,8 @@ impl<K: Keeper + Drop, A: Allocator + Copy> Hub<K, A> {
     /// # Errors
     ///
     /// The first that holds of `NoRoom`, if the keeper takes no record now; `NoKey`; `Over` if the connection is over,
-    /// its input has ended, or this side has closed it; and `Unsent` if bytes wait for its peer. Nothing has changed
-    /// then.
+    /// its input has ended, or this side has closed it; and `Unsent` if [`crate::ANSWERS`] bytes or more wait for its
+    /// peer. Nothing has changed then.
     pub fn hear(&mut self, key: usize, piece: &[u8]) -> Result<Stepped, HubFault>
         ensures limit { self.new.limit ≡ self.old.limit }
         ensures room { IfOk result (λ s. K.roomy self.old.keeper ≡ true) }
@@ -167,15 +168,18 @@ impl<K: Keeper + Drop, A: Allocator + Copy> Hub<K, A> {
         heard
     }
 
-    /// Puts what a step recorded, if it was done and recorded something, and returns the step. If memory for that is
-    /// refused, the connection is removed, and the step resulted in `Sink`.
+    /// Puts what a step recorded, if it made a record, and returns the step. If memory for that is refused, the
+    /// connection is removed, and the step resulted in `Sink`.
     fn keep(&mut self, key: usize, number: u64, stepped: Stepped, noted: &[u8]) -> Stepped
         requires there { IfOk stepped.done (λ d. IsSome (get self.old.members key)) }
         requires room { K.roomy self.old.keeper ≡ true }
         ensures limit { self.new.limit ≡ self.old.limit }
         ensures kept { IsKeptSo K.accepts number noted.now self.old.members self.new.members key stepped result self.old.keeper self.new.keeper }
     {
-        if stepped.done.is_err() || noted.is_empty() || self.keeper.put(number, noted).is_ok() {
+        let Some(origin) = origin_of(number, &stepped) else {
+            return stepped;
+        };
+        if self.keeper.put(origin, noted).is_ok() {
             return stepped;
         }
         let _ = self.servers.remove(key);
@@ -319,13 +323,36 @@ impl<K: Keeper + Drop, A: Allocator + Copy> Hub<K, A> {
         self.servers.remove(key)
     }
 
-    /// Returns how many bytes all connections hold, or `u64::MAX` if more: those of each endpoint, and the answers
-    /// that wait. It visits every connection.
+    /// Returns how many bytes all connections and the keeper hold, or `u64::MAX` if more: those of each endpoint, the
+    /// answers that wait, and the records that are not taken for good. It visits every connection.
     pub fn held(&self) -> u64
-        ensures { result ≡ min (all_held self.now.members) (2 ^ 64 - 1) }
+        ensures { result ≡ min (all_held self.now.members + K.holds self.now.keeper) (2 ^ 64 - 1) }
     {
-        self.servers.held()
+        self.servers.held().saturating_add(self.keeper.held())
     }
+}
+
+/// Returns where the record of a step came from, if the step made one.
+fn origin_of(number: u64, stepped: &Stepped) -> Option<Origin>
+    ensures { result ≡ origin_of number stepped.now }
+{
+    let Ok(done) = stepped.done else {
+        return None;
+    };
+    let (Receipt::Settled(message) | Receipt::Told(message) | Receipt::Untold(message, _)) =
+        done.receipt
+    else {
+        return None;
+    };
+    let Outcome::Event(Event::Ready { channel, handle }) = stepped.told else {
+        return None;
+    };
+    Some(Origin {
+        number,
+        channel,
+        handle,
+        delivery_tag: message.delivery_tag,
+    })
 }
 
 /// Returns an empty vector, with the room of this one unless that is large.

@@ -1,9 +1,24 @@
 //! Where the records of all connections go.
-ghost use Rattle.std.specs.Prelude.{◌≡◌, Bool, true, ℕ, List, Option, OnOk, OnErr};
+ghost use Rattle.std.specs.Prelude.{◌≡◌, ◌^◌, ◌-◌, min, Bool, true, ℕ, List, Option, OnOk, OnErr};
 ghost use Rattle.amqp_hub.specs.Keepers.{Entry, one_entry, IsMore, HasCome};
+ghost use Rattle.amqp_hub.specs.declared.keeper.Origin.{Origin};
 ghost use Rattle.amqp_hub.specs.declared.keeper.Progress.{Progress};
 
+use amqp_link::Tag;
 use std::alloc::AllocError;
+
+/// Where a record came from.
+#[derive(Clone, Copy, Debug, PartialEq, Eq)]
+pub struct Origin {
+    /// The number of its connection.
+    pub number: u64,
+    /// The channel of its session.
+    pub channel: u16,
+    /// The handle of its link.
+    pub handle: u32,
+    /// The delivery-tag of its message [2.8.7].
+    pub delivery_tag: Tag,
+}
 
 /// How far a keeper has come.
 #[derive(Clone, Copy, Debug, PartialEq, Eq)]
@@ -34,8 +49,11 @@ pub trait Keeper {
     // Its device has failed.
     ghost broken: { Self → Bool };
 
-    // It was given this record of the connection of this number, and is this one then.
-    ghost accepts: { Self → ℕ → List ℕ → Self → Type 0 };
+    // How many bytes of records it holds.
+    ghost holds: { Self → ℕ };
+
+    // It was given this record of this origin, and is this one then.
+    ghost accepts: { Self → Origin → List ℕ → Self → Type 0 };
 
     // It was asked to make room for a record, came so far, and is this one then.
     ghost makes_room: { Self → Progress → Self → Type 0 };
@@ -47,11 +65,10 @@ pub trait Keeper {
     fn has_room(&self) -> bool
         ensures { result ≡ roomy self.now };
 
-    /// Takes the bytes of a record of the connection of this number. Returns `AllocError` if memory is refused; nothing has changed
-    /// then.
-    fn put(&mut self, number: u64, bytes: &[u8]) -> Result<(), AllocError>
+    /// Takes the bytes of a record of this origin. Returns `AllocError` if memory is refused; nothing has changed then.
+    fn put(&mut self, origin: Origin, bytes: &[u8]) -> Result<(), AllocError>
         requires { roomy self.old ≡ true }
-        ensures put { OnOk result (accepts self.old number bytes.now self.new) }
+        ensures put { OnOk result (accepts self.old origin bytes.now self.new) }
         ensures refused { OnErr result (self.new ≡ self.old) };
 
     /// Makes room for a record, as far as it can do so without taking those that it has for good. `Out` says that
@@ -67,11 +84,15 @@ pub trait Keeper {
     fn is_settled(&self) -> bool
         ensures { result ≡ settled self.now };
 
-    /// Then that is so, if it is known what it was given.
+    /// Returns how many bytes of records it holds that it has not taken for good, or `u64::MAX` if more.
+    fn held(&self) -> u64
+        ensures { result ≡ min (holds self.now) (2 ^ 64 - 1) };
+
+    /// If it has taken all for good, it has taken what it was given, if that is known.
     ghost settled_is_taken: { (k : Self) → settled k ≡ true → taken k ≡ puts k };
 
     /// A record that it was given is its last one.
-    ghost accepted_is_put: { (k l : Self) (number : ℕ) (bytes : List ℕ) → accepts k number bytes l → IsMore (one_entry number bytes) (puts k) (puts l) (taken k) (taken l) × (broken l ≡ broken k) };
+    ghost accepted_is_put: { (k l : Self) (origin : Origin) (bytes : List ℕ) → accepts k origin bytes l → IsMore (one_entry origin bytes) (puts k) (puts l) (taken k) (taken l) × (broken l ≡ broken k) };
 
     /// Making room loses none and puts none, takes those in order, and says how far it came: there is room at `Out`.
     ghost room_is_made: { (k l : Self) (p : Progress) → makes_room k p l → HasCome p (puts k) (puts l) (taken k) (taken l) (roomy l) (broken l) };

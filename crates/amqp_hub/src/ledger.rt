@@ -1,15 +1,15 @@
 //! A keeper in memory.
-ghost use Rattle.std.specs.Prelude.{◌≡◌, length, map};
+ghost use Rattle.std.specs.Prelude.{◌≡◌, ◌^◌, ◌-◌, length, map, min, sum_by};
 ghost use Rattle.amqp_hub.specs.Ledgers.{record_entry, records_of, new_ledger, will_take};
 
-use crate::keeper::{Keeper, Progress};
+use crate::keeper::{Keeper, Origin, Progress};
 use std::alloc::{AllocError, Allocator, Global};
 use std::marker::Model;
 
-/// A record, and the number of its connection.
+/// A record, and where it came from.
 #[derive(Drop)]
 pub struct Record<A: Allocator = Global> {
-    pub number: u64,
+    pub origin: Origin,
     pub bytes: Vec<u8, A>,
 }
 
@@ -78,7 +78,7 @@ impl<A: Allocator + Copy> Ledger<A> {
 
 impl<A: Allocator + Copy> Keeper for Ledger<A> {
     ghost use Rattle.std.specs.Prelude.{◌≡◌, Some};
-    ghost use Rattle.amqp_hub.specs.Ledgers.{records_of, is_settled, is_roomy, room_in, with_record, settled_on, progress_of};
+    ghost use Rattle.amqp_hub.specs.Ledgers.{records_of, is_settled, is_roomy, room_in, waiting_bytes, with_record, settled_on, progress_of};
     ghost use Rattle.amqp_hub.specs.LedgerLaws.{settled_is_all, accepted_is_last, room_is_there, settling_goes_on};
 
     ghost puts = { λ l. Some (records_of l) };
@@ -91,7 +91,9 @@ impl<A: Allocator + Copy> Keeper for Ledger<A> {
 
     ghost broken = { λ l. l.has_failed };
 
-    ghost accepts = { λ old number bytes new. new ≡ with_record number bytes old };
+    ghost holds = { waiting_bytes };
+
+    ghost accepts = { λ old origin bytes new. new ≡ with_record origin bytes old };
 
     ghost makes_room = { λ old p new. (new ≡ old) × (p ≡ room_in old) };
 
@@ -109,9 +111,9 @@ impl<A: Allocator + Copy> Keeper for Ledger<A> {
         !self.has_failed && self.waiting() < self.room
     }
 
-    fn put(&mut self, number: u64, bytes: &[u8]) -> Result<(), AllocError> {
+    fn put(&mut self, origin: Origin, bytes: &[u8]) -> Result<(), AllocError> {
         let bytes = Vec::from_slice(self.alloc, bytes)?;
-        match self.records.push(Record { number, bytes }) {
+        match self.records.push(Record { origin, bytes }) {
             Ok(()) => Ok(()),
             Err(_) => Err(AllocError),
         }
@@ -146,4 +148,19 @@ impl<A: Allocator + Copy> Keeper for Ledger<A> {
     fn is_settled(&self) -> bool {
         !self.has_failed && self.waiting() == 0
     }
+
+    fn held(&self) -> u64 {
+        bytes_in(&self.records[self.taken..])
+    }
+}
+
+/// Returns how many bytes these records have, or `u64::MAX` if more.
+fn bytes_in<A: Allocator + Copy>(records: &[Record<A>]) -> u64
+    ensures { result ≡ min (sum_by (λ r. length r.bytes.items) records.now) (2 ^ 64 - 1) }
+{
+    let mut sum = 0_u64;
+    for record in records {
+        sum = sum.saturating_add(record.bytes.len() as u64);
+    }
+    sum
 }

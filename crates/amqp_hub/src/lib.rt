@@ -27,7 +27,7 @@ mod turn;
 
 pub use fault::HubFault;
 pub use hub::Hub;
-pub use keeper::{Keeper, Progress};
+pub use keeper::{Keeper, Origin, Progress};
 pub use ledger::{Ledger, Record};
 pub use member::ANSWERS;
 pub use replays::{Replayed, hub_replay};

@@ -18,6 +18,9 @@ use std::mem;
 /// How many bytes of answers may wait before no more of a peer's bytes are heard.
 pub const ANSWERS: usize = 8192;
 
+/// How much room for answers a peer keeps while none wait, in bytes.
+const KEPT: usize = 512;
+
 /// A server among others: the answers that wait for its peer, the rule by which it is served, and the number of its
 /// connection.
 #[derive(Drop)]
@@ -166,7 +169,11 @@ impl<A: Allocator + Copy> Member<A> {
             self.waiting.truncate(waited - n);
             return;
         }
-        self.waiting = Vec::new(alloc); // most wait for long before they are answered again
+        if self.waiting.capacity() > KEPT {
+            self.waiting = Vec::new(alloc); // most wait for long before they are answered again
+        } else {
+            self.waiting.clear();
+        }
         self.server.sent(n - waited);
     }
 

@@ -4,17 +4,18 @@ ghost use Rattle.slab.specs.Slab.{get};
 ghost use Rattle.amqp_endpoint.specs.Configs.{Configured};
 ghost use Rattle.amqp_serve.specs.declared.rules.Rule.{Rule};
 ghost use Rattle.amqp_serve.specs.Lives.{IsAlone};
-ghost use Rattle.amqp_hub.specs.Ledgers.{new_ledger, records_of, first_bytes};
+ghost use Rattle.amqp_hub.specs.Ledgers.{new_ledger, records_of, records_under, first_bytes};
 ghost use Rattle.amqp_hub.specs.Turns.{Seat, turn_of, answer_of, seat_after, ledger_after, AllFit, TurnDone, LedgerDone};
 ghost use Rattle.amqp_hub.specs.Turns as turn;
 
 use crate::HubFault;
 use crate::hub::Hub;
-use crate::laws::{seats_are_alone, seats_go_on};
+use crate::laws::{records_are_by_number, seats_are_alone, seats_go_on};
 use crate::ledger::Ledger;
 use crate::turn::{Turn, TurnAnswer};
 use amqp_endpoint::Config;
 use amqp_serve::Rule;
+use amqp_serve::step_laws::a_step_tells_what_it_recorded;
 use std::alloc::{AllocError, Allocator, Global};
 
 /// The answers to a list of turns, and all that was recorded.
@@ -74,6 +75,7 @@ impl<A: Allocator + Copy> Hub<Ledger<A>, A> {
         ensures done { (r : Rule) (config : Configured) (n : ℕ) → IfOk result (λ a. TurnDone r config self.old.limit n self.old.keeper self.old.members self.new.members (turn.Hear key piece.now) (answer_of a)) }
         ensures ledger { IfOk result (λ a. LedgerDone (λ key. get self.old.members key) (turn.Hear key piece.now) (answer_of a) self.old.keeper self.new.keeper) }
     {
+        a_step_tells_what_it_recorded(); // a law, for the proof
         let before = self.keeper().records().len();
         let stepped = match self.hear(key, piece) {
             Ok(stepped) => stepped,
@@ -196,9 +198,11 @@ impl<A: Allocator + Copy> Hub<Ledger<A>, A> {
 /// Each answer fits what the turns before it say (`fits`). A connection hears, ends, is closed and refused as its
 /// own calls say. Bytes are handed out only if the ledger had taken all for good that was put until then. A heartbeat
 /// is an empty frame between two others. The bytes held, whenever requested, are at most what an endpoint of these
-/// settings holds and the answers to one unit, for each open connection.
+/// settings holds, [`crate::ANSWERS`] and the answers to one unit, for each open connection, and the records that wait.
+/// Each has at most the bytes that an endpoint holds, and a head.
 ///
-/// The ledger has each record that was made, once, in order, under the number of its connection (`kept`).
+/// The ledger has each record that was made, once, in order, under the number of its connection and with the link and
+/// the tag of its message (`kept`). What it has under the number of a connection is what was recorded of that (`whose`).
 pub fn hub_replay<A: Allocator + Copy>(
     alloc: A,
     config: &Config<A>,
@@ -211,9 +215,11 @@ pub fn hub_replay<A: Allocator + Copy>(
         seat_after rule 0 key (take n (map turn_of turns.now)) (take n (map answer_of x.answers.items)) None ≡ Some y → IsAlone config.now y.life) }
     ensures fits { IfOk result (λ x. AllFit rule config.now limit 0 (new_ledger room) (λ key. None) 0 (map turn_of turns.now) (map answer_of x.answers.items)) }
     ensures kept { IfOk result (λ x. x.ledger ≡ ledger_after rule (new_ledger room) (λ key. None) 0 (map turn_of turns.now) (map answer_of x.answers.items)) }
+    ensures whose { IfOk result (λ x. (key : ℕ) (y : Seat) → seat_after rule 0 key (map turn_of turns.now) (map answer_of x.answers.items) None ≡ Some y → records_under y.number x.ledger ≡ y.life.noted) }
 {
-    seats_go_on(); // two laws, for the proof
+    seats_go_on(); // three laws, for the proof
     seats_are_alone();
+    records_are_by_number();
     let mut hub = Hub::new(alloc, limit, Ledger::new(alloc, room));
     let mut answers = Vec::with_capacity(alloc, turns.len())?;
     for turn in turns {

@@ -35,7 +35,7 @@ impl<A: Allocator + Copy> Model for Servers<A> {
 }
 
 impl<A: Allocator + Copy> Servers<A> {
-    /// Makes a hub with no connection, for at most `limit`. It takes memory for each connection when that is
+    /// Makes servers of no connection yet, for at most `limit`. It takes memory for each connection when that is
     /// opened.
     pub fn new(alloc: A, limit: usize) -> Self
         ensures members { result.members.slots ≡ [] }

@@ -1,5 +1,5 @@
 //! A delivery-tag, stored without an allocation.
-ghost use Rattle.std.specs.Prelude.{◌≡◌, ◌≤◌, length};
+ghost use Rattle.std.specs.Prelude.{◌≡◌, ◌≤◌, ◌<◌, length, IfSome, None};
 
 use std::marker::Model;
 
@@ -7,7 +7,7 @@ use std::marker::Model;
 pub const MAX_TAG: usize = 32;
 
 /// A delivery-tag: up to 32 bytes [2.8.7].
-#[derive(Clone, Copy)]
+#[derive(Clone, Copy, Debug, PartialEq, Eq)]
 pub struct Tag {
     bytes: [u8; 32],
     len: usize,
@@ -30,6 +30,17 @@ impl Model for Tag {
 }
 
 impl Tag {
+    /// Returns the tag of these bytes, or `None` if they are more than [`MAX_TAG`].
+    pub fn of(bytes: &[u8]) -> Option<Tag>
+        ensures tag { IfSome result (λ tag. tag ≡ bytes.now) }
+        ensures none { result ≡ None → 32 < length bytes.now }
+    {
+        if bytes.len() > MAX_TAG {
+            return None;
+        }
+        Some(Tag::new(bytes))
+    }
+
     /// Makes a tag of these bytes.
     pub(crate) fn new(tag: &[u8]) -> Tag
         requires { length tag.now ≤ 32 }

@@ -25,4 +25,6 @@ pub mod Policies
 pub mod Gifts
 pub mod OneSteps
 pub mod Effects
+pub mod Notes
+pub mod Noted
 pub mod Livings

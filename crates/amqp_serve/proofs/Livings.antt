@@ -17,7 +17,8 @@ use Rattle.amqp_endpoint.specs.Replies.{joined}
 use Rattle.amqp_endpoint.specs.Runs.{Call, Output, Close, Finish, Answer, MovedOut, Dropped, Ended, Does, Run, IsStart, IsMoved}
 use Rattle.amqp_endpoint.specs.Steps.{EndpointState, IsKept}
 use Rattle.amqp_endpoint.specs.Traces.{IsInRange, AreInRange, told_by}
-use Rattle.amqp_endpoint.specs.Uses.{IsUsed, granted_over, messages_over}
+use Rattle.amqp_endpoint.specs.Held.{held}
+use Rattle.amqp_endpoint.specs.Uses.{IsUsed, granted_over, messages_over, held_by_any}
 use Rattle.amqp_serve.specs.declared.rules.Rule.{Rule}
 use Rattle.amqp_serve.specs.declared.server.Status.{Status}
 use Rattle.amqp_serve.specs.declared.server.Status.TheVariants as status
@@ -27,12 +28,13 @@ use Rattle.amqp_serve.specs.Cuts.{Made, first_made, left_over, end_with, served_
 use Rattle.amqp_serve.specs.Deeds.{Ends, HasStepped, HasStopped}
 use Rattle.amqp_serve.specs.Kept.{IsInUse, IsServing, status_of, IsGoing, IsOff, IsLife}
 use Rattle.amqp_serve.specs.Lives.{Life, Parting, ByPeer, BySelf, new_life, last_words, heard_on, starved_on, told_on, ended_on, ended_units, AreUntried, IsToldBut, IsAlone, IsOver, IsOpen, IsNotOpen}
-use Rattle.amqp_serve.specs.Rooms.{answers_room}
+use Rattle.amqp_serve.specs.Rooms.{answers_room, record_room}
 use Rattle.amqp_serve.specs.Servers.{ServerState, hears, open_fault, finish_fault, IsSame, IsSent, IsFinishedSo, IsClosed}
 use Rattle.amqp_serve.specs.Serving.{Stand, Step, Serves, moved, recorded, calls_of, answers_of}
 use Rattle.amqp_serve.proofs.CutSteps.{made_at, made_same}
 use Rattle.amqp_serve.proofs.Cuts.{left_is}
 use Rattle.amqp_serve.proofs.Effects.{MakesOn, makes_unit, makes_none, makes_first}
+use Rattle.amqp_serve.proofs.Notes.{step_noted}
 use Rattle.amqp_serve.proofs.OneSteps.{EndsUnit, EndsNone, Begins, one_step}
 
 -- Statuses. -----------------------------------------------------------------------------------------------------------
@@ -426,6 +428,7 @@ module _ (goes_on : (config : Configured) (channel handle granted messages : ℕ
     (ranges : (r : Rule) (a b : Stand) (s t : EndpointState) (steps : List Step) → Serves r a s steps b t → AreInRange (calls_of steps))
     (runs : (r : Rule) (a b : Stand) (s t : EndpointState) (steps : List Step) → Serves r a s steps b t → Run s (calls_of steps) (answers_of steps) t)
     (config_is : (config : Configured) (channel handle granted messages : ℕ) (s : EndpointState) → IsUsed config channel handle granted messages s → s.connection.config ≡ config)
+    (held_is : (config : Configured) (channel handle granted messages : ℕ) (s : EndpointState) → IsUsed config channel handle granted messages s → held s ≤ held_by_any config)
     (within : (r : Rule) (config : Configured) (told : Outcome) (d : Done) (bytes : List ℕ) (old new : EndpointState) (e f : Ends) → IsConfigured config.container_id config.max_frame config.window →
     old.connection.config ≡ config → 8 ≤ old.input.limit → old.unsent ≡ [] → (x : HasStepped r told d bytes old new e f) → length (moved x.served.steps) ≤ answers_room config)
     (config : Configured) where
@@ -434,7 +437,7 @@ module _ (goes_on : (config : Configured) (channel handle granted messages : ℕ
 
   pub hears_on : (l : Life) (a b : ServerState) (r : Rule) (bytes : List ℕ) (told : Outcome) (d : Done) (e f : Ends) → hears a.status ≡ true → (x : HasStepped r told d bytes a.endpoint b.endpoint e f) →
       b.status ≡ status.Serving → IsLife config l a →
-      IsLife config (heard_on l r bytes (moved x.served.steps) (recorded x.served.steps)) b × (length (moved x.served.steps) ≤ answers_room config)
+      IsLife config (heard_on l r bytes (moved x.served.steps) (recorded x.served.steps)) b × (length (moved x.served.steps) ≤ answers_room config) × (length (recorded x.served.steps) ≤ record_room config)
   hears_on l a b r bytes told d e f may x is life =
       let g = hearing config l a may life in
       let s = g.serving in
@@ -453,6 +456,7 @@ module _ (goes_on : (config : Configured) (channel handle granted messages : ℕ
         },
         within r config told d bytes a.endpoint b.endpoint e f limits (config_is config 0 0 life.used.granted life.used.messages a.endpoint life.used.is)
             (let limit = s.limit in omega (arith, limits.some_frame, limit)) s.sent x,
+        step_noted config (call_used goes_on config) (λ u used. held_is config 0 0 used.granted used.messages u used.is) told x.served.serves life.used x.deeds.told,
       )
 
   pub starves : (l : Life) (a b : ServerState) (r : Rule) (bytes : List ℕ) (e f : Ends) → hears a.status ≡ true → HasStopped r fault.NoMemory bytes a.endpoint b.endpoint e f →

@@ -41,7 +41,7 @@ run_of (TopsUp next supply supplies answer none lacks does x) = (next, does, run
 run_of (Passes supply supplies lacks x) = run_of x
 run_of (Finishes next end none does x) = (next, does, run_of x)
 
-top_up_ranges : (supply : Supply) (n : ℕ) → IsInRange (top_up_by supply n)
+pub top_up_ranges : (supply : Supply) (n : ℕ) → IsInRange (top_up_by supply n)
 top_up_ranges (WindowOf channel) n = tt
 top_up_ranges (CreditOf channel handle) n = tt
 

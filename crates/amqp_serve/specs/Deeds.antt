@@ -1,10 +1,11 @@
 -- What a serving call did, and how it ended.
-use Rattle.std.specs.Prelude.{◌≡◌, ◌≢◌, ◌↔◌, ℕ, ◌+◌, ◌-◌, ◌^◌, min, sum_by, length, Bool, true, false, List, [], ◌∷◌, ◌++◌, Option, Result, Ok, Err, IsTrue}
+use Rattle.std.specs.Prelude.{◌≡◌, ◌≢◌, ◌↔◌, ℕ, ◌+◌, ◌-◌, ◌^◌, min, sum_by, length, Bool, true, false, List, [], ◌∷◌, ◌++◌, Option, Some, None, Result, Ok, Err, IsTrue}
 use Rattle.std.specs.List.{flat_map}
 use Rattle.amqp_frame.specs.Devices.{device_inner, has_failed}
 use Rattle.amqp_frame.specs.declared.device.Device.{Device}
 use Rattle.amqp_frame.specs.Splits.{SplitterState, IsTaken}
 use Rattle.amqp_session.specs.Calls.{Widen, Grant, Take, Settle}
+use Rattle.amqp_endpoint.specs.declared.event.Event.TheVariants as event
 use Rattle.amqp_endpoint.specs.declared.event.Outcome.{Outcome}
 use Rattle.amqp_endpoint.specs.declared.event.Outcome.TheVariants as outcome
 use Rattle.amqp_endpoint.specs.declared.fault.CallFault.{CallFault}
@@ -21,7 +22,7 @@ use Rattle.amqp_serve.specs.declared.steps.Done.{Done}
 use Rattle.amqp_serve.specs.declared.supplies.Supply.{Supply}
 use Rattle.amqp_serve.specs.declared.supplies.Supply.TheVariants.{WindowOf, CreditOf}
 use Rattle.amqp_serve.specs.declared.supplies.Topped.{Topped}
-use Rattle.amqp_serve.specs.Serving.{Stand, Step, stand_told, reading, Served, Works, BrokeOff, HasRead, HasBroken, IsIdle, IsStarved}
+use Rattle.amqp_serve.specs.Serving.{Stand, Step, stand_told, reading, Served, Works, BrokeOff, HasRead, HasBroken, IsIdle, IsStarved, record_of}
 
 -- What was done. ------------------------------------------------------------------------------------------------------
 
@@ -35,7 +36,7 @@ outcomes_by (Fed used told) = told ∷ []
 outcomes_by _ = []
 
 abbrev pub received_as : Handed → Received
-received_as d = record { delivery_id = d.delivery_id; len = most (length d.message) }
+received_as d = record { delivery_id = d.delivery_id; delivery_tag = d.delivery_tag; len = most (length d.message) }
 
 -- the result of a take: the message, and whether its sender had settled it
 abbrev pub takes_by : Call → Answer → List (Result (Received × Bool) CallFault)
@@ -130,6 +131,24 @@ rest_deeds d = record { told = []; takes = takes_of d.receipt; settles = settles
 
 abbrev pub done_deeds : Outcome → Done → Deeds
 done_deeds told d = record { told = told ∷ []; takes = takes_of d.receipt; settles = settles_of d.receipt; topped = d.topped }
+
+-- the message that a receipt tells of
+abbrev pub message_in : Receipt → Option Received
+message_in receipt.Nothing = None
+message_in (receipt.Refused f) = None
+message_in (receipt.Settled m) = Some m
+message_in (receipt.Told m) = Some m
+message_in (receipt.Untold m f) = Some m
+
+-- this was recorded: the record of this message of the link at a handle of a channel, or nothing
+abbrev pub IsNoted : Option Received → ℕ → ℕ → List ℕ → Type 0
+IsNoted None channel handle noted = noted ≡ []
+IsNoted (Some m) channel handle noted = (d : Handed) × (m ≡ received_as d) × (noted ≡ record_of channel handle d)
+
+-- A step recorded what it tells of: the message of its receipt, from the link on which its event says that one is ready.
+abbrev pub IsNotedAs : Outcome → Receipt → List ℕ → Type 0
+IsNotedAs (outcome.Event (event.Ready channel handle)) r noted = IsNoted (message_in r) channel handle noted
+IsNotedAs told r noted = (message_in r ≡ None) × (noted ≡ [])
 
 -- How it came out. ----------------------------------------------------------------------------------------------------
 

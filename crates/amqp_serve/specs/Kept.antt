@@ -18,7 +18,7 @@ use Rattle.amqp_serve.specs.declared.serving.ServeFault.TheVariants as fault
 use Rattle.amqp_serve.specs.declared.steps.Done.{Done}
 use Rattle.amqp_serve.specs.Deeds.{Ends, HasStepped, HasStopped}
 use Rattle.amqp_serve.specs.Lives.{Life, ByPeer, BySelf, new_life, heard_on, starved_on, told_on, ended_on, ended_units, IsToldBut, IsAlone, IsOver, IsOpen, IsNotOpen}
-use Rattle.amqp_serve.specs.Rooms.{answers_room}
+use Rattle.amqp_serve.specs.Rooms.{answers_room, record_room}
 use Rattle.amqp_serve.specs.Servers.{ServerState, hears, IsSame, IsFinishedSo, IsClosed, IsSent}
 use Rattle.amqp_serve.specs.Serving.{moved, recorded}
 
@@ -62,12 +62,12 @@ pub record IsLife (config : Configured) (l : Life) (m : ServerState) : Type 0 wh
 
 -- That it is so. ------------------------------------------------------------------------------------------------------
 
--- A life begins, and goes on with what a call does, whatever the rule of each step. The answers to one step are bounded.
+-- A life begins, and goes on with what a call does, whatever the rule of each step. The answers to one step are bounded, and its record.
 pub record LifeGoesOn (config : Configured) : Type 0 where
   pub starts : (m : ServerState) → IsConfigured config.container_id config.max_frame config.window → IsStart config m.endpoint → m.status ≡ status.Serving → IsLife config new_life m
   pub steps : (l : Life) (a b : ServerState) (r : Rule) (bytes : List ℕ) (told : Outcome) (d : Done) (e f : Ends) → hears a.status ≡ true → (x : HasStepped r told d bytes a.endpoint b.endpoint e f) →
       b.status ≡ status.Serving → IsLife config l a →
-      IsLife config (heard_on l r bytes (moved x.served.steps) (recorded x.served.steps)) b × (length (moved x.served.steps) ≤ answers_room config)
+      IsLife config (heard_on l r bytes (moved x.served.steps) (recorded x.served.steps)) b × (length (moved x.served.steps) ≤ answers_room config) × (length (recorded x.served.steps) ≤ record_room config)
   pub starves : (l : Life) (a b : ServerState) (r : Rule) (bytes : List ℕ) (e f : Ends) → hears a.status ≡ true → HasStopped r fault.NoMemory bytes a.endpoint b.endpoint e f →
       b.status ≡ status.Starved → IsLife config l a → IsLife config (starved_on l bytes) b
   pub stays : (l : Life) (a b : ServerState) → IsSame a b → IsLife config l a → IsLife config l b

@@ -7,7 +7,7 @@ ghost use Rattle.amqp_endpoint.specs.Traces.{AreInRange};
 ghost use Rattle.amqp_endpoint.specs.declared.event.End.{End};
 ghost use Rattle.amqp_endpoint.specs.declared.event.Outcome.{Outcome};
 ghost use Rattle.amqp_serve.specs.Cuts.{Made, IsMade};
-ghost use Rattle.amqp_serve.specs.Deeds.{Ends, HasStepped};
+ghost use Rattle.amqp_serve.specs.Deeds.{Ends, HasStepped, IsNotedAs};
 ghost use Rattle.amqp_serve.specs.Interrupted.{Interrupted};
 ghost use Rattle.amqp_serve.specs.Rooms.{answers_room};
 ghost use Rattle.amqp_serve.specs.Serving.{Stand, reading, Step, Serves, Served, IsIdle, fed, moved, recorded, calls_of, answers_of};
@@ -48,3 +48,9 @@ pub fn a_step_is_answered_within()
 {
     answers_fit_their_room();
 }
+
+/// A step recorded what it tells of: the message of its receipt, from the link on which its event says that one is
+/// ready [2.6.14]. One that tells of no message recorded nothing.
+pub fn a_step_tells_what_it_recorded()
+    ensures { (r : Rule) (told : Outcome) (d : Done) (bytes : List ℕ) (old new : EndpointState) (e f : Ends) → (x : HasStepped r told d bytes old new e f) → IsNotedAs told d.receipt (recorded x.served.steps) }
+{}

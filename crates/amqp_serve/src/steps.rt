@@ -16,7 +16,7 @@ use crate::{Rule, ServeFault};
 use amqp_endpoint::laws::{are_bytes, fills_are_feeds, is_id};
 use amqp_endpoint::{CallFault, Endpoint, Event, Fed, Outcome};
 use amqp_frame::{Device, HoldsBack};
-use amqp_link::Taken;
+use amqp_link::{Tag, Taken};
 use amqp_perform::Outcome as Settlement;
 use std::alloc::Allocator;
 use std::io::Write;
@@ -33,6 +33,7 @@ pub struct Course {
 #[derive(Clone, Copy, Debug, PartialEq, Eq)]
 pub struct Received {
     pub delivery_id: u32,
+    pub delivery_tag: Tag,
     /// Its length in bytes, as its record gives it: `u32::MAX` if it is longer.
     pub len: u32,
 }
@@ -369,6 +370,7 @@ fn received_of<A: Allocator + Copy>(taken: &Taken<A>) -> Received
 {
     Received {
         delivery_id: taken.delivery_id,
+        delivery_tag: taken.delivery_tag,
         len: recorded_len(&taken.message),
     }
 }

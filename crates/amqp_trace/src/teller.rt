@@ -207,11 +207,12 @@ impl<W: Write + Drop, H: Host + Drop> Teller<W, H> {
 
     /// Shows what the bytes resulted in, and what was refused.
     fn tell_told(&mut self, told: Outcome, done: Done) -> Result<(), AllocError> {
+        let Done { receipt, topped } = done;
         self.sentence.text.clear();
         match told {
             Outcome::Event(event) => {
                 if !self.is_ended {
-                    put_event(&mut self.sentence, &self.came, event, done.receipt)?;
+                    put_event(&mut self.sentence, &self.came, event, receipt)?;
                 }
                 self.is_ended |= is_last(event);
                 self.outlets.put_event(event, &self.sentence.text);
@@ -219,7 +220,7 @@ impl<W: Write + Drop, H: Host + Drop> Teller<W, H> {
             Outcome::Dead if !self.is_ended => self.tell_refusal(),
             _ => {}
         }
-        let refused = done.topped.refused;
+        let refused = topped.refused;
         if refused > 0 {
             self.sentence.text.clear();
             let _ = write!(

@@ -3,7 +3,7 @@
 use crate::digest::Digest;
 use crate::failure::Failure;
 use amqp_endpoint::Config;
-use amqp_hub::{Hub, Keeper, Progress};
+use amqp_hub::{Hub, Keeper, Origin, Progress};
 use amqp_perform::Outcome;
 use amqp_serve::Rule;
 use std::alloc::{AllocError, Global};
@@ -32,6 +32,8 @@ impl Keeper for Digester {
 
     ghost broken = { λ _. false };
 
+    ghost holds = { λ _. 0 };
+
     ghost accepts = { λ _ _ _ _. Unit {0} };
 
     ghost makes_room = { λ old p new. (p ≡ Out) × (new ≡ old) };
@@ -40,7 +42,7 @@ impl Keeper for Digester {
 
     ghost settled_is_taken = { λ _ is. nothing_known is };
 
-    ghost accepted_is_put = { λ _ _ number bytes _. accepts_more number bytes };
+    ghost accepted_is_put = { λ _ _ origin bytes _. accepts_more origin bytes };
 
     ghost room_is_made = { λ _ _ p x. comes_so p x.0 };
 
@@ -50,7 +52,7 @@ impl Keeper for Digester {
         true
     }
 
-    fn put(&mut self, _number: u64, record: &[u8]) -> Result<(), AllocError> {
+    fn put(&mut self, _origin: Origin, record: &[u8]) -> Result<(), AllocError> {
         self.digest.add(record);
         Ok(())
     }
@@ -65,6 +67,10 @@ impl Keeper for Digester {
 
     fn is_settled(&self) -> bool {
         true
+    }
+
+    fn held(&self) -> u64 {
+        0
     }
 }
 
@@ -114,8 +120,11 @@ impl Host {
             if rest.is_empty() {
                 break;
             }
-            let stepped = self.hub.hear(key, rest)?;
-            rest = rest.get(stepped.used..).unwrap_or(&[]);
+            let used = match self.hub.hear(key, rest) {
+                Ok(stepped) => stepped.used,
+                Err(fault) => return Err(Failure::from(fault)),
+            };
+            rest = rest.get(used..).unwrap_or(&[]);
             self.hand_out(key);
         }
         Ok(())

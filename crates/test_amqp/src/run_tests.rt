@@ -975,7 +975,7 @@ fn a_gateway_tells_the_bound_of_its_limits(rt: HostRuntime) -> Result<(), Fail> 
     let left = gateway_ran(&rt, ["--limits", "a.amqp"], &disk, limits)?;
     assert!(rt; left.status == ExitCode::SUCCESS);
     // 16384 + 78528 + 16 * (1407 + 268435456 + 96) for a peer, and 250 peers
-    let line = "a peer holds at most 4295086256 bytes, and all together 1073771564000";
+    let line = "a peer holds at most 4295086256 bytes, and all together 1078066912430";
     assert!(rt; has_line(&left.told, line));
     Ok(())
 }
@@ -1031,7 +1031,7 @@ fn pass_to(lines: &mut Split<'_, char>, line: &str) -> bool {
 fn assert_served(rt: &impl Abort, told: &str) {
     let mut lines = told.split('\n');
     for line in [
-        "a peer holds at most 4324016 bytes, and all together 1081004000",
+        "a peer holds at most 4324016 bytes, and all together 1085590190",
         "connection 1: opened by \"a\"",
         "1 0ms <- header id=0 version=1.0.0",
         "1 0ms -> header id=0 version=1.0.0",
@@ -1100,7 +1100,7 @@ fn assert_counted(rt: &impl Abort, text: &str) {
         ("messages_total", 2),
         ("message_bytes_total", 2),
         ("held_bytes", 0),
-        ("held_bytes_bound", 1_081_004_000),
+        ("held_bytes_bound", 1_085_590_190),
         ("longest_turn_milliseconds", 0),
     ] {
         assert_eq!(rt; metric(text, name), Some(value), "{name}");

@@ -4,7 +4,8 @@ use crate::devices::Kept;
 use crate::serving::{ENDS, RECORDS, STREAM, WRITTEN, config, one_by_one};
 use amqp_endpoint::{End, Endpoint, Event, Outcome};
 use amqp_frame::{Device, Direct};
-use amqp_serve::{Receipt, Received, Rule, Server, ServerFault, Status, Stepped, Topped};
+use amqp_link::Tag;
+use amqp_serve::{Done, Receipt, Received, Rule, Server, ServerFault, Status, Stepped, Topped};
 use std::alloc::Global;
 use std::process::Abort;
 use std::test::Fail;
@@ -12,10 +13,10 @@ use std::test::Fail;
 /// The close of this side [2.7.9].
 const CLOSE: &[u8] = b"\x00\x00\x00\x0c\x02\x00\x00\x00\x00S\x18E";
 
-/// What steps resulted in: their answers, and the bytes that they wrote and recorded.
+/// What steps resulted in: how many bytes each used, and the bytes that they wrote and recorded.
 #[derive(Drop)]
 struct Steps {
-    told: Vec<Stepped>,
+    used: Vec<usize>,
     written: Vec<u8>,
     recorded: Vec<u8>,
     end: End,
@@ -27,21 +28,38 @@ fn step_through(alloc: Global, mut bytes: &[u8], most: usize) -> Result<Steps, F
     let endpoint = Endpoint::new(alloc, config(alloc)?)?;
     let mut server = Server::new(endpoint);
     let (mut written, mut recorded) = (Kept::all(alloc), Kept::all(alloc));
-    let mut told = Vec::new(alloc);
+    let mut used = Vec::new(alloc);
     for _ in 0..STREAM.len().saturating_add(2) {
         let mut writer = Device::new(Direct::new(&mut written));
         let mut sink = Device::new(&mut recorded);
         let piece = bytes.get(..most).unwrap_or(bytes);
         let stepped = server.step(Rule::of(one_by_one()), piece, &mut writer, &mut sink);
         bytes = bytes.get(stepped.used..).unwrap_or(&[]);
-        told.push(stepped)?;
+        used.push(stepped.used)?;
     }
     Ok(Steps {
-        told,
+        used,
         written: written.bytes,
         recorded: recorded.bytes,
         end: server.finish()?,
     })
+}
+
+/// Steps a new server through the stream, a unit at a time, up to the step of this number, and returns that.
+fn step_at(alloc: Global, number: usize) -> Result<Stepped, Fail> {
+    let mut server = Server::new(Endpoint::new(alloc, config(alloc)?)?);
+    let (mut written, mut recorded) = (Kept::all(alloc), Kept::all(alloc));
+    let mut bytes = STREAM;
+    for at in 0..STREAM.len() {
+        let mut writer = Device::new(Direct::new(&mut written));
+        let mut sink = Device::new(&mut recorded);
+        let stepped = server.step(Rule::of(one_by_one()), bytes, &mut writer, &mut sink);
+        bytes = bytes.get(stepped.used..).unwrap_or(&[]);
+        if at == number {
+            return Ok(stepped);
+        }
+    }
+    Err(Fail::from("no such step"))
 }
 
 /// However the stream is cut, the steps write and record what it makes, and take nothing after its end.
@@ -52,8 +70,7 @@ fn steps_ignore_cuts(rt: HostRuntime) -> Result<(), Fail> {
         assert_eq!(rt; steps.written.as_slice(), WRITTEN, "{most}");
         assert_eq!(rt; steps.recorded.as_slice(), RECORDS, "{most}");
         assert_eq!(rt; steps.end, End::Closed, "{most}");
-        let last = steps.told.last().copied();
-        assert_eq!(rt; last.map(|x| x.used), Some(0), "{most}");
+        assert_eq!(rt; steps.used.last().copied(), Some(0), "{most}");
     }
     Ok(())
 }
@@ -63,16 +80,17 @@ fn steps_ignore_cuts(rt: HostRuntime) -> Result<(), Fail> {
 fn a_step_tells_what_it_did(rt: HostRuntime) -> Result<(), Fail> {
     let steps = step_through(rt.alloc(), STREAM, STREAM.len())?;
     let mut at = 0_usize;
-    for (stepped, end) in steps.told.iter().zip(ENDS) {
-        at = at.saturating_add(stepped.used);
+    for (used, end) in steps.used.iter().zip(ENDS) {
+        at = at.saturating_add(*used);
         assert_eq!(rt; at, end);
     }
-    assert_step(&rt, &steps, 3, attached(), Receipt::Nothing, 1)?;
+    assert_step(&rt, rt.alloc(), 3, attached(), Receipt::Nothing, 1)?;
     let first = Received {
         delivery_id: 0,
+        delivery_tag: Tag::of(b"t").ok_or("too long")?,
         len: 1,
     };
-    assert_step(&rt, &steps, 4, ready(), Receipt::Told(first), 1)
+    assert_step(&rt, rt.alloc(), 4, ready(), Receipt::Told(first), 1)
 }
 
 fn attached() -> Event {
@@ -92,23 +110,29 @@ fn ready() -> Event {
 /// The step of this number told that, and granted this much.
 fn assert_step(
     rt: &impl Abort,
-    steps: &Steps,
+    alloc: Global,
     number: usize,
     event: Event,
     receipt: Receipt,
     granted: u32,
 ) -> Result<(), Fail> {
-    let stepped = steps.told.get(number).ok_or("no such step")?;
-    let Ok(done) = stepped.done else {
+    let Stepped { told, done, .. } = step_at(alloc, number)?;
+    let Ok(
+        Done {
+            receipt: got,
+            topped,
+        },
+    ) = done
+    else {
         return Err(Fail::from("the step failed"));
     };
-    let topped = Topped {
+    let wanted = Topped {
         granted,
         ..Topped::NOTHING
     };
-    assert_eq!(rt; stepped.told, Outcome::Event(event));
-    assert_eq!(rt; done.receipt, receipt);
-    assert_eq!(rt; done.topped, topped);
+    assert_eq!(rt; told, Outcome::Event(event));
+    assert_eq!(rt; got, receipt);
+    assert_eq!(rt; topped, wanted);
     Ok(())
 }
 

@@ -1,7 +1,9 @@
 //! A gateway with its log and its sink, whose time passes as a test wants.
 
 use amqp_endpoint::Config;
-use amqp_gateway::{Gateway, GatewayFault, Settings, Sink, Unwatched, link_most, peer_most};
+use amqp_gateway::{
+    Gateway, GatewayFault, Settings, Sink, Unwatched, link_most, outlet_most, peer_most,
+};
 use amqp_perform::Outcome;
 use amqp_serve::Rule;
 use mio::net::TcpListener;
@@ -222,6 +224,8 @@ pub struct Scene<'a> {
     pub log: Log,
     /// What a peer holds at most.
     pub bound: u64,
+    /// How many bytes of records may wait for the sink.
+    pub records: u64,
     address: SocketAddr,
     now: u64,
 }
@@ -260,7 +264,9 @@ impl<'a> Scene<'a> {
         listener.set_nonblocking(true)?;
         let name = String::from_str(alloc, "r")?;
         let config = Config::checked(name, frame, 0, 1, 4, 100, 100).ok_or("no such settings")?;
-        let bound = peer_most(&config, link_most(config.bounds()));
+        let link = link_most(config.bounds());
+        let bound = peer_most(&config, link);
+        let records = outlet_most(&config, link);
         let rule = Rule {
             credit: 4,
             mark: 2,
@@ -286,6 +292,7 @@ impl<'a> Scene<'a> {
             gateway: gateway.ok().ok_or("no gateway")?,
             log: Log::new(alloc),
             bound,
+            records,
             address,
             now: 0,
         })

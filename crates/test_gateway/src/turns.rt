@@ -391,9 +391,8 @@ fn bad_ones_send(
         send(endless, FURTHER)?;
         send(flood, ECHO)?;
         assert!(rt; scene.turns(1, 1).is_ok());
-        assert!(rt;
-            scene.gateway.held() <= (scene.gateway.open() as u64).saturating_mul(scene.bound)
-        );
+        let peers = (scene.gateway.open() as u64).saturating_mul(scene.bound);
+        assert!(rt; scene.gateway.held() <= peers.saturating_add(scene.records));
     }
     Ok(())
 }

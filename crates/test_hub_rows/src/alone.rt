@@ -5,7 +5,7 @@ use crate::rows::RULE;
 use amqp_endpoint::{Config, End, Endpoint};
 use amqp_frame::{Device, Direct, HoldsBack};
 use amqp_hub::TurnAnswer;
-use amqp_serve::{ServeFault, Server, Stepped};
+use amqp_serve::{ServeFault, Server};
 use std::alloc::Global;
 use std::io::Write;
 use test_row_files::{Heap, Miss};
@@ -99,11 +99,8 @@ impl Life {
     ) -> Result<bool, Miss> {
         let mut rest = self.stream.get(..self.served).ok_or("too few bytes")?;
         for _ in 0..self.served {
-            let stepped = step(server, rest, writer, sink)?;
-            if stepped.done.is_err() {
-                return Err(Miss::NoMemory);
-            }
-            rest = rest.get(stepped.used..).unwrap_or(&[]);
+            let used = step(server, rest, writer, sink)?;
+            rest = rest.get(used..).unwrap_or(&[]);
             if rest.is_empty() {
                 break;
             }
@@ -135,15 +132,19 @@ impl Life {
     }
 }
 
-/// Makes a step of a server, whose ends have not failed.
+/// Makes a step of a server, whose ends have not failed, and returns how many bytes it used.
 fn step<W: Write + HoldsBack + Drop, S: Write + Drop>(
     server: &mut Server,
     piece: &[u8],
     writer: &mut Device<W>,
     sink: &mut Device<S>,
-) -> Result<Stepped, Miss> {
+) -> Result<usize, Miss> {
     if writer.failed() || sink.failed() {
         return Err(Miss::NoMemory);
     }
-    Ok(server.step(RULE, piece, writer, sink))
+    let stepped = server.step(RULE, piece, writer, sink);
+    if stepped.done.is_err() {
+        return Err(Miss::NoMemory);
+    }
+    Ok(stepped.used)
 }

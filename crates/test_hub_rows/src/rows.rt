@@ -2,10 +2,10 @@
 //!
 //! `open`, `hear KEY HEX`, `hand KEY ROOM`, `heartbeat KEY`, `finish KEY`, `close KEY`, `remove KEY`, `rule KEY CREDIT`, `settle MOST`, `fail`, `held` and
 //! `count` are turns of a hub of three connections at most, whose ledger has room for three records. Shown is what was recorded of the
-//! last one.
+//! last one. `origins` lists the connection's number, the channel, the handle and the tag of each record in the ledger.
 
 use amqp_endpoint::{Config, End};
-use amqp_hub::{Hub, HubFault, Ledger, Progress, Turn, TurnAnswer};
+use amqp_hub::{Hub, HubFault, Ledger, Origin, Progress, Turn, TurnAnswer};
 use amqp_perform::Outcome;
 use amqp_serve::Rule;
 use std::alloc::Global;
@@ -65,6 +65,23 @@ impl<'a> Rows<'a> {
         }
         Ok(text)
     }
+
+    /// Returns where the records of the ledger came from.
+    fn origins(&self, alloc: Global) -> Result<String, Miss> {
+        let mut text = String::new(alloc);
+        for record in self.hub.keeper().records() {
+            let Origin {
+                number,
+                channel,
+                handle,
+                delivery_tag,
+            } = record.origin;
+            let tag = hex_of(alloc, delivery_tag.as_bytes())?;
+            let comma = if text.is_empty() { "" } else { ", " };
+            text.push_str(&format!(in alloc; "{comma}{number} {channel} {handle} {tag}")?)?;
+        }
+        Ok(text)
+    }
 }
 
 /// Makes a turn of a hub.
@@ -115,6 +132,7 @@ impl Subject for Rows<'_> {
             "fail" => self.make(alloc, &Turn::Settle { most: None }),
             "held" => self.make(alloc, &Turn::Held),
             "count" => self.make(alloc, &Turn::Count),
+            "origins" => self.origins(alloc),
             _ => Err(Miss::Unread("no such turn")),
         }
     }

@@ -1,10 +1,10 @@
 //! What `amqp_hub` promises.
 
-ghost use Rattle.std.specs.Prelude.{◌≡◌, ◌<◌, ℕ, List, true, None, Some, map, take, IfOk, IfErr, OnOk};
+ghost use Rattle.std.specs.Prelude.{◌≡◌, ◌<◌, ◌+◌, ◌^◌, ◌-◌, ℕ, List, true, min, None, Some, map, take, IfOk, IfErr, OnOk};
 ghost use Rattle.slab.specs.Slab.{get, slab_len};
-ghost use Rattle.amqp_hub.specs.Ledgers.{new_ledger};
+ghost use Rattle.amqp_hub.specs.Ledgers.{new_ledger, records_under};
 ghost use Rattle.amqp_hub.specs.Members.{hear_fault};
-ghost use Rattle.amqp_hub.specs.Turns.{Seat, turn_of, answer_of, seat_after, ledger_after, AllFit, IsOpened, OpenRefused, AreSame, HearsTo, HearRefusedBy, IsLentBy, IsDueAt, SendsAt, IsGone, refusal_at};
+ghost use Rattle.amqp_hub.specs.Turns.{Seat, turn_of, answer_of, seat_after, ledger_after, AllFit, IsOpened, OpenRefused, AreSame, HearsTo, HearRefusedBy, IsLentBy, IsDueAt, SendsAt, IsGone, refusal_at, all_held};
 ghost use Rattle.amqp_serve.specs.Lives.{IsAlone};
 ghost use Rattle.amqp_serve.specs.Servers.{status_after};
 
@@ -26,6 +26,7 @@ pub fn hub_replay<A: Allocator + Copy>(
         seat_after rule 0 key (take n (map turn_of turns.now)) (take n (map answer_of x.answers.items)) None ≡ Some y → IsAlone config.now y.life) }
     ensures fits { IfOk result (λ x. AllFit rule config.now limit 0 (new_ledger room) (λ key. None) 0 (map turn_of turns.now) (map answer_of x.answers.items)) }
     ensures kept { IfOk result (λ x. x.ledger ≡ ledger_after rule (new_ledger room) (λ key. None) 0 (map turn_of turns.now) (map answer_of x.answers.items)) }
+    ensures whose { IfOk result (λ x. (key : ℕ) (y : Seat) → seat_after rule 0 key (map turn_of turns.now) (map answer_of x.answers.items) None ≡ Some y → records_under y.number x.ledger ≡ y.life.noted) }
 {
     amqp_hub::hub_replay(alloc, config, rule, limit, room, turns)
 }
@@ -92,4 +93,11 @@ pub fn remove<K: Keeper + Drop, A: Allocator + Copy>(
     ensures refused { IfErr result (λ f. AreSame hub.old.members hub.new.members × (get hub.old.members key ≡ None) × (f ≡ HubFault.NoKey)) }
 {
     hub.remove(key)
+}
+
+/// Returns the bytes that all connections and the keeper hold.
+pub fn held<K: Keeper + Drop, A: Allocator + Copy>(hub: &Hub<K, A>) -> u64
+    ensures { result ≡ min (all_held hub.now.members + K.holds hub.now.keeper) (2 ^ 64 - 1) }
+{
+    hub.held()
 }

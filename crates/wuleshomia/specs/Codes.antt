@@ -1,5 +1,5 @@
 -- What the numbers that C and the library exchange stand for.
-use Rattle.std.specs.Prelude.{◌≡◌, ℕ, true, false, nat_eq, if◌then◌else◌, Option, None, Some, Result, Ok, Err}
+use Rattle.std.specs.Prelude.{◌≡◌, ℕ, true, false, nat_eq, if◌then◌else◌, [], Option, None, Some, Result, Ok, Err}
 use Rattle.amqp_perform.specs.declared.condition.Condition.{Condition}
 use Rattle.amqp_perform.specs.declared.condition.Condition.TheVariants as condition
 use Rattle.amqp_perform.specs.declared.outcome.Outcome.{Outcome as Settlement}
@@ -221,8 +221,22 @@ pub record IsAllTold (f : FedReport) : Type 0 where
 
 -- What a step resulted in. ---------------------------------------------------------------------------------------------
 
+-- a report has no tags
+abbrev pub untagged : Received → Received
+untagged m = record m { delivery_tag = [] }
+
+abbrev pub untagged_receipt : Receipt → Receipt
+untagged_receipt receipt.Nothing = receipt.Nothing
+untagged_receipt (receipt.Refused f) = receipt.Refused f
+untagged_receipt (receipt.Settled m) = receipt.Settled (untagged m)
+untagged_receipt (receipt.Told m) = receipt.Told (untagged m)
+untagged_receipt (receipt.Untold m f) = receipt.Untold (untagged m) f
+
+abbrev pub untagged_done : Done → Done
+untagged_done d = record { receipt = untagged_receipt d.receipt; topped = d.topped }
+
 abbrev pub received_at : StepReport → Received
-received_at r = record { delivery_id = r.id; len = r.len }
+received_at r = record { delivery_id = r.id; delivery_tag = []; len = r.len }
 
 abbrev pub receipt_at : StepReport → Receipt
 receipt_at r =
@@ -257,7 +271,7 @@ receipt_report fed topped number message refusal = record {
 }
 
 abbrev pub no_message : Received
-no_message = record { delivery_id = 0; len = 0 }
+no_message = record { delivery_id = 0; delivery_tag = []; len = 0 }
 
 abbrev pub report_of_receipt : FedReport → Topped → Receipt → StepReport
 report_of_receipt fed topped receipt.Nothing = receipt_report fed topped 0 no_message 0
@@ -277,5 +291,5 @@ nothing_done = record { receipt = receipt.Nothing; topped = record { widened = 0
 
 -- a step with this result has this code and this report
 abbrev pub IsDoneAs : Result Done ServeFault → ℕ → StepReport → Type 0
-IsDoneAs (Ok d) code r = (code ≡ 0) × (done_at r ≡ d)
+IsDoneAs (Ok d) code r = (code ≡ 0) × (done_at r ≡ untagged_done d)
 IsDoneAs (Err x) code r = (code ≡ lost_code x) × (done_at r ≡ nothing_done)

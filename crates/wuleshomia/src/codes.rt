@@ -4,12 +4,12 @@ ghost use Rattle.amqp_endpoint.specs.Endpoints.{accepted_by, dropped_by, named_b
 ghost use Rattle.amqp_endpoint.specs.declared.event.Event.TheVariants as event;
 ghost use Rattle.amqp_endpoint.specs.declared.event.Outcome.TheVariants as outcome;
 ghost use Rattle.amqp_perform.specs.declared.outcome.Outcome.TheVariants as settlement;
-ghost use Rattle.wuleshomia.specs.Codes.{fault_at, fault_code, answer_code, accepted_at, given_at, dropped_at, named_at, Found, settlement_at, condition_at, outcome_at, end_at, open_fault_at, receipt_at, done_at, lost_code, IsDoneAs, condition_code, failure_report, report_of_event, report_of, report_of_receipt, IsAllTold, IsStepTold};
+ghost use Rattle.wuleshomia.specs.Codes.{fault_at, fault_code, answer_code, accepted_at, given_at, dropped_at, named_at, Found, settlement_at, condition_at, outcome_at, end_at, open_fault_at, receipt_at, untagged_receipt, untagged_done, done_at, lost_code, IsDoneAs, condition_code, failure_report, report_of_event, report_of, report_of_receipt, IsAllTold, IsStepTold};
 
 use crate::data::{FedReport, StepReport};
 use amqp_endpoint::{CallFault, End, Event, Fed, LimitFault, Outcome, Scope};
 use amqp_perform::{Condition, Outcome as Settlement};
-use amqp_serve::{Done, Receipt, Received, ServeFault, Stepped, Topped};
+use amqp_serve::{Done, Receipt, ServeFault, Stepped, Topped};
 
 pub const OK: u32 = 0;
 
@@ -337,7 +337,7 @@ pub fn of_step(stepped: Stepped, report: &mut StepReport) -> u32
 
 fn of_work(fed: FedReport, done: Done) -> StepReport
     ensures fed { result.fed ≡ fed }
-    ensures done { done_at result ≡ done }
+    ensures done { done_at result ≡ untagged_done done }
     ensures report { result ≡ report_of_receipt fed done.topped done.receipt }
 {
     let mut report = of_receipt(fed, done.receipt);
@@ -349,33 +349,27 @@ fn of_work(fed: FedReport, done: Done) -> StepReport
 
 fn of_receipt(fed: FedReport, receipt: Receipt) -> StepReport
     ensures fed { result.fed ≡ fed }
-    ensures receipt { receipt_at result ≡ receipt }
+    ensures receipt { receipt_at result ≡ untagged_receipt receipt }
     ensures report { result ≡ report_of_receipt fed (record { widened = 0; granted = 0; refused = 0 }) receipt }
 {
     match receipt {
         Receipt::Nothing => no_work(fed),
-        Receipt::Refused(fault) => received(
-            fed,
-            1,
-            Received {
-                delivery_id: 0,
-                len: 0,
-            },
-            of_fault(fault),
-        ),
-        Receipt::Settled(message) => received(fed, 2, message, 0),
-        Receipt::Told(message) => received(fed, 3, message, 0),
-        Receipt::Untold(message, fault) => received(fed, 4, message, of_fault(fault)),
+        Receipt::Refused(fault) => received(fed, 1, 0, 0, of_fault(fault)),
+        Receipt::Settled(message) => received(fed, 2, message.delivery_id, message.len, 0),
+        Receipt::Told(message) => received(fed, 3, message.delivery_id, message.len, 0),
+        Receipt::Untold(message, fault) => {
+            received(fed, 4, message.delivery_id, message.len, of_fault(fault))
+        }
     }
 }
 
-fn received(fed: FedReport, receipt: u32, message: Received, refusal: u32) -> StepReport
-    ensures { result ≡ record { fed = fed; receipt = receipt; id = message.delivery_id; len = message.len; refusal = refusal; widened = 0; granted = 0; refused = 0; reserved = 0 } }
+fn received(fed: FedReport, receipt: u32, id: u32, len: u32, refusal: u32) -> StepReport
+    ensures { result ≡ record { fed = fed; receipt = receipt; id = id; len = len; refusal = refusal; widened = 0; granted = 0; refused = 0; reserved = 0 } }
 {
     let mut report = no_work(fed);
     report.receipt = receipt;
-    report.id = message.delivery_id;
-    report.len = message.len;
+    report.id = id;
+    report.len = len;
     report.refusal = refusal;
     report
 }

@@ -1,6 +1,7 @@
 use Rattle.std.proofs.Common.{arith, ap, length, List, map, subst, ◌∙◌}
 use Rattle.std.proofs.lemmas.List.{take_all}
 use Rattle.amqp_hub.specs.declared.turn.Turn as asked
+use Rattle.amqp_hub.specs.Ledgers.{LedgerState, records_under}
 use Rattle.amqp_hub.specs.Turns.{turn_of, answer_of}
 use Rattle.amqp_hub.proofs.Turning.{IsSoFar, none_yet, so_far_on}
 use Rattle.amqp_hub.proofs.replays.hub_replay.Goals as goal
@@ -34,4 +35,10 @@ returns g c =
     let all = take_all c.loop-turn.turn-index c.args.turns.now c.loop-turn-test.false in
     let x = subst (λ (turns : List asked.Turn). IsSoFar c.args.rule c.args.config.now c.args.limit c.args.room (map turn_of turns) (map answer_of c.loop-turn.answers.items) c.loop-turn.hub.members c.loop-turn.hub.keeper) all
     c.loop-turn.invariant.so_far in
-    record { alone = x.alone; fits = x.fits; kept = c.into_keeper.ensures ∙ x.kept }
+    let kept = c.into_keeper.ensures ∙ x.kept in
+    record {
+      alone = x.alone;
+      fits = x.fits;
+      kept = kept;
+      whose = λ key y is. ap (λ (l : LedgerState). records_under y.number l) kept ∙ c.records_are_by_number.ensures c.args.rule c.args.config.now c.args.limit c.args.room _ _ x.fits key y is;
+    }

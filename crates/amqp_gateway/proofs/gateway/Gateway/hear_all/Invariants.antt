@@ -1,5 +1,6 @@
 use Rattle.amqp_gateway.specs.Gateways.{IsGoneOn}
+use Rattle.amqp_gateway.specs.HubCalls.{Went, takes}
 use Rattle.amqp_gateway.proofs.gateway.Gateway.hear_all.Given as goal
 
 abbrev pub invariant-loop-place : goal.invariant-loop-place
-invariant-loop-place g l = IsGoneOn l.fn.self l.self
+invariant-loop-place g l = record { gone_on : IsGoneOn l.fn.self l.self; ran : Went takes l.fn.self.hub l.self.hub }

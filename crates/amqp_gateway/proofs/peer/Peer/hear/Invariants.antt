@@ -1,8 +1,10 @@
 use Rattle.std.proofs.Common.{◌≡◌}
+use Rattle.amqp_gateway.specs.HubCalls.{Went, takes}
 use Rattle.amqp_gateway.proofs.peer.Peer.hear.Given as goal
 
 abbrev pub invariant-loop : goal.invariant-loop
 invariant-loop g l = record {
   accepted : l.desk.counts.accepted ≡ l.fn.desk.counts.accepted;
   syncs : l.desk.hub.keeper.syncs ≡ l.fn.desk.hub.keeper.syncs;
+  ran : Went takes l.fn.desk.hub l.desk.hub;
 }

@@ -7,7 +7,7 @@ pub returns-clause-done : goal.returns-clause-done
 returns-clause-done g c = λ r config n.
     let heard = c.in-Ok.ensures.heard in
     let last = since c.records-before.result.now c.in_ok-noted.noted.items c.args.self.now.keeper c.hear.new.self.keeper (c.records-before.ensures ∙ ap (λ l. records_of l) c.keeper.ensures) c.in_ok-noted.ensures in
-    (heard_into c.args.self.now.members c.hear.new.self.members c.args.key c.args.piece.now c.in-Ok.stepped heard.0 c.in_ok-noted.noted.items c.waiting_front.result.now _ c.args.self.now.keeper c.hear.new.self.keeper last refl
+    (heard_into c.args.self.now.members c.hear.new.self.members c.args.key c.args.piece.now c.in-Ok.stepped heard.0 c.in_ok-noted.noted.items c.waiting_front.result.now _ c.args.self.now.keeper c.hear.new.self.keeper c.a_step_tells_what_it_recorded.ensures last refl
     c.waiting_front.ensures heard.1).0
 
 pub returns-clause-ledger : goal.returns-clause-ledger
@@ -16,5 +16,5 @@ returns-clause-ledger g c =
     let last = since c.records-before.result.now c.in_ok-noted.noted.items c.args.self.now.keeper c.hear.new.self.keeper (c.records-before.ensures ∙ ap (λ l. records_of l) c.keeper.ensures) c.in_ok-noted.ensures in (
       c.in-Ok.ensures.room,
       (heard_into c.args.self.now.members c.hear.new.self.members c.args.key c.args.piece.now c.in-Ok.stepped heard.0 c.in_ok-noted.noted.items c.waiting_front.result.now (length c.waiting_front.result.now)
-          c.args.self.now.keeper c.hear.new.self.keeper last refl c.waiting_front.ensures heard.1).1,
+          c.args.self.now.keeper c.hear.new.self.keeper c.a_step_tells_what_it_recorded.ensures last refl c.waiting_front.ensures heard.1).1,
     )

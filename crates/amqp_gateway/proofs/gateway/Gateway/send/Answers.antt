@@ -1,0 +1,10 @@
+use Rattle.amqp_gateway.specs.HubCalls.{tells}
+use Rattle.amqp_gateway.proofs.HubRuns.{went_on}
+use Rattle.amqp_gateway.proofs.HubTurns.{hub_of, went_from}
+use Rattle.amqp_gateway.proofs.gateway.Gateway.send.Goals as goal
+
+pub returns-in-Over-clause-ran : goal.returns-in-Over-clause-ran
+returns-in-Over-clause-ran g c =
+    let hub = c.self.inside.desk.hub in
+    let new = c.remove.new.self.hub in
+    went_from tells c.args.self.now.hub hub new (hub_of _ c.args.self.now c.self.view_is) (went_on tells hub c.send.new.hub new c.send.ensures.ran c.remove.ensures.ran)
