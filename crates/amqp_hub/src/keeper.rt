@@ -49,7 +49,7 @@ pub trait Keeper {
     // Its device has failed.
     ghost broken: { Self → Bool };
 
-    // How many bytes of records it holds.
+    // How many bytes of records it holds that it has not taken for good.
     ghost holds: { Self → ℕ };
 
     // It was given this record of this origin, and is this one then.

@@ -1,5 +1,6 @@
 pub mod Servings
 pub mod Deeds
+pub mod Noting
 pub mod ServingRecords
 pub mod ServingTops
 pub mod ServingFeeds

@@ -29,6 +29,15 @@ pub stepped_lost : {p : Rule} {bytes : List ℕ} (told : Outcome) {r : Result Do
     → HasStopped p lost bytes s t x y
 stepped_lost {p} {bytes} told {r} {lost} {s} {t} {x} {y} is off = subst (λ (q : Result Done ServeFault). IsStepped p bytes told q s t x y) is off
 
+-- and a step whose answer was stored
+pub step_done : {p : Rule} {bytes : List ℕ} {told : Outcome} {r : Result (Unit {0}) ServeFault} {x : Unit {0}} {d : Done} {s t : EndpointState} {y z : Ends} → r ≡ Ok x → IsStepped p bytes told (filled r d) s t y z
+    → HasStepped p told d bytes s t y z
+step_done {d = d} is on = stepped_done (ap (λ r. filled r d) is) on
+
+pub step_lost : {p : Rule} {bytes : List ℕ} (told : Outcome) {r : Result (Unit {0}) ServeFault} (d : Done) {lost : ServeFault} {s t : EndpointState} {x y : Ends} → r ≡ Err lost → IsStepped p bytes told (filled r d) s t x y
+    → HasStopped p lost bytes s t x y
+step_lost told d is off = stepped_lost told (ap (λ r. filled r d) is) off
+
 -- and a piece of no bytes
 pub read_stepped : {p : Rule} {told : Outcome} {d : Done} {s t u : EndpointState} {w k : Option (List ℕ)} {y z : Ends} (r : Option (List ℕ)) → Works p reading reading s t w y.writer k y.sink → HasStepped p told d [] t u y z
     → HasRead p s u r r w z.writer k z.sink

@@ -3,6 +3,7 @@ pub mod Cuts
 pub mod Supplied
 pub mod Supplying
 pub mod Deeds
+pub mod Noting
 pub mod Servers
 pub mod Policies
 pub mod Interrupted

@@ -11,6 +11,7 @@
 
 pub mod laws;
 pub mod life_laws;
+mod note;
 mod records;
 mod rules;
 mod sending;

@@ -1,19 +1,21 @@
 //! Serving a whole connection, over a reader, a writer and a sink.
-ghost use Rattle.std.specs.Prelude.{◌≡◌, ◌↔◌, ◌<◌, [], ℕ, List, true, false, length, Err, IsTrue, OnOk, IfOk, IfErr};
+ghost use Rattle.std.specs.Prelude.{◌≡◌, ◌↔◌, ◌<◌, [], ℕ, List, true, false, length, Err, IsTrue, OnOk, IfOk, IfErr, take};
 ghost use Rattle.std.specs.Io.KnownBytes.{Consumes};
 ghost use Rattle.amqp_frame.specs.Devices.{device_inner, device_hand, has_failed, has_ended, is_flushed, reads_ahead};
 ghost use Rattle.amqp_frame.specs.Splits.{IsOver};
 ghost use Rattle.amqp_endpoint.specs.Connections.{is_dead};
-ghost use Rattle.amqp_serve.specs.Deeds.{ends, AreOpen, IsLost, Goes};
+ghost use Rattle.amqp_endpoint.specs.Steps.{EndpointState, MayRead, IsKept};
+ghost use Rattle.amqp_serve.specs.Deeds.{ends, filled, AreOpen, IsLost, IsStepped, Goes};
 ghost use Rattle.amqp_serve.specs.Policies.{BrokeOff, IsServed};
 ghost use Rattle.amqp_serve.specs.Serving as by;
 ghost use Rattle.amqp_serve.specs.Serving.{reading, IsIdle, IsStarved, HasAllTaken};
 ghost use Rattle.amqp_serve.specs.Supplied.{IsRight};
 
+use crate::note::{Note, stepped_of};
 use crate::sending::{fill_hand, flush_both, read_in, write_out};
-use crate::steps::{Course, Done, serve_piece_into, serve_read, stepped_of};
+use crate::steps::{Course, Done, serve_piece_into, serve_read_into};
 use crate::{Rule, Unwatched, Watch};
-use amqp_endpoint::{End, Endpoint, Fed};
+use amqp_endpoint::{End, Endpoint, Fed, Outcome};
 use amqp_frame::{AtHand, Device, HoldsBack};
 use amqp_perform::Outcome as Settlement;
 use std::alloc::Allocator;
@@ -218,9 +220,7 @@ fn run<
     };
     write_out(endpoint, writer, sink)?;
     if !endpoint.is_over() {
-        let stepped = serve_read(endpoint, &mut course, 0, writer, sink);
-        watch.did(&stepped);
-        stepped.done?;
+        step_on(endpoint, &mut course, 0, writer, sink, watch)?;
     }
     'reads: while !endpoint.is_over() && !reader.ended() {
         go_on(endpoint, reader, &mut course, writer, sink, watch)?;
@@ -300,19 +300,27 @@ fn hand_on<
     ensures goes { Goes course.old.rule result endpoint.old endpoint.new (R.remaining (device_inner reader.old)) (R.remaining (device_inner reader.new)) (has_failed reader.new)
         (ends W.contents S.contents writer.old sink.old) (ends W.contents S.contents writer.new sink.new) }
 {
-    let mut done = Done::NOTHING;
-    let (fed, end) = serve_piece_into(endpoint, course, reader.at_hand(), &mut done, writer, sink);
+    let mut note = Note::NOTHING;
+    let (fed, end) = serve_piece_into(
+        endpoint,
+        course,
+        reader.at_hand(),
+        watch.listens(),
+        &mut note,
+        writer,
+        sink,
+    );
     reader.took(fed.used);
-    report(watch, fed, end, &done);
+    report(watch, fed, end, &note);
     end
 }
 
 /// Reports a step to a watch that listens.
 // Inlined, so that a step is copied only where a watch listens, not for the call.
 #[inline(always)]
-fn report<T: Watch>(watch: &mut T, fed: Fed, end: Result<(), ServeFault>, done: &Done) {
+fn report<T: Watch>(watch: &mut T, fed: Fed, end: Result<(), ServeFault>, note: &Note) {
     if watch.listens() {
-        watch.did(&stepped_of(fed, end, done));
+        watch.did(&stepped_of(fed, end, note));
     }
 }
 
@@ -348,10 +356,39 @@ fn read_on<
         (ends W.contents S.contents writer.old sink.old) (ends W.contents S.contents writer.new sink.new) }
 {
     let count = read_in(endpoint, reader, writer, sink)?;
-    let stepped = serve_read(endpoint, course, count, writer, sink);
-    watch.did(&stepped);
-    match stepped.done {
-        Ok(_) => Ok(()),
-        Err(fault) => Err(fault),
-    }
+    step_on(endpoint, course, count, writer, sink, watch)
+}
+
+/// Makes a step with the `n` bytes that were read.
+// For the same reason as `hand_on`.
+#[inline(always)]
+fn step_on<A: Allocator + Copy, W: Write + HoldsBack + Drop, S: Write + Drop, T: Watch>(
+    endpoint: &mut Endpoint<A>,
+    course: &mut Course,
+    n: usize,
+    writer: &mut Device<W>,
+    sink: &mut Device<S>,
+    watch: &mut T,
+) -> Result<(), ServeFault>
+    requires ends { AreOpen (ends W.contents S.contents writer.old sink.old) }
+    requires sent { endpoint.old.unsent ≡ [] }
+    requires course { IsRight course.old endpoint.old.connection }
+    requires read { MayRead endpoint.old n }
+    ensures rule { course.new.rule ≡ course.old.rule }
+    ensures course { IsRight course.new endpoint.new.connection }
+    ensures stepped { (told : Outcome) × (d : Done) × ((s : EndpointState) → IsKept s endpoint.old → IsStepped course.old.rule (take n endpoint.old.input.spare) told (filled result d) s endpoint.new
+        (ends W.contents S.contents writer.old sink.old) (ends W.contents S.contents writer.new sink.new)) }
+{
+    let mut note = Note::NOTHING;
+    let (fed, end) = serve_read_into(
+        endpoint,
+        course,
+        n,
+        watch.listens(),
+        &mut note,
+        writer,
+        sink,
+    );
+    report(watch, fed, end, &note);
+    end
 }

@@ -4,12 +4,14 @@ ghost use Rattle.amqp_session.specs.Calls.{Take};
 ghost use Rattle.amqp_endpoint.specs.Endpoints.{handed_in};
 ghost use Rattle.amqp_endpoint.specs.Runs.{CallDone, HandedUp};
 ghost use Rattle.amqp_endpoint.specs.Steps.{EndpointState, MayRead, IsKept};
-ghost use Rattle.amqp_serve.specs.Deeds.{received_as, receipt_by, receipt_deeds, filled, Follows, IsStepped, Reaches, Went, ends, AreOpen};
+ghost use Rattle.amqp_serve.specs.Deeds.{receipt_deeds, filled, Follows, IsStepped, Reaches, Went, ends, AreOpen};
+ghost use Rattle.amqp_serve.specs.Noting.{IsNoteOf, IsReceiptOf};
 ghost use Rattle.amqp_serve.specs.Serving.{ToppingUp, Receiving, all_supplies, stand_told};
 ghost use Rattle.amqp_serve.specs.Supplied.{IsRight, IsSuppliedBut, IsOnlyAt, is_nil, told_look, received_look, look_behind};
 ghost use Rattle.amqp_serve.specs.declared.supplies.Look.TheVariants as look;
 
-use crate::records::{recorded_len, write_record};
+use crate::note::{Fate, Note, stepped_of};
+use crate::records::write_record;
 use crate::sending::write_out;
 use crate::supplies::{Look, Topped, top_up};
 use crate::{Rule, ServeFault};
@@ -107,20 +109,21 @@ pub fn serve_piece<A: Allocator + Copy, W: Write + HoldsBack + Drop, S: Write + 
     ensures stepped { IsStepped course.old.rule (take result.used piece.now) result.told result.done endpoint.old endpoint.new (ends W.contents S.contents writer.old sink.old)
         (ends W.contents S.contents writer.new sink.new) }
 {
-    let mut done = Done::NOTHING;
-    let (fed, end) = serve_piece_into(endpoint, course, piece, &mut done, writer, sink);
-    stepped_of(fed, end, &done)
+    let mut note = Note::NOTHING;
+    let (fed, end) = serve_piece_into(endpoint, course, piece, true, &mut note, writer, sink);
+    stepped_of(fed, end, &note)
 }
 
-/// Serves a piece as [`serve_piece`] does, and stores in `done` what was done. Returns what the feed came to, and how
-/// the step ended.
+/// Serves a piece as [`serve_piece`] does, and notes what was done, with the message if `whole`. Returns what the feed
+/// came to, and how the step ended.
 // For the same reason as `hand_on`.
 #[inline(always)]
 pub fn serve_piece_into<A: Allocator + Copy, W: Write + HoldsBack + Drop, S: Write + Drop>(
     endpoint: &mut Endpoint<A>,
     course: &mut Course,
     piece: &[u8],
-    done: &mut Done,
+    whole: bool,
+    note: &mut Note,
     writer: &mut Device<W>,
     sink: &mut Device<S>,
 ) -> (Fed, Result<(), ServeFault>)
@@ -131,33 +134,15 @@ pub fn serve_piece_into<A: Allocator + Copy, W: Write + HoldsBack + Drop, S: Wri
     ensures reaches { Reaches endpoint.old piece.now result.0.used }
     ensures rule { course.new.rule ≡ course.old.rule }
     ensures course { IsRight course.new endpoint.new.connection }
-    ensures stepped { IsStepped course.old.rule (take result.0.used piece.now) result.0.outcome (filled result.1 done.new) endpoint.old endpoint.new (ends W.contents S.contents writer.old sink.old)
-        (ends W.contents S.contents writer.new sink.new) }
+    ensures stepped { (d : Done) × IsNoteOf whole note.new d × IsStepped course.old.rule (take result.0.used piece.now) result.0.outcome (filled result.1 d) endpoint.old endpoint.new
+        (ends W.contents S.contents writer.old sink.old) (ends W.contents S.contents writer.new sink.new) }
 {
     endpoint.holds_a_header(); // three laws, for the proof
     are_bytes(piece);
     fills_are_feeds();
     let fed = endpoint.feed(piece);
-    let end = follow_into(endpoint, course, &fed.outcome, done, writer, sink);
+    let end = follow_into(endpoint, course, &fed.outcome, whole, note, writer, sink);
     (fed, end)
-}
-
-/// Returns the result of a step, by what the feed came to and how the step ended.
-// For the same reason as `report` in `serving.rt`.
-#[inline(always)]
-pub fn stepped_of(fed: Fed, end: Result<(), ServeFault>, done: &Done) -> Stepped
-    ensures used { result.used ≡ fed.used }
-    ensures told { result.told ≡ fed.outcome }
-    ensures done { result.done ≡ filled end done.now }
-{
-    Stepped {
-        used: fed.used,
-        told: fed.outcome,
-        done: match end {
-            Ok(()) => Ok(*done),
-            Err(fault) => Err(fault),
-        },
-    }
 }
 
 /// Serves the `n` bytes that were read into the room that the endpoint lends. It uses all of them. What it does
@@ -181,23 +166,50 @@ pub fn serve_read<A: Allocator + Copy, W: Write + HoldsBack + Drop, S: Write + D
     ensures stepped { (s : EndpointState) → IsKept s endpoint.old → IsStepped course.old.rule (take n endpoint.old.input.spare) result.told result.done s endpoint.new
         (ends W.contents S.contents writer.old sink.old) (ends W.contents S.contents writer.new sink.new) }
 {
+    let mut note = Note::NOTHING;
+    let (fed, end) = serve_read_into(endpoint, course, n, true, &mut note, writer, sink);
+    stepped_of(fed, end, &note)
+}
+
+/// Serves what was read as [`serve_read`] does, and notes what was done, with the message if `whole`. Returns what the
+/// feed came to, and how the step ended.
+// For the same reason as `hand_on`.
+#[inline(always)]
+pub fn serve_read_into<A: Allocator + Copy, W: Write + HoldsBack + Drop, S: Write + Drop>(
+    endpoint: &mut Endpoint<A>,
+    course: &mut Course,
+    n: usize,
+    whole: bool,
+    note: &mut Note,
+    writer: &mut Device<W>,
+    sink: &mut Device<S>,
+) -> (Fed, Result<(), ServeFault>)
+    requires ends { AreOpen (ends W.contents S.contents writer.old sink.old) }
+    requires sent { endpoint.old.unsent ≡ [] }
+    requires course { IsRight course.old endpoint.old.connection }
+    requires read { MayRead endpoint.old n }
+    ensures used { result.0.used ≡ n }
+    ensures rule { course.new.rule ≡ course.old.rule }
+    ensures course { IsRight course.new endpoint.new.connection }
+    ensures stepped { (d : Done) × IsNoteOf whole note.new d × ((s : EndpointState) → IsKept s endpoint.old → IsStepped course.old.rule (take n endpoint.old.input.spare) result.0.outcome
+        (filled result.1 d) s endpoint.new (ends W.contents S.contents writer.old sink.old) (ends W.contents S.contents writer.new sink.new)) }
+{
     endpoint.holds_a_header(); // three laws, for the proof
     endpoint.spare_is_bytes();
     fills_are_feeds();
     let fed = endpoint.filled(n);
-    let mut done = Done::NOTHING;
-    let end = follow_into(endpoint, course, &fed.outcome, &mut done, writer, sink);
-    stepped_of(fed, end, &done)
+    let end = follow_into(endpoint, course, &fed.outcome, whole, note, writer, sink);
+    (fed, end)
 }
 
-/// Does what follows from a feed that reported `told`, and stores in `done` what was done. If nothing lacked anything
-/// before the feed, `told` names what may lack something now.
-// Stored, since a large answer is copied with its gaps: 67 instructions for each message.
+/// Does what follows from a feed that reported `told`, and notes what was done, with the message if `whole`. If nothing
+/// lacked anything before the feed, `told` names what may lack something now.
 fn follow_into<A: Allocator + Copy, W: Write + HoldsBack + Drop, S: Write + Drop>(
     endpoint: &mut Endpoint<A>,
     course: &mut Course,
     told: &Outcome,
-    done: &mut Done,
+    whole: bool,
+    note: &mut Note,
     writer: &mut Device<W>,
     sink: &mut Device<S>,
 ) -> Result<(), ServeFault>
@@ -205,7 +217,7 @@ fn follow_into<A: Allocator + Copy, W: Write + HoldsBack + Drop, S: Write + Drop
     requires supplied { course.old.supplied ≡ true → IsSuppliedBut (told_look told.now (is_nil endpoint.old.input.filled)) course.old.rule endpoint.old.connection }
     ensures rule { course.new.rule ≡ course.old.rule }
     ensures course { IsRight course.new endpoint.new.connection }
-    ensures follows { Follows course.old.rule told.now (filled result done.new) endpoint.old endpoint.new (ends W.contents S.contents writer.old sink.old)
+    ensures follows { (d : Done) × IsNoteOf whole note.new d × Follows course.old.rule told.now (filled result d) endpoint.old endpoint.new (ends W.contents S.contents writer.old sink.old)
         (ends W.contents S.contents writer.new sink.new) }
 {
     let supplied = course.supplied;
@@ -214,18 +226,10 @@ fn follow_into<A: Allocator + Copy, W: Write + HoldsBack + Drop, S: Write + Drop
         return Err(ServeFault::NoMemory);
     }
     let rule = &course.rule;
-    let look = receive(
-        endpoint,
-        *told,
-        supplied,
-        rule,
-        &mut done.receipt,
-        writer,
-        sink,
-    )?;
-    top_up(endpoint, look, rule, &mut done.topped, writer, sink)?;
+    let look = receive(endpoint, *told, supplied, rule, whole, note, writer, sink)?;
+    top_up(endpoint, look, rule, &mut note.topped, writer, sink)?;
     write_out(endpoint, writer, sink)?;
-    course.supplied = done.topped.refused == 0;
+    course.supplied = note.topped.refused == 0;
     Ok(())
 }
 
@@ -238,7 +242,8 @@ fn receive<A: Allocator + Copy, W: Write + HoldsBack + Drop, S: Write + Drop>(
     told: Outcome,
     supplied: bool,
     rule: &Rule,
-    receipt: &mut Receipt,
+    whole: bool,
+    note: &mut Note,
     writer: &mut Device<W>,
     sink: &mut Device<S>,
 ) -> Result<Look, ServeFault>
@@ -246,12 +251,12 @@ fn receive<A: Allocator + Copy, W: Write + HoldsBack + Drop, S: Write + Drop>(
     requires fed { told ≢ Outcome.NoMemory }
     ensures look { IfOk result (λ l. l ≡ look_behind supplied told (is_nil endpoint.old.input.filled)) }
     ensures only { OnOk result (IsOnlyAt rule.now (received_look told) endpoint.old.connection endpoint.new.connection) }
-    ensures went { Went rule.now (λ _. receipt_deeds receipt.new) (stand_told endpoint.old.connection.config told) (ToppingUp (all_supplies endpoint.old.connection.config)) result
-        endpoint.old endpoint.new (ends W.contents S.contents writer.old sink.old) (ends W.contents S.contents writer.new sink.new) }
+    ensures went { (r : Receipt) × IsReceiptOf whole note.new r × Went rule.now (λ _. receipt_deeds r) (stand_told endpoint.old.connection.config told)
+        (ToppingUp (all_supplies endpoint.old.connection.config)) result endpoint.old endpoint.new (ends W.contents S.contents writer.old sink.old) (ends W.contents S.contents writer.new sink.new) }
 {
     match told {
         Outcome::Event(Event::Ready { channel, handle }) => {
-            receive_from(endpoint, channel, handle, rule, receipt, writer, sink)?;
+            receive_from(endpoint, channel, handle, rule, whole, note, writer, sink)?;
             Ok(if supplied {
                 Look::Link { channel, handle }
             } else {
@@ -259,7 +264,7 @@ fn receive<A: Allocator + Copy, W: Write + HoldsBack + Drop, S: Write + Drop>(
             })
         }
         _ => {
-            *receipt = Receipt::Nothing;
+            note.fate = Fate::Nothing;
             Ok(look_behind(supplied, told, endpoint.is_between()))
         }
     }
@@ -299,21 +304,22 @@ fn receive_from<A: Allocator + Copy, W: Write + HoldsBack + Drop, S: Write + Dro
     channel: u16,
     handle: u32,
     rule: &Rule,
-    receipt: &mut Receipt,
+    whole: bool,
+    note: &mut Note,
     writer: &mut Device<W>,
     sink: &mut Device<S>,
 ) -> Result<(), ServeFault>
     requires ends { AreOpen (ends W.contents S.contents writer.old sink.old) }
     ensures only { OnOk result (IsOnlyAt rule.now (look.Link channel handle) endpoint.old.connection endpoint.new.connection) }
-    ensures went { Went rule.now (λ _. receipt_deeds receipt.new) (Receiving channel handle) (ToppingUp (all_supplies endpoint.old.connection.config)) result
+    ensures went { (r : Receipt) × IsReceiptOf whole note.new r × Went rule.now (λ _. receipt_deeds r) (Receiving channel handle) (ToppingUp (all_supplies endpoint.old.connection.config)) result
         endpoint.old endpoint.new (ends W.contents S.contents writer.old sink.old) (ends W.contents S.contents writer.new sink.new) }
 {
     match endpoint.take(channel, handle) {
         Ok(taken) => record_and_settle(
-            endpoint, channel, handle, &taken, rule, receipt, writer, sink,
+            endpoint, channel, handle, &taken, rule, whole, note, writer, sink,
         ),
         Err(fault) => {
-            *receipt = Receipt::Refused(fault);
+            note.fate = Fate::Refused(fault);
             Ok(())
         }
     }
@@ -327,7 +333,8 @@ fn record_and_settle<A: Allocator + Copy, W: Write + HoldsBack + Drop, S: Write 
     handle: u32,
     taken: &Taken<A>,
     rule: &Rule,
-    receipt: &mut Receipt,
+    whole: bool,
+    note: &mut Note,
     writer: &mut Device<W>,
     sink: &mut Device<S>,
 ) -> Result<(), ServeFault>
@@ -337,40 +344,19 @@ fn record_and_settle<A: Allocator + Copy, W: Write + HoldsBack + Drop, S: Write 
     ensures only { (s : EndpointState) → CallDone s endpoint.old channel (Take handle) (HandedUp (handed_in taken.now))
         → OnOk result (IsOnlyAt rule.now (look.Link channel handle) s.connection endpoint.new.connection) }
     ensures went { (s : EndpointState) → CallDone s endpoint.old channel (Take handle) (HandedUp (handed_in taken.now))
-        → Went rule.now (λ _. receipt_deeds receipt.new) (Receiving channel handle) (ToppingUp (all_supplies s.connection.config)) result s endpoint.new
+        → (r : Receipt) × IsReceiptOf whole note.new r × Went rule.now (λ _. receipt_deeds r) (Receiving channel handle) (ToppingUp (all_supplies s.connection.config)) result s endpoint.new
         (ends W.contents S.contents writer.old sink.old) (ends W.contents S.contents writer.new sink.new) }
 {
     write_record(sink, channel, handle, taken)?;
-    let message = received_of(taken);
+    note.took(whole, taken);
     if taken.settled {
-        *receipt = Receipt::Settled(message);
+        note.fate = Fate::Settled;
         return Ok(());
     }
     write_out(endpoint, writer, sink)?;
     endpoint.ids_are_apart(channel); // two laws, for the proof
-    is_id(message.delivery_id);
-    let told = endpoint.settle(channel, message.delivery_id, rule.outcome);
-    *receipt = receipt_of(message, told);
+    is_id(taken.delivery_id);
+    let told = endpoint.settle(channel, taken.delivery_id, rule.outcome);
+    note.fate = Fate::of(told);
     Ok(())
-}
-
-/// Returns the receipt of a message, by the answer to the call that settles it.
-fn receipt_of(message: Received, told: Result<(), CallFault>) -> Receipt
-    ensures { result ≡ receipt_by message told }
-{
-    match told {
-        Ok(()) => Receipt::Told(message),
-        Err(fault) => Receipt::Untold(message, fault),
-    }
-}
-
-/// Returns what is reported of a message.
-fn received_of<A: Allocator + Copy>(taken: &Taken<A>) -> Received
-    ensures { result ≡ received_as (handed_in taken.now) }
-{
-    Received {
-        delivery_id: taken.delivery_id,
-        delivery_tag: taken.delivery_tag,
-        len: recorded_len(&taken.message),
-    }
 }

@@ -11,6 +11,6 @@ returns-clause-goes g c =
     let fed = step.result.0 in
     let r = g.R.Read.remaining (device_inner c.args.reader.now) in
     let r1 = g.R.Read.remaining (device_inner c.took.new.self) in
-    goes_by_step c.args.course.now.rule fed.outcome step.result.1 step.new.done c.args.endpoint.now step.new.endpoint (take fed.used c.at_hand.result.now) r r1 (has_failed c.took.new.self) _ _
+    goes_by_step c.args.course.now.rule fed.outcome step.result.1 step.ensures.stepped.0 c.args.endpoint.now step.new.endpoint (take fed.used c.at_hand.result.now) r r1 (has_failed c.took.new.self) _ _
     (λ failed. false≢true (sym c.took.ensures.failed ∙ failed)) c.requires.alive
-    (subst (λ (l : List ℕ). Consumes r r1 (take fed.used l)) (sym c.at_hand.ensures) c.took.ensures.bytes) step.ensures.stepped
+    (subst (λ (l : List ℕ). Consumes r r1 (take fed.used l)) (sym c.at_hand.ensures) c.took.ensures.bytes) step.ensures.stepped.2

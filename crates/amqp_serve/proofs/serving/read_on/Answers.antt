@@ -4,7 +4,7 @@ use Rattle.std.proofs.lemmas.Result.{err_from_is_err_and}
 use Rattle.amqp_frame.specs.Devices.{device_inner, has_failed}
 use Rattle.amqp_serve.specs.declared.serving.ServeFault.TheVariants.{Read}
 use Rattle.amqp_serve.proofs.ServingFeeds.{idle_wants}
-use Rattle.amqp_serve.proofs.ServingReads.{lost_at_reader, lost_in_step, stepped_done, stepped_lost, gone_by_step, goes_lost}
+use Rattle.amqp_serve.proofs.ServingReads.{lost_at_reader, goes_by_step, goes_lost}
 use Rattle.amqp_serve.proofs.serving.read_on.Goals as goal
 
 pub read_in-requires-clause-wants : goal.read_in-requires-clause-wants
@@ -22,18 +22,10 @@ returns-in_err-count-clause-goes g c =
     (lost_at_reader p s c.read_in.new.endpoint r r1 (has_failed c.read_in.new.reader) _ (c.in_err-count.ensures.failed.0 refl) c.in_err-count.ensures.kept.1 c.in_err-count.ensures.kept.0 c.requires.sent c.requires.alive
     c.requires.ends)
 
-pub returns-in-Ok-clause-goes : goal.returns-in-Ok-clause-goes
-returns-in-Ok-clause-goes g c =
+pub returns-clause-goes : goal.returns-clause-goes
+returns-clause-goes g c =
     let s = c.args.endpoint.now in
-    let step = c.serve_read-stepped in
+    let step = c.step_on in
     let came = c.in_ok-count.ensures.read in
-    gone_by_step c.args.course.now.rule step.result.told _ s step.new.endpoint (take c.in_ok-count.count c.read_in.new.endpoint.input.spare) _ _ (has_failed c.read_in.new.reader) _ _
-    (λ failed. false≢true (c.in_ok-count.ensures.failed.1 failed)) c.requires.alive came.2 (stepped_done c.in-Ok.is (step.ensures.stepped s came.1))
-
-pub returns-in-Err-clause-goes : goal.returns-in-Err-clause-goes
-returns-in-Err-clause-goes g c =
-    let s = c.args.endpoint.now in
-    let step = c.serve_read-stepped in
-    let came = c.in_ok-count.ensures.read in
-    lost_in_step c.args.course.now.rule c.in-Err.fault s step.new.endpoint (take c.in_ok-count.count c.read_in.new.endpoint.input.spare) _ _ (has_failed c.read_in.new.reader) _ _
-    (λ failed. false≢true (c.in_ok-count.ensures.failed.1 failed)) came.2 (stepped_lost step.result.told c.in-Err.is (step.ensures.stepped s came.1))
+    goes_by_step c.args.course.now.rule step.ensures.stepped.0 step.result step.ensures.stepped.1 s step.new.endpoint (take c.in_ok-count.count c.read_in.new.endpoint.input.spare) _ _ (has_failed c.read_in.new.reader)
+    _ _ (λ failed. false≢true (c.in_ok-count.ensures.failed.1 failed)) c.requires.alive came.2 (step.ensures.stepped.2 s came.1)

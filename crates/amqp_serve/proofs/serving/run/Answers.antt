@@ -7,12 +7,12 @@ use Rattle.amqp_endpoint.specs.Connections.{ConnectionState, is_dead}
 use Rattle.amqp_endpoint.specs.Steps.{EndpointState}
 use Rattle.amqp_serve.specs.Serving.{reading}
 use Rattle.amqp_serve.proofs.Servings.{kept_same, works_none, works_flushed}
-use Rattle.amqp_serve.proofs.ServingReads.{stepped_done, stepped_lost, read_worked, read_stepped, read_more, read_ended, lost_at_ends, lost_in_step, lost_behind, lost_more, lost_by, flush_lost}
-use Rattle.amqp_serve.proofs.serving.run.Goals.{then-not-is_over+in_ok-stepped, else-not-is_over, then-reads-test+else-not-ended, else-reads-test}
+use Rattle.amqp_serve.proofs.ServingReads.{step_done, step_lost, read_worked, read_stepped, read_more, read_ended, lost_at_ends, lost_in_step, lost_behind, lost_more, lost_by, flush_lost}
+use Rattle.amqp_serve.proofs.serving.run.Goals.{then-not-is_over+in_ok-step_on, else-not-is_over, then-reads-test+else-not-ended, else-reads-test}
 use Rattle.amqp_serve.proofs.serving.run.Goals as goal
 
-pub serve_read-stepped-requires-clause-ends : goal.serve_read-stepped-requires-clause-ends
-serve_read-stepped-requires-clause-ends g c = (c.in_ok-write_out.ensures.went c.args.rule reading).still
+pub step_on-requires-clause-ends : goal.step_on-requires-clause-ends
+step_on-requires-clause-ends g c = (c.in_ok-write_out.ensures.went c.args.rule reading).still
 
 pub returns-in_err-write_out-clause-lost : goal.returns-in_err-write_out-clause-lost
 returns-in_err-write_out-clause-lost g c =
@@ -21,14 +21,14 @@ returns-in_err-write_out-clause-lost g c =
     (lost_at_ends c.args.rule _ c.args.endpoint.now c.write_out.new.endpoint (g.R.Read.remaining (device_inner c.args.reader.now)) (has_failed c.args.reader.now) _ _ c.requires.reader
     (c.in_err-write_out.ensures.went c.args.rule reading))
 
-pub returns-in_err-stepped-clause-lost : goal.returns-in_err-stepped-clause-lost
-returns-in_err-stepped-clause-lost g c =
+pub returns-in_err-step_on-clause-lost : goal.returns-in_err-step_on-clause-lost
+returns-in_err-step_on-clause-lost g c =
     let r = g.R.Read.remaining (device_inner c.args.reader.now) in
     let t = c.write_out.new.endpoint in
-    let q = err_from_is_err_and c.from_residual-in_err-stepped.result c.from_residual-in_err-stepped.ensures.1 in
-    lost_by c.from_residual-in_err-stepped.result c.args.rule q.0 _ c.args.endpoint.now c.serve_read-stepped.new.endpoint r r (has_failed c.args.reader.now) _ _ q.1 q.2
+    let q = err_from_is_err_and c.from_residual-in_err-step_on.result c.from_residual-in_err-step_on.ensures.1 in
+    lost_by c.from_residual-in_err-step_on.result c.args.rule q.0 _ c.args.endpoint.now c.step_on.new.endpoint r r (has_failed c.args.reader.now) _ _ q.1 q.2
     (lost_behind r r (has_failed c.args.reader.now) (c.in_ok-write_out.ensures.went c.args.rule reading).works
-    (lost_in_step c.args.rule _ t c.serve_read-stepped.new.endpoint (take 0 t.input.spare) r r (has_failed c.args.reader.now) _ _ c.requires.reader (Consumes-nil r) (stepped_lost c.serve_read-stepped.result.told c.in_err-stepped.was (c.serve_read-stepped.ensures.stepped t (kept_same t)))))
+    (lost_in_step c.args.rule _ t c.step_on.new.endpoint (take 0 t.input.spare) r r (has_failed c.args.reader.now) _ _ c.requires.reader (Consumes-nil r) (step_lost c.step_on.ensures.stepped.0 c.step_on.ensures.stepped.1 c.in_err-step_on.was (c.step_on.ensures.stepped.2 t (kept_same t)))))
 
 pub reads-init : goal.reads-init
 reads-init g c =
@@ -40,31 +40,31 @@ reads-init g c =
     record {
       reader = c.requires.reader;
       open_ends = elim c.if-not-is_over.branch [
-        | then-not-is_over+in_ok-stepped b ↦ rw (b.writer-is, b.sink-is) (stepped_done b.in_ok-stepped.was (b.serve_read-stepped.ensures.stepped t (kept_same t))).still
+        | then-not-is_over+in_ok-step_on b ↦ rw (b.writer-is, b.sink-is) (step_done b.in_ok-step_on.was (b.step_on.ensures.stepped.2 t (kept_same t))).still
         | else-not-is_over b ↦ rw (b.writer-is, b.sink-is) wrote.still
       ];
       sent = elim c.if-not-is_over.branch [
-        | then-not-is_over+in_ok-stepped b ↦ rw b.endpoint-is (stepped_done b.in_ok-stepped.was (b.serve_read-stepped.ensures.stepped t (kept_same t))).sent
+        | then-not-is_over+in_ok-step_on b ↦ rw b.endpoint-is (step_done b.in_ok-step_on.was (b.step_on.ensures.stepped.2 t (kept_same t))).sent
         | else-not-is_over b ↦ rw b.endpoint-is c.in_ok-write_out.ensures.empty
       ];
       idle = elim c.if-not-is_over.branch [
-        | then-not-is_over+in_ok-stepped b ↦ λ alive. rw b.endpoint-is ((stepped_done b.in_ok-stepped.was (b.serve_read-stepped.ensures.stepped t (kept_same t))).idle (sym c.is_over.ensures.value ∙ b.if-not-is_over.true))
+        | then-not-is_over+in_ok-step_on b ↦ λ alive. rw b.endpoint-is ((step_done b.in_ok-step_on.was (b.step_on.ensures.stepped.2 t (kept_same t))).idle (sym c.is_over.ensures.value ∙ b.if-not-is_over.true))
         | else-not-is_over b ↦ λ alive. absurd (false≢true (sym alive ∙ ap (λ (x : EndpointState). is_dead x.connection.phase) b.endpoint-is ∙ sym c.is_over.ensures.value ∙ b.if-not-is_over.false))
       ];
       begun = elim c.if-not-is_over.branch [
-        | then-not-is_over+in_ok-stepped b ↦ λ alive. rw b.endpoint-is ((stepped_done b.in_ok-stepped.was (b.serve_read-stepped.ensures.stepped t (kept_same t))).idle (ap (λ (k : ConnectionState). is_dead k.phase) same ∙ alive))
+        | then-not-is_over+in_ok-step_on b ↦ λ alive. rw b.endpoint-is ((step_done b.in_ok-step_on.was (b.step_on.ensures.stepped.2 t (kept_same t))).idle (ap (λ (k : ConnectionState). is_dead k.phase) same ∙ alive))
         | else-not-is_over b ↦ λ alive. absurd (false≢true (sym alive ∙ sym (ap (λ (k : ConnectionState). is_dead k.phase) same) ∙ sym c.is_over.ensures.value ∙ b.if-not-is_over.false))
       ];
       rule = elim c.if-not-is_over.branch [
-        | then-not-is_over+in_ok-stepped b ↦ rw b.course-is b.serve_read-stepped.ensures.rule
+        | then-not-is_over+in_ok-step_on b ↦ rw b.course-is b.step_on.ensures.rule
         | else-not-is_over b ↦ rw b.course-is refl
       ];
       course = elim c.if-not-is_over.branch [
-        | then-not-is_over+in_ok-stepped b ↦ rw (b.endpoint-is, b.course-is) b.serve_read-stepped.ensures.course
+        | then-not-is_over+in_ok-step_on b ↦ rw (b.endpoint-is, b.course-is) b.step_on.ensures.course
         | else-not-is_over b ↦ rw (b.endpoint-is, b.course-is) (λ is. absurd (false≢true is))
       ];
       read = elim c.if-not-is_over.branch [
-        | then-not-is_over+in_ok-stepped b ↦ rw (b.endpoint-is, b.writer-is, b.sink-is) (read_stepped r wrote.works (stepped_done b.in_ok-stepped.was (b.serve_read-stepped.ensures.stepped t (kept_same t))))
+        | then-not-is_over+in_ok-step_on b ↦ rw (b.endpoint-is, b.writer-is, b.sink-is) (read_stepped r wrote.works (step_done b.in_ok-step_on.was (b.step_on.ensures.stepped.2 t (kept_same t))))
         | else-not-is_over b ↦ rw (b.endpoint-is, b.writer-is, b.sink-is) (read_worked r wrote.works)
       ];
     }

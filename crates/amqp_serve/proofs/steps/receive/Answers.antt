@@ -4,6 +4,7 @@ use Rattle.amqp_serve.specs.declared.steps.Receipt.TheVariants as receipt
 use Rattle.amqp_serve.specs.Deeds.{receipt_deeds, WentOn, ends}
 use Rattle.amqp_serve.specs.Serving.{Stand, ToppingUp, all_supplies, stand_told}
 use Rattle.amqp_serve.proofs.Deeds.{went_none}
+use Rattle.amqp_serve.proofs.Noting.{nothing_noted}
 use Rattle.amqp_serve.proofs.steps.receive.Goals.{in_default-via-in-Event+in_default, in_default-via-in_default}
 use Rattle.amqp_serve.proofs.steps.receive.Goals as goal
 
@@ -15,5 +16,8 @@ returns-in_default-clause-went g c =
     let same : stand_told s.connection.config c.args.told ≡ all = elim c.in_default.branch [
       | in_default-via-in-Event+in_default w ↦ first_of (search rules, grind (arith, common_steps))
       | in_default-via-in_default w ↦ first_of (search rules, grind (arith, common_steps))
-    ] in
-    subst (λ (a : Stand). WentOn c.args.rule.now (receipt_deeds receipt.Nothing) a all s s e e) (sym same) (went_none c.args.rule.now all s e c.requires.ends)
+    ] in (
+      receipt.Nothing,
+      (λ _. nothing_noted c.args.note.now.message),
+      subst (λ (a : Stand). WentOn c.args.rule.now (receipt_deeds receipt.Nothing) a all s s e e) (sym same) (went_none c.args.rule.now all s e c.requires.ends),
+    )

@@ -12,9 +12,13 @@ follow_into-end-requires-clause-supplied g c = λ is.
 
 pub returns-clause-stepped : goal.returns-clause-stepped
 returns-clause-stepped g c =
-    stepped c.fills_are_feeds.ensures c.args.course.now.rule c.args.endpoint.now c.args.endpoint.now c.feed-fed.new.self c.follow_into-end.new.endpoint c.args.piece.now c.feed-fed.result.used c.feed-fed.result.outcome
-    (ends g.W.Write.contents g.S.Write.contents c.args.writer.now c.args.sink.now) (ends g.W.Write.contents g.S.Write.contents c.follow_into-end.new.writer c.follow_into-end.new.sink) (kept_same c.args.endpoint.now)
-    c.requires.sent c.are_bytes.ensures c.holds_a_header.ensures c.feed-fed.ensures (filled c.follow_into-end.result c.follow_into-end.new.done) c.follow_into-end.ensures.follows
+    let follows = c.follow_into-end.ensures.follows in (
+      follows.0,
+      follows.1,
+      stepped c.fills_are_feeds.ensures c.args.course.now.rule c.args.endpoint.now c.args.endpoint.now c.feed-fed.new.self c.follow_into-end.new.endpoint c.args.piece.now c.feed-fed.result.used c.feed-fed.result.outcome
+          (ends g.W.Write.contents g.S.Write.contents c.args.writer.now c.args.sink.now) (ends g.W.Write.contents g.S.Write.contents c.follow_into-end.new.writer c.follow_into-end.new.sink) (kept_same c.args.endpoint.now)
+          c.requires.sent c.are_bytes.ensures c.holds_a_header.ensures c.feed-fed.ensures (filled c.follow_into-end.result follows.0) follows.2,
+    )
 
 pub returns-clause-reaches : goal.returns-clause-reaches
 returns-clause-reaches g c = reached (is_dead c.args.endpoint.now.connection.phase) c.args.endpoint.now c.feed-fed.new.self c.args.piece.now c.feed-fed.result.used c.feed-fed.result.outcome c.feed-fed.ensures
