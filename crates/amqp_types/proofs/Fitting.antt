@@ -3,7 +3,7 @@ use Rattle.std.proofs.Common.{◌≡◌, ℕ, ◌+◌, ◌*◌, ◌<◌, List, [
 use Rattle.std.proofs.lemmas.List.{drop_more}
 use Rattle.amqp_types.specs.declared.value.Value.{Value}
 use Rattle.amqp_types.specs.declared.write_fault.WriteFault.{WriteFault}
-use Rattle.amqp_types.specs.Canonical.{Fits, AllFit}
+use Rattle.amqp_types.specs.Canonical.{Fits, AllFit, PairsFit}
 use Rattle.amqp_types.specs.Parts.{IsUnfit}
 use Rattle.amqp_types.specs.Trees.{count_of, pair_count}
 use Rattle.amqp_types.specs.Values.{view, views, pair_views}
@@ -22,6 +22,17 @@ pub unfit_item : (e : WriteFault) (i : ℕ) (xs : List Value) (x : Value) → i 
     → IsUnfit e (Fits (view x)) → IsUnfit e (AllFit (views xs))
 unfit_item e i xs x lt is rest unfit =
     unfit_from (Fits (view x)) (AllFit (views xs)) e (λ all. (subst (λ (ys : List Value). AllFit (views ys)) (left_first i xs x lt is) (rest all)).0) unfit
+
+-- and so does a key, or its value, that does not fit
+pub unfit_key : (e : WriteFault) (i : ℕ) (ps : List (Value × Value)) (p : Value × Value) → i < length ps → p ≡ get_or ps i p → (PairsFit (pair_views ps) → PairsFit (pair_views (drop i ps)))
+    → IsUnfit e (Fits (view p.0)) → IsUnfit e (PairsFit (pair_views ps))
+unfit_key e i ps p lt is rest unfit =
+    unfit_from (Fits (view p.0)) (PairsFit (pair_views ps)) e (λ all. (subst (λ (ys : List (Value × Value)). PairsFit (pair_views ys)) (left_first i ps p lt is) (rest all)).0) unfit
+
+pub unfit_value : (e : WriteFault) (i : ℕ) (ps : List (Value × Value)) (p : Value × Value) → i < length ps → p ≡ get_or ps i p → (PairsFit (pair_views ps) → PairsFit (pair_views (drop i ps)))
+    → IsUnfit e (Fits (view p.1)) → IsUnfit e (PairsFit (pair_views ps))
+unfit_value e i ps p lt is rest unfit =
+    unfit_from (Fits (view p.1)) (PairsFit (pair_views ps)) e (λ all. (subst (λ (ys : List (Value × Value)). PairsFit (pair_views ys)) (left_first i ps p lt is) (rest all)).1) unfit
 
 -- how many values there are
 pub count_views : (vs : List Value) → count_of (views vs) ≡ length vs

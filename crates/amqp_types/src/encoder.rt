@@ -4,7 +4,7 @@ ghost use Rattle.std.specs.Prelude.{◌≡◌, ◌++◌, map, true, IsTrue, OnOk
 ghost use Rattle.amqp_types.specs.Canonical.{has_room, content_of, canonical, canonicals, canonical_pairs, canonical_heads, parts, items_data, all_small, all_data, shell_of, Fits, AllFit, PairsFit};
 ghost use Rattle.amqp_types.specs.Lawful.{ItemsAgree, KeysDiffer};
 ghost use Rattle.amqp_types.specs.Parts.{seen, IsUnfit, IsRefusedFor};
-ghost use Rattle.amqp_types.specs.Trees.{IsLawful};
+ghost use Rattle.amqp_types.specs.Trees.{IsLawful, count_of, pair_count};
 ghost use Rattle.amqp_types.specs.Values.{view, views, pair_views};
 
 use crate::checks::{items_agree, keys_differ};
@@ -19,7 +19,6 @@ use std::alloc::{AllocError, Global};
 
 /// Returns the shell and the content of the value's canonical spelling.
 #[cycle(spell)]
-#[tactic(auto, using(crate::proofs::Fitting::count_views, crate::proofs::Fitting::pair_count_views))]
 fn part_of(alloc: Global, value: &Value) -> Result<Part, WriteFault>
     ensures seen { IfOk result (λ p. seen p ≡ (shell_of (view value.now), content_of (view value.now))) }
     ensures fits { OnOk result (Fits (view value.now)) }
@@ -28,13 +27,13 @@ fn part_of(alloc: Global, value: &Value) -> Result<Part, WriteFault>
     match shape_of(value) {
         Shape::Number(kind, number) => part(Shell::Number(kind, number), Vec::new(alloc)),
         Shape::Octets(kind, octets) => part(Shell::Octets(kind), Vec::from_slice(alloc, octets)?),
-        Shape::List(items) => part(Shell::List(items.len()), spell_all(alloc, items)?),
-        Shape::Map(entries) => part(Shell::Map(2 * entries.len()), spell_pairs(alloc, entries)?),
+        Shape::List(items) => part(list_shell(items), spell_all(alloc, items)?),
+        Shape::Map(entries) => part(map_shell(entries), spell_pairs(alloc, entries)?),
         Shape::Array(descriptors, kind, items) => {
             let mut content = spell_heads(alloc, descriptors)?;
             let parts = parts_of(alloc, items)?;
             write_items(kind, &parts, &mut content)?;
-            part(Shell::Array(items.len()), content)
+            part(array_shell(items), content)
         }
         Shape::Described(descriptor, described) => {
             let mut content = Vec::new(alloc);
@@ -43,6 +42,27 @@ fn part_of(alloc: Global, value: &Value) -> Result<Part, WriteFault>
             part(Shell::Described, content)
         }
     }
+}
+
+#[tactic(auto, using(crate::proofs::Fitting::count_views))]
+fn list_shell(items: &Vec<Value>) -> Shell
+    ensures { result ≡ Shell.List (count_of (views items.now.items)) }
+{
+    Shell::List(items.len())
+}
+
+#[tactic(auto, using(crate::proofs::Fitting::pair_count_views))]
+fn map_shell(entries: &Vec<(Value, Value)>) -> Shell
+    ensures { result ≡ Shell.Map (pair_count (pair_views entries.now.items)) }
+{
+    Shell::Map(2 * entries.len())
+}
+
+#[tactic(auto, using(crate::proofs::Fitting::count_views))]
+fn array_shell(items: &Vec<Value>) -> Shell
+    ensures { result ≡ Shell.Array (count_of (views items.now.items)) }
+{
+    Shell::Array(items.len())
 }
 
 /// Makes a part of a shell and a content; `TooLong` if its size or its count does not fit four bytes.
