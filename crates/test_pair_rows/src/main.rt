@@ -15,6 +15,7 @@ use crate::schedule::Schedule;
 use amqp_pair::Joined;
 use std::alloc::{AllocGlobal, Global};
 use std::io::Print;
+use std::rt::Files;
 use std::{env, fs};
 use test_row_files::Miss;
 use test_row_files::words::number;
@@ -25,22 +26,66 @@ fn main(rt: HostRuntime) -> Result<(), Miss> {
         return Err(Miss::Unread("usage: test_pair_rows FILE COUNT SEED"));
     };
     let bytes = pattern(rt.alloc())?;
+    of_file(&rt, file.as_str(), &bytes)?;
+    of_numbers(&rt, number(count.as_str())?, number(seed.as_str())?, &bytes)
+}
+
+/// Makes the schedules of a file, and prints a line for each.
+// Each borrows what another holds: one function that may drop all of it at each exit takes minutes to prove.
+fn of_file<R: Files + Print + AllocGlobal>(rt: &R, file: &str, bytes: &[u8]) -> Result<(), Miss> {
+    let text = fs::read_to_string(rt, file)?;
     let mut came = Came::default();
-    let text = fs::read_to_string(&rt, file.as_str())?;
     for text in text.lines() {
-        let schedule = Schedule::read(rt.alloc(), &bytes, text)?;
-        let joined = made(&rt, &schedule, &mut came)?;
-        rt.print(line(rt.alloc(), &schedule, &joined)?.as_str())?;
+        of_line(rt, text, bytes, &mut came)?;
     }
     println!(rt; "{came}")?;
+    Ok(())
+}
+
+fn of_line<R: Print + AllocGlobal>(
+    rt: &R,
+    text: &str,
+    bytes: &[u8],
+    came: &mut Came,
+) -> Result<(), Miss> {
+    let schedule = Schedule::read(rt.alloc(), bytes, text)?;
+    tell(rt, &schedule, came)
+}
+
+fn tell<R: Print + AllocGlobal>(
+    rt: &R,
+    schedule: &Schedule<'_>,
+    came: &mut Came,
+) -> Result<(), Miss> {
+    let joined = made(rt, schedule, came)?;
+    rt.print(line(rt.alloc(), schedule, &joined)?.as_str())?;
+    Ok(())
+}
+
+/// Makes so many schedules that follow from numbers, from this one on.
+fn of_numbers<R: Print + AllocGlobal>(
+    rt: &R,
+    count: u32,
+    seed: u32,
+    bytes: &[u8],
+) -> Result<(), Miss> {
     let mut came = Came::default();
-    let seed = u64::from(number(seed.as_str())?);
-    for index in 0..number(count.as_str())? {
-        let number = seed.saturating_add(u64::from(index));
-        let schedule = random::schedule(rt.alloc(), &bytes, number)?;
-        let _joined = made(&rt, &schedule, &mut came)?;
+    for index in 0..count {
+        let number = u64::from(seed).saturating_add(u64::from(index));
+        of_number(rt, number, bytes, &mut came)?;
     }
     println!(rt; "{came}")?;
+    Ok(())
+}
+
+fn of_number<R: Print + AllocGlobal>(
+    rt: &R,
+    number: u64,
+    bytes: &[u8],
+    came: &mut Came,
+) -> Result<(), Miss> {
+    let schedule = random::schedule(rt.alloc(), bytes, number)?;
+    let _joined = made(rt, &schedule, came)?;
     Ok(())
 }
 
