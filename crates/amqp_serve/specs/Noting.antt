@@ -1,13 +1,17 @@
 -- What a step noted, and what it did.
 use Rattle.std.specs.Prelude.{◌≡◌, Bool, true, Option, Some, None, Result, Ok, Err}
+use Rattle.amqp_endpoint.specs.declared.event.Fed.{Fed}
 use Rattle.amqp_endpoint.specs.declared.fault.CallFault.{CallFault}
 use Rattle.amqp_serve.specs.declared.note.Fate.{Fate}
 use Rattle.amqp_serve.specs.declared.note.Fate.TheVariants as fate
 use Rattle.amqp_serve.specs.declared.note.Note.{Note}
+use Rattle.amqp_serve.specs.declared.serving.ServeFault.{ServeFault}
 use Rattle.amqp_serve.specs.declared.steps.Done.{Done}
 use Rattle.amqp_serve.specs.declared.steps.Receipt.{Receipt}
 use Rattle.amqp_serve.specs.declared.steps.Receipt.TheVariants as receipt
 use Rattle.amqp_serve.specs.declared.steps.Received.{Received}
+use Rattle.amqp_serve.specs.declared.steps.Stepped.{Stepped}
+use Rattle.amqp_serve.specs.Deeds.{filled, message_in}
 
 -- the fate of a message, by the answer to its settle
 abbrev pub fate_by : Result (Unit {0}) CallFault → Fate
@@ -36,6 +40,14 @@ receipt_of n = receipt_by_fate n.message n.fate
 
 abbrev pub done_of : Note → Done
 done_of n = record { receipt = receipt_of n; topped = n.topped }
+
+-- the message that was taken and recorded
+abbrev pub message_of : Note → Option Received
+message_of n = message_in (receipt_of n)
+
+-- the result of a step, by what the feed came to, how the step ended and what was noted
+abbrev pub stepped_by : Fed → Result (Unit {0}) ServeFault → Note → Stepped
+stepped_by fed end n = record { used = fed.used; told = fed.outcome; done = filled end (done_of n) }
 
 -- A note that was to be whole says what was done. Of another one nothing is said.
 abbrev pub IsReceiptOf : Bool → Note → Receipt → Type 0

@@ -23,6 +23,7 @@ mod supplies;
 mod supplying;
 mod watch;
 
+pub use note::Note;
 pub use rules::Rule;
 pub use server::{Server, ServerFault, Status};
 pub use serving::{Policy, ServeFault, serve, serve_watched};

@@ -1,8 +1,8 @@
 //! What a step has done so far.
 ghost use Rattle.std.specs.Prelude.{◌≡◌, true, Some};
 ghost use Rattle.amqp_endpoint.specs.Endpoints.{handed_in};
-ghost use Rattle.amqp_serve.specs.Deeds.{filled, received_as};
-ghost use Rattle.amqp_serve.specs.Noting.{done_of, fate_by, receipt_of};
+ghost use Rattle.amqp_serve.specs.Deeds.{received_as};
+ghost use Rattle.amqp_serve.specs.Noting.{done_of, fate_by, message_of, receipt_of, stepped_by};
 
 use crate::ServeFault;
 use crate::records::recorded_len;
@@ -34,14 +34,14 @@ impl Fate {
     }
 }
 
-/// What a step has done so far.
+/// What a step did, as it is noted on the way.
 // Not a `Done`, which is copied with its gaps and has the tag of the message: 95 instructions for each message. The message
 // is noted only if somebody asks for it.
 #[derive(Clone, Copy, Debug)]
 pub struct Note {
-    pub fate: Fate,
-    pub message: Option<Received>,
-    pub topped: Topped,
+    pub(crate) fate: Fate,
+    pub(crate) message: Option<Received>,
+    pub(crate) topped: Topped,
 }
 
 impl Note {
@@ -59,6 +59,34 @@ impl Note {
     {
         if whole {
             self.message = Some(received_of(taken));
+        }
+    }
+
+    /// Returns the result of the step that made this note, by what [`Server::step_into`] returned.
+    // Inlined for the same reason as `report` in `serving.rt`.
+    #[inline(always)]
+    pub fn stepped(&self, fed: Fed, end: Result<(), ServeFault>) -> Stepped
+        ensures { result ≡ stepped_by fed end self.now }
+    {
+        Stepped {
+            used: fed.used,
+            told: fed.outcome,
+            done: match end {
+                Ok(()) => Ok(self.done()),
+                Err(fault) => Err(fault),
+            },
+        }
+    }
+
+    /// Returns the message that was taken and recorded, of a step that ended well and noted it.
+    // By value: a reference to it would keep the note in memory.
+    #[inline(always)]
+    pub fn received(&self) -> Option<Received>
+        ensures { result ≡ message_of self.now }
+    {
+        match self.fate {
+            Fate::Nothing | Fate::Refused(_) => None,
+            Fate::Settled | Fate::Told | Fate::Untold(_) => self.message,
         }
     }
 
@@ -101,23 +129,5 @@ fn received_of<A: Allocator + Copy>(taken: &Taken<A>) -> Received
         delivery_id: taken.delivery_id,
         delivery_tag: taken.delivery_tag,
         len: recorded_len(&taken.message),
-    }
-}
-
-/// Returns the result of a step, by what the feed came to, how the step ended, and what was noted.
-// Inlined for the same reason as `report` in `serving.rt`.
-#[inline(always)]
-pub fn stepped_of(fed: Fed, end: Result<(), ServeFault>, note: &Note) -> Stepped
-    ensures used { result.used ≡ fed.used }
-    ensures told { result.told ≡ fed.outcome }
-    ensures done { result.done ≡ filled end (done_of note.now) }
-{
-    Stepped {
-        used: fed.used,
-        told: fed.outcome,
-        done: match end {
-            Ok(()) => Ok(note.done()),
-            Err(fault) => Err(fault),
-        },
     }
 }

@@ -11,7 +11,7 @@ ghost use Rattle.amqp_serve.specs.Serving as by;
 ghost use Rattle.amqp_serve.specs.Serving.{reading, IsIdle, IsStarved, HasAllTaken};
 ghost use Rattle.amqp_serve.specs.Supplied.{IsRight};
 
-use crate::note::{Note, stepped_of};
+use crate::note::Note;
 use crate::sending::{fill_hand, flush_both, read_in, write_out};
 use crate::steps::{Course, Done, serve_piece_into, serve_read_into};
 use crate::{Rule, Unwatched, Watch};
@@ -300,27 +300,34 @@ fn hand_on<
     ensures goes { Goes course.old.rule result endpoint.old endpoint.new (R.remaining (device_inner reader.old)) (R.remaining (device_inner reader.new)) (has_failed reader.new)
         (ends W.contents S.contents writer.old sink.old) (ends W.contents S.contents writer.new sink.new) }
 {
+    let listens = watch.listens();
     let mut note = Note::NOTHING;
     let (fed, end) = serve_piece_into(
         endpoint,
         course,
         reader.at_hand(),
-        watch.listens(),
+        listens,
         &mut note,
         writer,
         sink,
     );
     reader.took(fed.used);
-    report(watch, fed, end, &note);
+    report(watch, listens, fed, end, &note);
     end
 }
 
-/// Reports a step to a watch that listens.
+/// Reports a step to a watch, if it listens.
 // Inlined, so that a step is copied only where a watch listens, not for the call.
 #[inline(always)]
-fn report<T: Watch>(watch: &mut T, fed: Fed, end: Result<(), ServeFault>, note: &Note) {
-    if watch.listens() {
-        watch.did(&stepped_of(fed, end, note));
+fn report<T: Watch>(
+    watch: &mut T,
+    listens: bool,
+    fed: Fed,
+    end: Result<(), ServeFault>,
+    note: &Note,
+) {
+    if listens {
+        watch.did(&note.stepped(fed, end));
     }
 }
 
@@ -379,16 +386,9 @@ fn step_on<A: Allocator + Copy, W: Write + HoldsBack + Drop, S: Write + Drop, T:
     ensures stepped { (told : Outcome) × (d : Done) × ((s : EndpointState) → IsKept s endpoint.old → IsStepped course.old.rule (take n endpoint.old.input.spare) told (filled result d) s endpoint.new
         (ends W.contents S.contents writer.old sink.old) (ends W.contents S.contents writer.new sink.new)) }
 {
+    let listens = watch.listens();
     let mut note = Note::NOTHING;
-    let (fed, end) = serve_read_into(
-        endpoint,
-        course,
-        n,
-        watch.listens(),
-        &mut note,
-        writer,
-        sink,
-    );
-    report(watch, fed, end, &note);
+    let (fed, end) = serve_read_into(endpoint, course, n, listens, &mut note, writer, sink);
+    report(watch, listens, fed, end, &note);
     end
 }

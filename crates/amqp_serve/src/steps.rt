@@ -10,7 +10,7 @@ ghost use Rattle.amqp_serve.specs.Serving.{ToppingUp, Receiving, all_supplies, s
 ghost use Rattle.amqp_serve.specs.Supplied.{IsRight, IsSuppliedBut, IsOnlyAt, is_nil, told_look, received_look, look_behind};
 ghost use Rattle.amqp_serve.specs.declared.supplies.Look.TheVariants as look;
 
-use crate::note::{Fate, Note, stepped_of};
+use crate::note::{Fate, Note};
 use crate::records::write_record;
 use crate::sending::write_out;
 use crate::supplies::{Look, Topped, top_up};
@@ -111,7 +111,7 @@ pub fn serve_piece<A: Allocator + Copy, W: Write + HoldsBack + Drop, S: Write + 
 {
     let mut note = Note::NOTHING;
     let (fed, end) = serve_piece_into(endpoint, course, piece, true, &mut note, writer, sink);
-    stepped_of(fed, end, &note)
+    note.stepped(fed, end)
 }
 
 /// Serves a piece as [`serve_piece`] does, and notes what was done, with the message if `whole`. Returns what the feed
@@ -168,7 +168,7 @@ pub fn serve_read<A: Allocator + Copy, W: Write + HoldsBack + Drop, S: Write + D
 {
     let mut note = Note::NOTHING;
     let (fed, end) = serve_read_into(endpoint, course, n, true, &mut note, writer, sink);
-    stepped_of(fed, end, &note)
+    note.stepped(fed, end)
 }
 
 /// Serves what was read as [`serve_read`] does, and notes what was done, with the message if `whole`. Returns what the
@@ -227,9 +227,11 @@ fn follow_into<A: Allocator + Copy, W: Write + HoldsBack + Drop, S: Write + Drop
     }
     let rule = &course.rule;
     let look = receive(endpoint, *told, supplied, rule, whole, note, writer, sink)?;
-    top_up(endpoint, look, rule, &mut note.topped, writer, sink)?;
+    let mut topped = Topped::NOTHING;
+    top_up(endpoint, look, rule, &mut topped, writer, sink)?;
     write_out(endpoint, writer, sink)?;
-    course.supplied = note.topped.refused == 0;
+    course.supplied = topped.refused == 0;
+    note.topped = topped;
     Ok(())
 }
 

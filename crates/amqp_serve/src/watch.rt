@@ -4,7 +4,8 @@ use crate::Stepped;
 
 /// Gets a report of each step while a connection is served. What it does has no influence on the serving.
 pub trait Watch {
-    /// Returns whether it takes reports. One that is not taken need not be made.
+    /// Returns whether it takes the report of the next step. It is asked once for each step, before that is made. A
+    /// report that it doesn't take isn't made.
     fn listens(&self) -> bool {
         true
     }

@@ -37,7 +37,7 @@ returns-in_err-top_up-clause-follows g c =
     let s = c.args.endpoint.now in
     let t = c.receive.new.endpoint in
     let q = err_from_is_err_and c.from_residual-in_err-top_up.result c.from_residual-in_err-top_up.ensures.1 in (
-      done_of (record c.receive.new.note { topped = c.top_up.new.topped }),
+      done_of c.receive.new.note,
       (λ _. refl),
       follow_lost p c.args.told.now c.from_residual-in_err-top_up.result _ q.0 _ s c.top_up.new.endpoint _ _ q.1 q.2
           (top_lost p _ c.args.told.now _ s t c.top_up.new.endpoint _ _ _ c.in_ok-look.ensures.went.2 c.in_ok-look.ensures.only.config c.in_err-top_up.ensures.went),
@@ -49,8 +49,8 @@ returns-in_err-write_out-clause-follows g c =
     let s = c.args.endpoint.now in
     let q = err_from_is_err_and c.from_residual-in_err-write_out.result c.from_residual-in_err-write_out.ensures.1 in
     let receipt = c.in_ok-look.ensures.went in (
-      record { receipt = receipt.0; topped = c.top_up.new.topped },
-      noted c.receive.new.note receipt.1,
+      done_of c.receive.new.note,
+      (λ _. refl),
       follow_lost p c.args.told.now c.from_residual-in_err-write_out.result _ q.0 _ s c.write_out.new.endpoint _ _ q.1 q.2
           (write_lost p c.args.told.now (record { receipt = receipt.0; topped = c.top_up.new.topped }) _ s c.receive.new.endpoint c.top_up.new.endpoint c.write_out.new.endpoint _ _ _ _
           receipt.2 c.in_ok-top_up.ensures.went c.in_ok-look.ensures.only.config (c.in_err-write_out.ensures.went p reading)),

@@ -5,4 +5,4 @@ use Rattle.amqp_serve.proofs.steps.serve_piece.Goals as goal
 pub returns-clause-stepped : goal.returns-clause-stepped
 returns-clause-stepped g c =
     let step = c.serve_piece_into-end.ensures.stepped in
-    rw (c.stepped_of.ensures.told, c.stepped_of.ensures.used, c.stepped_of.ensures.done) (stepped_as_noted _ _ _ _ _ _ _ c.serve_piece_into-end.result.1 (step.1 refl) step.2)
+    rw (c.stepped.ensures) (stepped_as_noted _ _ _ _ _ _ _ c.serve_piece_into-end.result.1 (step.1 refl) step.2)
