@@ -3,6 +3,7 @@ ghost use Rattle.std.specs.Prelude.{◌≡◌, ◌↔◌, ◌<◌, ◌+◌, ◌^
 ghost use Rattle.amqp_endpoint.specs.Calls.{heartbeat};
 ghost use Rattle.amqp_hub.specs.Keepers.{origin_of};
 ghost use Rattle.amqp_hub.specs.Ledgers.{will_take};
+ghost use Rattle.amqp_serve.specs.Noting.{stepped_by};
 ghost use Rattle.amqp_serve.specs.Servers.{status_after};
 ghost use Rattle.amqp_hub.specs.Members.{hear_fault, beat_fault, end_fault, close_fault};
 ghost use Rattle.amqp_hub.specs.Turns.{IsOpened, OpenRefused, HearsTo, HearRefusedBy, IsKeptSo, IsGone, IsRuledAt, IsFrontAt, IsLentBy, due_of, answers_of, IsDueAt, SendsAt, IsBeatAt, IsEndedAt, IsClosedAt, AreSame, AreAlike, refusal_at, all_held};
@@ -13,9 +14,9 @@ use crate::HubFault;
 use crate::keeper::{Keeper, Origin, Progress};
 use crate::ledger::Ledger;
 use crate::servers::Servers;
-use amqp_endpoint::{Config, End, Endpoint, Event, Outcome};
+use amqp_endpoint::{Config, End, Endpoint, Event, Fed, Outcome};
 use amqp_frame::Device;
-use amqp_serve::{Receipt, Rule, ServeFault, Stepped};
+use amqp_serve::{Note, Rule, ServeFault, Stepped};
 use std::alloc::{AllocError, Allocator, Global};
 use std::marker::Model;
 use std::mem;
@@ -158,35 +159,42 @@ impl<K: Keeper + Drop, A: Allocator + Copy> Hub<K, A> {
             return Err(HubFault::NoKey);
         };
         let mut sink = Device::new(mem::replace(&mut self.recorded, Vec::new(self.alloc)));
-        let heard = self.servers.hear(key, piece, &mut sink);
+        let mut note = Note::NOTHING;
+        let heard = self.servers.hear(key, piece, &mut note, &mut sink);
         let noted = sink.into_inner();
         let heard = match heard {
-            Ok(stepped) => Ok(self.keep(key, number, stepped, &noted)),
+            Ok((fed, end)) => Ok((fed, self.keep(key, number, &fed, end, &note, &noted))),
             Err(fault) => Err(fault),
         };
         self.recorded = emptied(noted, self.alloc);
-        heard
+        let (fed, end) = heard?;
+        Ok(note.stepped(fed, end))
     }
 
-    /// Puts what a step recorded, if it made a record, and returns the step. If memory for that is refused, the
-    /// connection is removed, and the step resulted in `Sink`.
-    fn keep(&mut self, key: usize, number: u64, stepped: Stepped, noted: &[u8]) -> Stepped
-        requires there { IfOk stepped.done (λ d. IsSome (get self.old.members key)) }
+    /// Puts what a step recorded, if it made a record, and returns how the step ended. If memory for that is refused,
+    /// the connection is removed, and the step resulted in `Sink`.
+    fn keep(
+        &mut self,
+        key: usize,
+        number: u64,
+        fed: &Fed,
+        end: Result<(), ServeFault>,
+        note: &Note,
+        noted: &[u8],
+    ) -> Result<(), ServeFault>
+        requires there { OnOk end (IsSome (get self.old.members key)) }
         requires room { K.roomy self.old.keeper ≡ true }
         ensures limit { self.new.limit ≡ self.old.limit }
-        ensures kept { IsKeptSo K.accepts number noted.now self.old.members self.new.members key stepped result self.old.keeper self.new.keeper }
+        ensures kept { IsKeptSo K.accepts number noted.now self.old.members self.new.members key (stepped_by fed.now end note.now) (stepped_by fed.now result note.now) self.old.keeper self.new.keeper }
     {
-        let Some(origin) = origin_of(number, &stepped) else {
-            return stepped;
+        let Some(origin) = origin_of(number, fed, end, note) else {
+            return end;
         };
         if self.keeper.put(origin, noted).is_ok() {
-            return stepped;
+            return end;
         }
         let _ = self.servers.remove(key);
-        Stepped {
-            done: Err(ServeFault::Sink),
-            ..stepped
-        }
+        Err(ServeFault::Sink)
     }
 
     /// Has the keeper take all records for good. `Out` says that it has, so that what waits for peers is lent.
@@ -333,18 +341,12 @@ impl<K: Keeper + Drop, A: Allocator + Copy> Hub<K, A> {
 }
 
 /// Returns where the record of a step came from, if the step made one.
-fn origin_of(number: u64, stepped: &Stepped) -> Option<Origin>
-    ensures { result ≡ origin_of number stepped.now }
+fn origin_of(number: u64, fed: &Fed, end: Result<(), ServeFault>, note: &Note) -> Option<Origin>
+    ensures { result ≡ origin_of number (stepped_by fed.now end note.now) }
 {
-    let Ok(done) = stepped.done else {
-        return None;
-    };
-    let (Receipt::Settled(message) | Receipt::Told(message) | Receipt::Untold(message, _)) =
-        done.receipt
-    else {
-        return None;
-    };
-    let Outcome::Event(Event::Ready { channel, handle }) = stepped.told else {
+    end.ok()?;
+    let message = note.received()?;
+    let Outcome::Event(Event::Ready { channel, handle }) = fed.outcome else {
         return None;
     };
     Some(Origin {

@@ -2,14 +2,15 @@
 ghost use Rattle.std.specs.Prelude.{◌≡◌, ◌≤◌, ◌<◌, ◌++◌, ◌^◌, ◌-◌, [], ℕ, List, length, min, None, Some, IsTrue, IfOk, IfErr, OnOk};
 ghost use Rattle.amqp_frame.specs.Devices.{device_inner, has_failed};
 ghost use Rattle.amqp_endpoint.specs.Calls.{heartbeat};
+ghost use Rattle.amqp_serve.specs.Noting.{stepped_by};
 ghost use Rattle.amqp_serve.specs.Servers.{waiting};
 ghost use Rattle.amqp_hub.specs.Members.{unsent_of, member_held, hear_fault, beat_fault, end_fault, close_fault, IsNew, IsHeard, IsSame, IsSent, IsFinishedSo, IsClosed};
 
 use crate::HubFault;
 use crate::answers::Answers;
-use amqp_endpoint::{Config, End, Endpoint};
+use amqp_endpoint::{Config, End, Endpoint, Fed};
 use amqp_frame::Device;
-use amqp_serve::{Rule, Server, Status, Stepped};
+use amqp_serve::{Note, Rule, ServeFault, Server, Status};
 use std::alloc::{AllocError, Allocator, Global};
 use std::io::Write;
 use std::marker::Model;
@@ -89,18 +90,26 @@ impl<A: Allocator + Copy> Member<A> {
         }
     }
 
-    /// Takes bytes of its peer, up to the end of one unit, and serves them. The answers wait after those that did, and
-    /// the records go to the sink. If the sink fails, or memory for answers is refused, it hears nothing any more.
-    pub fn hear<S: Write + Drop>(&mut self, alloc: A, piece: &[u8], sink: &mut Device<S>) -> Stepped
+    /// Takes bytes of its peer, up to the end of one unit, serves them, and notes what was done. The answers wait after
+    /// those that did, and the records go to the sink. If the sink fails, or memory for answers is refused, it hears nothing any more.
+    pub fn hear<S: Write + Drop>(
+        &mut self,
+        alloc: A,
+        piece: &[u8],
+        note: &mut Note,
+        sink: &mut Device<S>,
+    ) -> (Fed, Result<(), ServeFault>)
         requires hears { hear_fault self.old ≡ None }
         requires sink { ¬ (IsTrue (has_failed sink.old)) }
-        ensures { IsHeard self.old self.new piece.now result (S.contents (device_inner sink.old)) (S.contents (device_inner sink.new)) }
+        ensures { IsHeard self.old self.new piece.now (stepped_by result.0 result.1 note.new) (S.contents (device_inner sink.old)) (S.contents (device_inner sink.new)) }
     {
         let room = mem::replace(&mut self.waiting, Vec::new(alloc));
         let mut writer = Device::new(Answers::new(room));
-        let stepped = self.server.step(self.rule, piece, &mut writer, sink);
+        let (fed, end) = self
+            .server
+            .step_into(self.rule, piece, note, &mut writer, sink);
         self.waiting = writer.into_inner().into_bytes();
-        stepped
+        (fed, end)
     }
 
     /// Returns an empty frame for its peer [2.4.5], if nothing waits before it. The errors are, in this order:

@@ -2,6 +2,8 @@
 ghost use Rattle.std.specs.Prelude.{◌≡◌, ◌↔◌, ◌<◌, ◌^◌, ◌-◌, [], min, IsTrue, IsSome, None, Some, IfOk, IfErr, OnOk, option_map};
 ghost use Rattle.amqp_endpoint.specs.Calls.{heartbeat};
 ghost use Rattle.amqp_frame.specs.Devices.{device_inner, has_failed};
+ghost use Rattle.amqp_serve.specs.Deeds.{filled};
+ghost use Rattle.amqp_serve.specs.Noting.{done_of, stepped_by};
 ghost use Rattle.amqp_serve.specs.Servers.{status_after};
 ghost use Rattle.amqp_hub.specs.Members.{hear_fault, beat_fault, end_fault, close_fault};
 ghost use Rattle.amqp_hub.specs.Turns.{IsOpened, OpenRefused, IsHeardAt, HearsBy, IsGone, IsRuledAt, is_lost, due_of, answers_of, IsFrontAt, IsDueAt, SendsAt, IsBeatAt, IsEndedAt, IsClosedAt, AreSame, AreAlike, refusal_at, all_held};
@@ -10,9 +12,9 @@ ghost use Rattle.std.specs.Option.{option_copied};
 
 use crate::HubFault;
 use crate::member::Member;
-use amqp_endpoint::{Config, End, Endpoint};
+use amqp_endpoint::{Config, End, Endpoint, Fed};
 use amqp_frame::Device;
-use amqp_serve::{Done, Rule, ServeFault, Stepped};
+use amqp_serve::{Done, Note, Rule, ServeFault};
 use slab::Slab;
 use std::alloc::{Allocator, Global};
 use std::io::Write;
@@ -114,8 +116,8 @@ impl<A: Allocator + Copy> Servers<A> {
         Ok(key)
     }
 
-    /// Serves a piece of what the peer under a key sent, up to the end of one unit. The answers wait for the peer, and
-    /// the record goes to the sink. If the step results in `Write` or `Sink`, the connection is removed.
+    /// Serves a piece of what the peer under a key sent, up to the end of one unit, and notes what was done. The answers
+    /// wait for the peer, and the record goes to the sink. If the step results in `Write` or `Sink`, the connection is removed.
     ///
     /// # Errors
     ///
@@ -124,33 +126,35 @@ impl<A: Allocator + Copy> Servers<A> {
         &mut self,
         key: usize,
         piece: &[u8],
+        note: &mut Note,
         sink: &mut Device<S>,
-    ) -> Result<Stepped, HubFault>
+    ) -> Result<(Fed, Result<(), ServeFault>), HubFault>
         requires sink { ¬ (IsTrue (has_failed sink.old)) }
         ensures limit { self.new.limit ≡ self.old.limit }
-        ensures heard { IfOk result (λ s. HearsBy (status_after s.done) self.old.members self.new.members key piece.now s
+        ensures heard { IfOk result (λ x. HearsBy (status_after (filled x.1 (done_of note.new))) self.old.members self.new.members key piece.now (stepped_by x.0 x.1 note.new)
             (S.contents (device_inner sink.old)) (S.contents (device_inner sink.new))) }
         ensures refused { IfErr result (λ f. AreSame self.old.members self.new.members × (refusal_at (get self.old.members key) hear_fault ≡ Some f)) }
         ensures unused { IfErr result (λ f. sink.new ≡ sink.old) }
     {
-        let stepped = self.hear_there(key, piece, sink)?;
-        if is_lost(stepped.done) {
+        let (fed, end) = self.hear_there(key, piece, note, sink)?;
+        if is_lost(end) {
             self.members.remove(key);
         }
-        Ok(stepped)
+        Ok((fed, end))
     }
 
-    /// Takes a piece of what the peer under a key sent, and serves it. If serving breaks off, the connection keeps
+    /// Takes a piece of what the peer under a key sent, serves it, and notes what was done. If serving breaks off, the connection keeps
     /// its key, and is broken.
     fn hear_there<S: Write + Drop>(
         &mut self,
         key: usize,
         piece: &[u8],
+        note: &mut Note,
         sink: &mut Device<S>,
-    ) -> Result<Stepped, HubFault>
+    ) -> Result<(Fed, Result<(), ServeFault>), HubFault>
         requires sink { ¬ (IsTrue (has_failed sink.old)) }
         ensures limit { self.new.limit ≡ self.old.limit }
-        ensures heard { IfOk result (λ s. IsHeardAt self.old.members self.new.members key piece.now s
+        ensures heard { IfOk result (λ x. IsHeardAt self.old.members self.new.members key piece.now (stepped_by x.0 x.1 note.new)
             (S.contents (device_inner sink.old)) (S.contents (device_inner sink.new))) }
         ensures refused { IfErr result (λ f. AreSame self.old.members self.new.members × (refusal_at (get self.old.members key) hear_fault ≡ Some f)) }
         ensures unused { IfErr result (λ f. sink.new ≡ sink.old) }
@@ -162,7 +166,7 @@ impl<A: Allocator + Copy> Servers<A> {
         if let Some(fault) = member.hear_fault() {
             return Err(fault);
         }
-        Ok(member.hear(alloc, piece, sink))
+        Ok(member.hear(alloc, piece, note, sink))
     }
 
     /// Returns the answers that wait for the peer under a key; its last bytes after its end are not among them.
@@ -310,12 +314,12 @@ impl<A: Allocator + Copy> Servers<A> {
     }
 }
 
-/// Returns whether a step with this result broke off, so that its server hears nothing any more.
-pub fn is_lost(done: Result<Done, ServeFault>) -> bool
-    ensures { result ≡ is_lost done }
+/// Returns whether a step that ended so broke off, so that its server hears nothing any more.
+pub fn is_lost(end: Result<(), ServeFault>) -> bool
+    ensures { (d : Done) → result ≡ is_lost (filled end d) }
 {
-    match done {
-        Ok(_) | Err(ServeFault::NoMemory) => false,
+    match end {
+        Ok(()) | Err(ServeFault::NoMemory) => false,
         Err(_) => true,
     }
 }
