@@ -28,6 +28,7 @@ STRUCTS = {  # in Rattle: in C, in Python
     "FedReport": ("wule_fed", "Fed"),
     "TakenReport": ("wule_taken", "Taken"),
     "LinkReport": ("wule_link_state", "LinkState"),
+    "AddressReport": ("wule_address", "Address"),
     "ServeRule": ("wule_rule", "Rule"),
     "StepReport": ("wule_step", "Step"),
 }
@@ -54,6 +55,7 @@ ENUMS = [
     ("event_at", "wule_event", "WULE_", None, 12),
     ("outcome_at", "wule_fed_outcome", "WULE_", None, 5),
     ("receipt_at", "wule_receipt", "WULE_RECEIPT_", "Receipt", 4),
+    ("address_at", "wule_address_kind", "WULE_ADDRESS_", "AddressKind", 4),
 ]
 RENAMED = {
     ("fault_at", "Dead"): "CONNECTION_OVER",
@@ -67,6 +69,10 @@ RENAMED = {
     ("settlement_at", "Modified true true"): "MODIFIED_FAILED_UNDELIVERABLE",
     ("outcome_at", "NoMemory"): "STARVED",
     ("receipt_at", "Nothing"): "NONE",
+    ("address_at", "Made"): "DYNAMIC",
+    ("address_at", "Nameless"): "ABSENT",
+    ("address_at", "NoNode"): "NO_TARGET",
+    ("address_at", "OtherNode"): "OTHER",
 }
 
 

@@ -14,6 +14,7 @@ size_t wuleshomia_message_read(wule_endpoint *e, size_t at, uint8_t *room, size_
 uint32_t wuleshomia_link(wule_endpoint *e, uint32_t channel, uint32_t handle, wule_link_state *link, uint8_t *name, size_t len);
 uint32_t wuleshomia_link_source(wule_endpoint *e, uint32_t channel, uint32_t handle, uint8_t *room, size_t len);
 uint32_t wuleshomia_link_target(wule_endpoint *e, uint32_t channel, uint32_t handle, uint8_t *room, size_t len);
+uint32_t wuleshomia_link_address(wule_endpoint *e, uint32_t channel, uint32_t handle, wule_address *address, uint8_t *room, size_t len);
 uint32_t wuleshomia_serve_step(wule_endpoint *e, const wule_rule *rule, const uint8_t *bytes, size_t len, wule_step *step);
 size_t wuleshomia_records(wule_endpoint *e, uint8_t *room, size_t len);
 
@@ -71,6 +72,10 @@ uint32_t wule_link_source(wule_endpoint *e, uint32_t channel, uint32_t handle, u
 
 uint32_t wule_link_target(wule_endpoint *e, uint32_t channel, uint32_t handle, uint8_t *room, size_t len) {
     return has_room(&room, len) ? wuleshomia_link_target(e, channel, handle, room, len) : WULE_NULL;
+}
+
+uint32_t wule_link_address(wule_endpoint *e, uint32_t channel, uint32_t handle, wule_address *address, uint8_t *room, size_t len) {
+    return has_room(&room, len) ? wuleshomia_link_address(e, channel, handle, address, room, len) : WULE_NULL;
 }
 
 uint32_t wule_serve_step(wule_endpoint *e, const wule_rule *rule, const uint8_t *bytes, size_t len, wule_step *step) {

@@ -280,6 +280,21 @@ typedef struct wule_link_state {
     uint32_t target_len;  /* and of its target, as they are spelled in its attach */
 } wule_link_state;
 
+/* What a link's target says of its node [3.5.4]. */
+typedef enum wule_address_kind {
+    WULE_ADDRESS_NAMED = 0,     /* its address, a string, whatever `dynamic` is */
+    WULE_ADDRESS_DYNAMIC = 1,   /* none: the sender asks for a node to be made; nothing here makes one */
+    WULE_ADDRESS_ABSENT = 2,    /* none, and it asks for none */
+    WULE_ADDRESS_NO_TARGET = 3, /* there is no target */
+    WULE_ADDRESS_OTHER = 4      /* the address is no string, or the target is of another type */
+} wule_address_kind;
+
+/* The address of a link's target. */
+typedef struct wule_address {
+    uint32_t kind; /* a wule_address_kind */
+    uint32_t len;  /* bytes of the address, if it is a string, else 0 */
+} wule_address;
+
 /* By what rule an endpoint is served. */
 typedef struct wule_rule {
     uint32_t credit;  /* a link is topped up to so much, within what it is allowed, */
@@ -415,6 +430,10 @@ uint32_t wule_link(wule_endpoint *e, uint32_t channel, uint32_t handle, wule_lin
  * WULE_OK; else the room is as it was: WULE_NO_LINK, WULE_NO_ENDPOINT, WULE_NULL. */
 uint32_t wule_link_source(wule_endpoint *e, uint32_t channel, uint32_t handle, uint8_t *room, size_t len);
 uint32_t wule_link_target(wule_endpoint *e, uint32_t channel, uint32_t handle, uint8_t *room, size_t len);
+
+/* What a link's target says of its node, and the first bytes of its address in UTF-8, at most `len`; no zero byte follows them.
+ * WULE_OK; else *address and the room are as they were: WULE_NO_LINK, WULE_NO_ENDPOINT, WULE_NULL. */
+uint32_t wule_link_address(wule_endpoint *e, uint32_t channel, uint32_t handle, wule_address *address, uint8_t *room, size_t len);
 
 /* The first handle from `from` on whose link has less credit than `credit`, and may have more, goes to *found.
  * WULE_OK; else *found is as it was: WULE_NO_LINK if there is none, WULE_NO_ENDPOINT. */

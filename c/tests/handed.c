@@ -32,6 +32,7 @@ size_t wuleshomia_message_read(wule_endpoint *e, size_t at, uint8_t *room, size_
 uint32_t wuleshomia_link(wule_endpoint *e, uint32_t channel, uint32_t handle, wule_link_state *link, uint8_t *name, size_t len);
 uint32_t wuleshomia_link_source(wule_endpoint *e, uint32_t channel, uint32_t handle, uint8_t *room, size_t len);
 uint32_t wuleshomia_link_target(wule_endpoint *e, uint32_t channel, uint32_t handle, uint8_t *room, size_t len);
+uint32_t wuleshomia_link_address(wule_endpoint *e, uint32_t channel, uint32_t handle, wule_address *address, uint8_t *room, size_t len);
 uint32_t wuleshomia_serve_step(wule_endpoint *e, const wule_rule *rule, const uint8_t *bytes, size_t len, wule_step *step);
 size_t wuleshomia_records(wule_endpoint *e, uint8_t *room, size_t len);
 
@@ -58,6 +59,9 @@ uint32_t wuleshomia_link_source(wule_endpoint *e, uint32_t channel, uint32_t han
 }
 uint32_t wuleshomia_link_target(wule_endpoint *e, uint32_t channel, uint32_t handle, uint8_t *room, size_t len) {
     return keep(e, room, "target", e, e, len, channel, handle);
+}
+uint32_t wuleshomia_link_address(wule_endpoint *e, uint32_t channel, uint32_t handle, wule_address *address, uint8_t *room, size_t len) {
+    return keep(e, room, address, e, e, len, channel, handle);
 }
 uint32_t wuleshomia_serve_step(wule_endpoint *e, const wule_rule *rule, const uint8_t *bytes, size_t len, wule_step *step) {
     return keep(e, bytes, rule, step, e, len, 5, 0);
@@ -91,6 +95,7 @@ int main(void) {
     wule_fed fed;
     wule_taken taken;
     wule_link_state link;
+    wule_address address;
     wule_step step;
     uint8_t room[9];
     uint64_t inside = 0;
@@ -138,6 +143,10 @@ int main(void) {
     IS(strcmp(pointers[2], "target") == 0);
     IS(wule_link_target(&e, 7, 8, NULL, 0) == 77 && handed(&e, NULL, 0) && numbers[1] == 7 && numbers[2] == 8);
     EACH_LENGTH(wule_link_target(&e, 7, 8, NULL, n_), WULE_NULL);
+
+    IS(wule_link_address(&e, 7, 8, &address, room, 9) == 77 && handed(&e, room, 9) && pointers[2] == &address && numbers[1] == 7);
+    IS(wule_link_address(&e, 7, 8, &address, NULL, 0) == 77 && handed(&e, NULL, 0) && pointers[2] == &address && numbers[2] == 8);
+    EACH_LENGTH(wule_link_address(&e, 7, 8, &address, NULL, n_), WULE_NULL);
 
     IS(wule_serve_step(&e, &rule, room, 9, &step) == 77 && handed(&e, room, 9) && pointers[2] == &rule && pointers[3] == &step);
     IS(wule_serve_step(&e, &rule, NULL, 0, &step) == 77 && handed(&e, NULL, 0) && pointers[2] == &rule && pointers[3] == &step);

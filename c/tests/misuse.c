@@ -53,6 +53,7 @@ static void ask_none(void) {
     wule_fed fed;
     wule_taken taken;
     wule_link_state link;
+    wule_address address;
     wule_step step;
     uint8_t room[8] = {1, 1, 1, 1, 1, 1, 1, 1};
     uint64_t inside = 7;
@@ -82,6 +83,7 @@ static void ask_none(void) {
     IS(wule_link(&e, 0, 0, &link, room, 8), WULE_NO_ENDPOINT);
     IS(wule_link_source(&e, 0, 0, room, 8), WULE_NO_ENDPOINT);
     IS(wule_link_target(&e, 0, 0, room, 8), WULE_NO_ENDPOINT);
+    IS(wule_link_address(&e, 0, 0, &address, room, 8), WULE_NO_ENDPOINT);
     IS(wule_first_lacking(&e, 0, 0, 1, &n), WULE_NO_ENDPOINT);
     IS(wule_serve_step(&e, &rule, room, 8, &step), WULE_NO_ENDPOINT);
     IS(wule_records(&e, room, 8), 0);
@@ -227,6 +229,44 @@ static void top_up_beside_unsettled(void) {
     IS(topped_up(16, 10), 6);
 }
 
+/* What is told of a link whose attach has these `len` bytes for its target: `kind`, and an address of `wanted` bytes. */
+static void target_tells(const char *target, size_t len, uint32_t kind, const char *name, uint32_t wanted) {
+    static const uint8_t front[] = "AMQP\0\1\0\0"
+                                   "\0\0\0\x11\2\0\0\0\0\x53\x10\xc0\4\1\xa1\1p"
+                                   "\0\0\0\x14\2\0\0\0\0\x53\x11\xc0\7\4\x40\x43\x52\x7f\x52\x7f";
+    uint8_t head[128] = "\0\0\0\x1c\2\0\0\0\0\x53\x12\xc0\x0f\x0a\xa1\1l\x43\x42\x40\x40\0\x53\x28\x45", room[] = "....";
+    static const uint8_t rest[] = {0x40, 0x40, 0x43};
+    wule_endpoint e = WULE_ENDPOINT_INIT;
+    wule_settings settings = WULE_SETTINGS_INIT;
+    wule_address address;
+    head[3] = (uint8_t)(28 + len);
+    head[12] = (uint8_t)(15 + len);
+    memcpy(head + 25, target, len);
+    memcpy(head + 25 + len, rest, sizeof rest);
+    IS(wule_open(&e, &settings, "x", 1, NULL, 0, NULL), WULE_OK);
+    feed_all(&e, front, sizeof front - 1);
+    feed_all(&e, head, 28 + len);
+    IS(wule_link_address(&e, 0, 0, &address, room, 3), WULE_OK);
+    IS(address.kind, kind);
+    IS(address.len, wanted);
+    IS(memcmp(room, name, 4), 0);
+    memset(room, '#', 4);
+    address.kind = address.len = 9;
+    IS(wule_link_address(&e, 0, 1, &address, room, 3), WULE_NO_LINK);
+    IS(address.kind == 9 && address.len == 9, 1);
+    IS(memcmp(room, "####", 4), 0);
+    wule_free(&e);
+}
+
+static void targets_tell(void) {
+    target_tells("\0\x53\x29\xc0\4\1\xa1\1q", 9, WULE_ADDRESS_NAMED, "q...", 1);
+    target_tells("\0\x53\x29\xc0\7\1\xa1\4abcd", 12, WULE_ADDRESS_NAMED, "abc.", 4);
+    target_tells("\0\x53\x29\xc0\6\5\x40\x40\x40\x40\x41", 11, WULE_ADDRESS_DYNAMIC, "....", 0);
+    target_tells("\0\x53\x29\x45", 4, WULE_ADDRESS_ABSENT, "....", 0);
+    target_tells("\x40", 1, WULE_ADDRESS_NO_TARGET, "....", 0);
+    target_tells("\0\x53\x29\xc0\4\1\xa3\1q", 9, WULE_ADDRESS_OTHER, "....", 0);
+}
+
 /* ---- a session in which one request for memory is refused */
 
 static uint8_t file[1 << 20];
@@ -331,6 +371,7 @@ int main(int argc, char **argv) {
     open_badly();
     ask_wildly();
     top_up_beside_unsettled();
+    targets_tell();
     IS(blocks, 0);
     calls = refuse_each(by_calls, by_calls());
     steps = refuse_each(by_steps, by_steps());

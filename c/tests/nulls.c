@@ -13,7 +13,7 @@
 #define EACH(X) \
     X(version) X(open) X(free) X(feed) X(output) X(has_output) X(close) X(heartbeat) X(finish) X(is_over) X(grant) X(widen) X(drain) \
     X(settle) X(settle_range) X(detach) X(top_up) X(take) X(message_read) X(message_drop) X(held) X(window) X(link) X(link_source) \
-    X(link_target) X(first_lacking) X(serve_step) X(records)
+    X(link_target) X(link_address) X(first_lacking) X(serve_step) X(records)
 
 #define POINTER(name) __typeof__(wule_##name) *name;
 static struct { EACH(POINTER) } call;
@@ -46,6 +46,7 @@ static void refuse(wule_endpoint *e) {
     wule_fed fed;
     wule_taken taken;
     wule_link_state link;
+    wule_address address;
     wule_step step;
     wule_endpoint before = *e;
     uint64_t held = call.held(e);
@@ -54,6 +55,7 @@ static void refuse(wule_endpoint *e) {
     memset(&fed, 0xee, sizeof fed);
     memset(&taken, 0xee, sizeof taken);
     memset(&link, 0xee, sizeof link);
+    memset(&address, 0xee, sizeof address);
     memset(&step, 0xee, sizeof step);
     memset(&row, 0xee, sizeof row);
     for (i = 0; i < LENGTHS; i++) {
@@ -68,11 +70,12 @@ static void refuse(wule_endpoint *e) {
         IS(call.link(e, 0, 0, &link, NULL, n), WULE_NULL);
         IS(call.link_source(e, 0, 0, NULL, n), WULE_NULL);
         IS(call.link_target(e, 0, 0, NULL, n), WULE_NULL);
+        IS(call.link_address(e, 0, 0, &address, NULL, n), WULE_NULL);
         IS(call.serve_step(e, &rule, NULL, n, &step), WULE_NULL);
         IS(call.serve_step(e, &bad, NULL, n, &step), WULE_NULL);
         IS(call.records(e, NULL, n), 0);
     }
-    IS(IS_UNTOUCHED(fed) && IS_UNTOUCHED(taken) && IS_UNTOUCHED(link) && IS_UNTOUCHED(step) && IS_UNTOUCHED(row), 1);
+    IS(IS_UNTOUCHED(fed) && IS_UNTOUCHED(taken) && IS_UNTOUCHED(link) && IS_UNTOUCHED(address) && IS_UNTOUCHED(step) && IS_UNTOUCHED(row), 1);
     IS(memcmp(e, &before, sizeof before), 0);
     IS(call.held(e), held);
     IS(call.has_output(e), waits);
@@ -85,6 +88,7 @@ static void on_none(void) {
     wule_fed fed;
     wule_taken taken;
     wule_link_state link;
+    wule_address address;
     wule_step step;
     uint32_t n = 7;
     refuse(&e);
@@ -111,6 +115,7 @@ static void on_none(void) {
     IS(call.link(&e, 0, 0, &link, NULL, 0), WULE_NO_ENDPOINT);
     IS(call.link_source(&e, 0, 0, NULL, 0), WULE_NO_ENDPOINT);
     IS(call.link_target(&e, 0, 0, NULL, 0), WULE_NO_ENDPOINT);
+    IS(call.link_address(&e, 0, 0, &address, NULL, 0), WULE_NO_ENDPOINT);
     IS(call.first_lacking(&e, 0, 0, 1, &n), WULE_NO_ENDPOINT);
     IS(call.serve_step(&e, &rule, NULL, 0, &step), WULE_NO_ENDPOINT);
     IS(call.records(&e, NULL, 0), 0);
@@ -127,6 +132,7 @@ static void by_calls(void) {
     wule_fed fed = {0, 0, 0, 0, 0, 0, 0, 0, 0};
     wule_taken taken;
     wule_link_state link;
+    wule_address address;
     size_t at = 0, len = 0;
     IS(call.open(&e, &settings, "x", 1, NULL, 0, NULL), WULE_OK);
     refuse(&e);
@@ -148,6 +154,7 @@ static void by_calls(void) {
     IS(link.ready, 1);
     IS(call.link_source(&e, fed.channel, fed.handle, NULL, 0), WULE_OK);
     IS(call.link_target(&e, fed.channel, fed.handle, NULL, 0), WULE_OK);
+    IS(call.link_address(&e, fed.channel, fed.handle, &address, NULL, 0), WULE_OK);
     memset(&taken, 0xee, sizeof taken);
     IS(call.take(&e, fed.channel, fed.handle, &taken, NULL, 0), WULE_OK);
     IS(taken.tag_len <= sizeof taken.tag, 1);

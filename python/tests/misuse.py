@@ -12,7 +12,7 @@ import sys
 import threading
 import unittest
 
-from wuleshomia import AmqpError, Attached, Code, End, Endpoint, Failed, Limit, Outcome, Ready, Receipt
+from wuleshomia import AddressKind, AmqpError, Attached, Code, End, Endpoint, Failed, Limit, Outcome, Ready, Receipt
 from wuleshomia._native import Fed, Handle, lib
 
 DATA = b""
@@ -164,6 +164,24 @@ class Refusals(unittest.TestCase):
         with self.assertRaises(AmqpError) as refused:
             endpoint.top_up(0, 16, 2048)
         self.assertIs(refused.exception.code, Code.NO_SESSION)
+
+    def test_a_target_tells_its_address(self) -> None:
+        named, dynamic, absent = "005329c00401a10171", "005329c006054040404041", "00532945"
+        for target, kind, address in (
+            (named, AddressKind.NAMED, "q"),
+            ("005329c00501a102c3a9", AddressKind.NAMED, "\u00e9"),
+            (dynamic, AddressKind.DYNAMIC, None),
+            (absent, AddressKind.ABSENT, None),
+            ("40", AddressKind.NO_TARGET, None),
+            ("005329c00401a30171", AddressKind.OTHER, None),
+        ):
+            size = len(target) // 2
+            attach = f"000000{28 + size:02x}020000000053 12c0{15 + size:02x}0a a1016c43424040 00532845{target}404043".replace(" ", "")
+            endpoint = Endpoint("x")
+            for _ in endpoint.feed(HEAD[:-32] + bytes.fromhex(attach)):
+                pass
+            link = endpoint.link(0, 0)
+            self.assertEqual((link.address_kind, link.address), (kind, address))
 
     def test_window_is_topped_up(self) -> None:
         endpoint = Endpoint("x", window=4)

@@ -10,6 +10,7 @@ pub mod Leasts
 pub mod Optionals
 pub mod Describing
 pub mod Writings
+pub mod Targets
 pub mod Trims
 pub mod Framed
 pub mod ItemLaws

@@ -8,6 +8,8 @@ pub mod BodyReading
 pub mod Frames
 pub mod Conditions
 pub mod Outcomes
+pub mod Addresses
+pub mod Targets
 pub mod Again
 pub mod Said
 pub mod Receivers

@@ -7,6 +7,7 @@
 //! in `test_codec_rows`.
 #![tactic(auto)]
 
+mod address;
 mod condition;
 mod cursor;
 mod descriptor;
@@ -23,6 +24,7 @@ mod sizes;
 mod telling;
 mod writer;
 
+pub use address::{Address, address_of};
 pub use condition::Condition;
 pub use descriptor::Descriptor;
 pub use fault::BodyFault;

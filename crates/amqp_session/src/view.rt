@@ -1,5 +1,9 @@
 //! A view of a link.
+ghost use Rattle.std.specs.Prelude.{◌≡◌};
+ghost use Rattle.amqp_perform.specs.Addresses.{node_of, target_node};
+
 use amqp_link::LinkBounds;
+use amqp_perform::{Address, address_of};
 
 /// A live link, as the application may see it.
 #[derive(Clone, Copy, Debug)]
@@ -19,4 +23,13 @@ pub struct LinkView<'a> {
     /// How many deliveries the link allows, and how long a message may
     /// be.
     pub bounds: LinkBounds,
+}
+
+impl<'a> LinkView<'a> {
+    /// Returns what its target says of its node [3.5.4].
+    pub fn address(&self) -> Address<'a>
+        ensures { node_of result ≡ target_node self.now.target.now }
+    {
+        address_of(self.target)
+    }
 }

@@ -85,7 +85,8 @@ impl Codec<'_> {
             | "open"
             | "open-with-nulls"
             | "condition"
-            | "outcome" => of_frames(alloc, name, words),
+            | "outcome"
+            | "address" => of_frames(alloc, name, words),
             _ => of_values(alloc, name, words),
         }
     }
@@ -133,6 +134,7 @@ fn of_frames(alloc: Global, name: &str, words: &str) -> Result<String, Miss> {
         "open-with-nulls" => bodies::open_with_nulls(alloc, words),
         "condition" => states::condition(alloc, words),
         "outcome" => states::outcome(alloc, words),
+        "address" => states::address(alloc, words),
         _ => Err(Miss::Unread("no such call")),
     }
 }

@@ -1,7 +1,7 @@
-//! Conditions of errors, and outcomes of deliveries.
+//! Conditions of errors, outcomes of deliveries, and addresses of targets.
 
 use crate::bytes::bytes_of;
-use amqp_perform::{Condition, Outcome};
+use amqp_perform::{Address, Condition, Outcome};
 use std::alloc::Global;
 use test_row_files::Miss;
 
@@ -20,6 +20,11 @@ fn outcome_of(span: &[u8]) -> (Option<Outcome>, &'static [u8]) {
         None => b"none",
     };
     (outcome, canonical)
+}
+
+/// Returns what `address_of` answers, with nothing of its contract.
+fn address_of(span: &[u8]) -> Address<'_> {
+    amqp_perform::address_of(span)
 }
 
 /// Returns what is said of a span that is the canonical one.
@@ -41,4 +46,11 @@ pub fn outcome(alloc: Global, words: &str) -> Result<String, Miss> {
     let (outcome, canonical) = outcome_of(&span);
     let mark = mark(span.as_slice() == canonical);
     Ok(format!(in alloc; "{outcome:?}{mark}")?)
+}
+
+/// Returns what a target says of its node.
+pub fn address(alloc: Global, words: &str) -> Result<String, Miss> {
+    let span = bytes_of(alloc, words)?;
+    let address = address_of(&span);
+    Ok(format!(in alloc; "{address:?}")?)
 }

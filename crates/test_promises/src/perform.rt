@@ -1,6 +1,7 @@
 //! What `amqp_perform` promises.
 
 ghost use Rattle.std.specs.Prelude.{◌≡◌, ℕ, ◌≤◌, List, [], length, drop, Ok, IfOk, IfErr, IfSome, IfNone, IsOkAnd, ◌↔◌, ◌+◌, ◌<◌, ◌++◌, IsSome, is_some};
+ghost use Rattle.amqp_perform.specs.Addresses.{node_of, target_node};
 ghost use Rattle.amqp_perform.specs.declared.descriptor.Descriptor.{Descriptor};
 ghost use Rattle.amqp_perform.specs.declared.performative.Performative.TheVariants as performative;
 ghost use Rattle.amqp_perform.specs.Bodies.{BeginsWithin, Body, BodyOf, IsFaultOf};
@@ -11,7 +12,9 @@ ghost use Rattle.amqp_perform.specs.Frames.{frame_of, Writes, FitsFrame, IsWritt
 ghost use Rattle.amqp_perform.specs.Receivers.{disposition_said, stated_said};
 ghost use Rattle.amqp_perform.specs.Said.{said, said_frame};
 
-use amqp_perform::{BodyFault, Disposition, Flow, LinkFlow, Outcome, Performative, Transfer};
+use amqp_perform::{
+    Address, BodyFault, Disposition, Flow, LinkFlow, Outcome, Performative, Transfer,
+};
 
 /// Reads the transfer that a frame's body begins with into `transfer`, as [`read_body`] reads it, and returns
 /// how many bytes it takes; `None` if the body begins with no transfer [2.7.5].
@@ -118,4 +121,11 @@ pub fn write_settlement(
     ensures { IsWritten (said_frame channel (disposition_said first last settled outcome) []) result out.old out.new }
 {
     amqp_perform::write_settlement(channel, first, last, settled, outcome, out)
+}
+
+/// Returns what a target says of its node, as an attach spells it; no bytes are no target [3.5.4].
+pub fn address_of(target: &[u8]) -> Address<'_>
+    ensures { node_of result ≡ target_node target.now }
+{
+    amqp_perform::address_of(target)
 }

@@ -1,9 +1,10 @@
 -- What the numbers that C and the library exchange stand for.
-use Rattle.std.specs.Prelude.{◌≡◌, ℕ, true, false, nat_eq, if◌then◌else◌, [], Option, None, Some, Result, Ok, Err}
+use Rattle.std.specs.Prelude.{◌≡◌, ℕ, true, false, nat_eq, if◌then◌else◌, List, [], Option, None, Some, Result, Ok, Err}
 use Rattle.amqp_perform.specs.declared.condition.Condition.{Condition}
 use Rattle.amqp_perform.specs.declared.condition.Condition.TheVariants as condition
 use Rattle.amqp_perform.specs.declared.outcome.Outcome.{Outcome as Settlement}
 use Rattle.amqp_perform.specs.declared.outcome.Outcome.TheVariants as settlement
+use Rattle.amqp_perform.specs.Addresses.{Node, Named, Made, Nameless, NoNode, OtherNode}
 use Rattle.amqp_endpoint.specs.declared.event.End.{End}
 use Rattle.amqp_endpoint.specs.declared.event.End.TheVariants as end
 use Rattle.amqp_endpoint.specs.declared.event.Event.{Event}
@@ -27,6 +28,22 @@ use Rattle.wuleshomia.specs.declared.codes.OpenFault.{OpenFault}
 use Rattle.wuleshomia.specs.declared.codes.OpenFault.TheVariants as refused
 use Rattle.wuleshomia.specs.declared.data.FedReport.{FedReport}
 use Rattle.wuleshomia.specs.declared.data.StepReport.{StepReport}
+
+-- The address of a target. --------------------------------------------------------------------------------------------
+
+-- the address that a node has
+abbrev pub name_of : Node → List ℕ
+name_of (Named name) = name
+name_of _ = []
+
+-- what a number stands for, with this address [3.5.4]
+abbrev pub address_at : ℕ → List ℕ → Node
+address_at n name =
+    if nat_eq n 0 then Named name
+    else if nat_eq n 1 then Made
+    else if nat_eq n 2 then Nameless
+    else if nat_eq n 3 then NoNode
+    else OtherNode
 
 -- Calls. --------------------------------------------------------------------------------------------------------------
 

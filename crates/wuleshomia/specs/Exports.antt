@@ -18,12 +18,14 @@ use Rattle.wuleshomia.specs.declared.codes.OpenFault.{OpenFault}
 use Rattle.wuleshomia.specs.declared.codes.OpenFault.TheVariants as refused
 use Rattle.wuleshomia.specs.declared.data.Settings.{Settings}
 use Rattle.wuleshomia.specs.declared.data.LimitRow.{LimitRow}
+use Rattle.wuleshomia.specs.declared.data.AddressReport.{AddressReport}
 use Rattle.wuleshomia.specs.declared.data.LinkReport.{LinkReport}
+use Rattle.amqp_perform.specs.Addresses.{Node, target_node}
 use Rattle.wuleshomia.specs.declared.data.TakenReport.{TakenReport}
 use Rattle.wuleshomia.specs.declared.held.Held.{Held}
 use Rattle.wuleshomia.specs.declared.views.Terminus.{Terminus}
 use Rattle.wuleshomia.specs.declared.views.Terminus.TheVariants as terminus
-use Rattle.wuleshomia.specs.Codes.{fault_at, answer_code, accepted_at, given_at}
+use Rattle.wuleshomia.specs.Codes.{address_at, name_of, fault_at, answer_code, accepted_at, given_at}
 
 -- What happens. -------------------------------------------------------------------------------------------------------
 
@@ -200,6 +202,16 @@ abbrev pub ShowsPart : Slot LiveLink → (LiveLink → List ℕ) → ℕ → Lis
 ShowsPart Free part code old new = (code ≡ 4) × (new ≡ old)
 ShowsPart (Live l) part code old new = (code ≡ 0) × IsCopied (part l) old new
 ShowsPart Waits part code old new = (code ≡ 4) × (new ≡ old)
+
+-- what is reported of a target's node
+abbrev pub ShowsNode : Node → AddressReport → List ℕ → List ℕ → Type 0
+ShowsNode node address old new =
+    (address_at address.kind (name_of node) ≡ node) × (address.kind < 5) × (address.len ≡ min (length (name_of node)) 4294967295) × IsCopied (name_of node) old new
+
+abbrev pub ShowsAddress : Slot LiveLink → ℕ → AddressReport → AddressReport → List ℕ → List ℕ → Type 0
+ShowsAddress Free code before address old new = (code ≡ 4) × (address ≡ before) × (new ≡ old)
+ShowsAddress (Live l) code before address old new = (code ≡ 0) × ShowsNode (target_node l.target) address old new
+ShowsAddress Waits code before address old new = (code ≡ 4) × (address ≡ before) × (new ≡ old)
 
 -- one of its source and its target
 abbrev pub terminus_of : Terminus → List ℕ → List ℕ → List ℕ

@@ -70,6 +70,14 @@ pub struct LinkReport {
     pub target_len: u32,
 }
 
+/// What a link's target says of its node, and how many bytes its address has.
+#[repr(C)]
+#[derive(Clone, Copy)]
+pub struct AddressReport {
+    pub kind: u32,
+    pub len: u32,
+}
+
 /// The rule by which an endpoint is served; see `amqp_serve::Rule`.
 #[repr(C)]
 #[derive(Clone, Copy)]

@@ -7,13 +7,15 @@ ghost use Rattle.amqp_endpoint.specs.Connections.{slot_at};
 ghost use Rattle.amqp_endpoint.specs.Held.{held};
 ghost use Rattle.amqp_endpoint.specs.Takings.{link_at};
 ghost use Rattle.wuleshomia.specs.Codes.{Found, found_at};
-ghost use Rattle.wuleshomia.specs.Exports.{Did, report_of, Shows, ShowsPart, terminus_of};
+ghost use Rattle.amqp_perform.specs.Addresses.{node_of};
+ghost use Rattle.wuleshomia.specs.Exports.{Did, report_of, Shows, ShowsAddress, ShowsNode, ShowsPart, terminus_of};
 
 use crate::codes::{NO_ENDPOINT, NO_LINK, NO_SESSION, OK, of_found};
-use crate::data::LinkReport;
+use crate::data::{AddressReport, LinkReport};
 use crate::handle::EndpointHandle;
 use crate::messages::put;
 use crate::requests::number;
+use amqp_perform::Address;
 use amqp_session::LinkView;
 use std::alloc::Global;
 
@@ -166,6 +168,55 @@ fn terminus_in<'a>(view: &LinkView<'a>, terminus: Terminus) -> &'a [u8]
     match terminus {
         Terminus::Source => view.source,
         Terminus::Target => view.target,
+    }
+}
+
+/// Stores in `address` what a link's target says of its node, and copies the first bytes of its address, as many as
+/// fit. Returns `OK`, `NO_LINK` or `NO_ENDPOINT`; `address` and `room` change only at `OK`.
+#[unsafe(no_mangle)]
+pub extern "C" fn wuleshomia_link_address(
+    alloc: Global,
+    endpoint: &mut EndpointHandle,
+    channel: u32,
+    handle: u32,
+    address: &mut AddressReport,
+    room: &mut [u8],
+) -> u32
+    ensures { Did endpoint.old.held endpoint.new.held (λ before after. (after ≡ before) × ShowsAddress (link_at before.endpoint.connection (min channel 65535) handle) result address.old address.new room.old room.new) ((result ≡ 20) × (address.new ≡ address.old) × (room.new ≡ room.old)) }
+{
+    let Some(held) = endpoint.take(alloc) else {
+        return NO_ENDPOINT;
+    };
+    let code = match held.as_ref().endpoint.link(number(channel), handle) {
+        Some(view) => {
+            *address = show_address(view.address(), room);
+            OK
+        }
+        None => NO_LINK,
+    };
+    endpoint.put_back(alloc, held);
+    code
+}
+
+/// Copies the first bytes of an address, as many as fit. Returns which kind it is, and how many bytes it has.
+fn show_address(address: Address<'_>, room: &mut [u8]) -> AddressReport
+    ensures { ShowsNode (node_of address.entry) result room.old room.new }
+{
+    let kind = match address {
+        Address::Name(_) => 0,
+        Address::Dynamic => 1,
+        Address::Absent => 2,
+        Address::NoTarget => 3,
+        Address::Other => 4,
+    };
+    let name = match address {
+        Address::Name(name) => name.as_bytes(),
+        _ => &[],
+    };
+    let _ = put(name, room, 0);
+    AddressReport {
+        kind,
+        len: count_of(name),
     }
 }
 

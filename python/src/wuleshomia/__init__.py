@@ -24,6 +24,7 @@ from __future__ import annotations
 
 from ._endpoint import (
     Aborted,
+    AddressKind,
     AmqpError,
     Attached,
     Begun,
@@ -55,6 +56,7 @@ from ._asyncio import ReceiverProtocol
 
 __all__ = [
     "Aborted",
+    "AddressKind",
     "AmqpError",
     "Attached",
     "Begun",

@@ -97,6 +97,17 @@ class StarvedError(MemoryError):
         self.rest = rest
 
 
+class AddressKind(IntEnum):
+    """What a link's target says of its node: its address, a string (NAMED); no address, where the sender asks for a node to be made
+    (DYNAMIC) or for none (ABSENT); that there is no target; or an address that is no string, or a target of another type (OTHER)."""
+
+    NAMED = 0
+    DYNAMIC = 1
+    ABSENT = 2
+    NO_TARGET = 3
+    OTHER = 4
+
+
 class Outcome(IntEnum):
     """What became of a message."""
 
@@ -333,7 +344,8 @@ class Step:
 
 @dataclass(frozen=True)
 class Link:
-    """How a live link stands. `source` and `target` are as its attach spells them."""
+    """How a live link stands. `source` and `target` are as its attach spells them. `address` is that of its target: a text if
+    `address_kind` is NAMED, else None."""
 
     name: str
     credit: int
@@ -343,6 +355,8 @@ class Link:
     max_message: int
     source: bytes
     target: bytes
+    address: str | None
+    address_kind: AddressKind
 
 
 @dataclass(frozen=True)
@@ -649,6 +663,9 @@ class Endpoint:
         _check(self._call(_lib.wule_link_source, channel, handle, _address(source), state.source_len))
         target = ctypes.create_string_buffer(state.target_len + 1)
         _check(self._call(_lib.wule_link_target, channel, handle, _address(target), state.target_len))
+        address, text = native.Address(), ctypes.create_string_buffer(state.target_len + 1)
+        _check(self._call(_lib.wule_link_address, channel, handle, _address(address), _address(text), state.target_len))
+        kind = AddressKind(address.kind)
         return Link(
             name[: state.name_len].decode(),
             state.credit,
@@ -658,6 +675,8 @@ class Endpoint:
             state.max_message,
             source[: state.source_len],
             target[: state.target_len],
+            text[: address.len].decode() if kind is AddressKind.NAMED else None,
+            kind,
         )
 
     # Serving -------------------------------------------------------------------------------------------------------------

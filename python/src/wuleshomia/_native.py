@@ -71,6 +71,10 @@ class LinkState(Structure):
     ]
 
 
+class Address(Structure):
+    _fields_ = [("kind", u32), ("len", u32)]
+
+
 class Rule(Structure):
     _fields_ = [("credit", u32), ("mark", u32), ("outcome", u32)]
 
@@ -116,6 +120,7 @@ FUNCTIONS = {
     "wule_link": (u32, [POINTER(Handle), u32, u32, POINTER(LinkState), c_void_p, c_size_t]),
     "wule_link_source": (u32, [POINTER(Handle), u32, u32, c_void_p, c_size_t]),
     "wule_link_target": (u32, [POINTER(Handle), u32, u32, c_void_p, c_size_t]),
+    "wule_link_address": (u32, [POINTER(Handle), u32, u32, POINTER(Address), c_void_p, c_size_t]),
     "wule_first_lacking": (u32, [POINTER(Handle), u32, u32, u32, POINTER(u32)]),
     "wule_serve_step": (u32, [POINTER(Handle), POINTER(Rule), c_void_p, c_size_t, POINTER(Step)]),
     "wule_records": (c_size_t, [POINTER(Handle), c_void_p, c_size_t]),
