@@ -1,0 +1,121 @@
+//! A spool that was started.
+
+ghost use Rattle.amqp_spool.specs.Folders.{Now};
+ghost use Rattle.amqp_spool.specs.Reads.{IsFound};
+ghost use Rattle.amqp_spool.specs.Spools.{IsNew};
+ghost use Rattle.std.specs.Prelude.{IfErr};
+
+use amqp_spool::{Folder, Introduction, JournalFault, OpenFault, PutFault, Spool};
+use std::alloc::{AllocError, Global};
+use std::marker::Model;
+
+/// What a record has before the length of its message: channel 1, handle 2, delivery-id 3 and format 0.
+const RECORD_HEAD: [u8; 14] = [0, 1, 0, 0, 0, 2, 0, 0, 0, 3, 0, 0, 0, 0];
+
+/// A spool that was started.
+#[derive(Drop)]
+pub struct Life<F: Folder + Drop> {
+    spool: Spool<F>,
+}
+
+impl<F: Folder + Drop> Model for Life<F> {
+    ghost use Rattle.amqp_spool.specs.Spools.{IsSound};
+    ghost use Rattle.amqp_spool.specs.declared.spool.Spool.{Spool};
+
+    ghost Value = { Spool F };
+
+    ghost view = { λ life. life.spool };
+
+    ghost invariant = { λ life. IsSound F.history life.spool };
+}
+
+impl<F: Folder + Drop> Life<F> {
+    /// Starts a spool. If that fails it is returned with the fault, and may be started again.
+    pub fn start(spool: Spool<F>, secret: [u8; 16]) -> Result<Life<F>, (Spool<F>, JournalFault)>
+        requires found { Now IsFound (F.history spool.journal.folder) }
+        requires is { IsNew spool }
+        ensures { IfErr result (λ x. IsNew x.0) }
+    {
+        let mut spool = spool;
+        match spool.start(secret) {
+            Ok(()) => Ok(Life { spool }),
+            Err(fault) => Err((spool, fault)),
+        }
+    }
+
+    /// Opens a link of this connection and name, and returns its number.
+    pub fn open_link(&mut self, connection: u64, name: &str) -> Result<u32, OpenFault> {
+        self.spool.open_link(&Introduction {
+            link: 0,
+            connection,
+            peer: b"::1",
+            container: b"c",
+            name: name.as_bytes(),
+            user: b"",
+            kind: 0,
+            target: b"q",
+        })
+    }
+
+    pub fn close_link(&mut self, link: u32) {
+        self.spool.close_link(link);
+    }
+
+    /// Puts a message of a link, with the tag `t`.
+    pub fn put(&mut self, alloc: Global, link: u32, message: &str) -> Result<(), PutFault> {
+        let record = record_of(alloc, message)?;
+        self.spool.put(link, b"t", &record)
+    }
+
+    pub fn settle(&mut self, arrived: u64, secret: [u8; 16]) -> Result<(), JournalFault> {
+        self.spool.settle(arrived, secret)
+    }
+
+    pub fn tend(&mut self, passed: u64) -> Result<(), JournalFault> {
+        self.spool.tend(passed)
+    }
+
+    pub fn has_room(&self, len: u32) -> bool {
+        self.spool.has_room(len)
+    }
+
+    pub fn may_grant(&self, len: u64) -> bool {
+        self.spool.may_grant(len)
+    }
+
+    pub fn is_settled(&self) -> bool {
+        self.spool.is_settled()
+    }
+}
+
+/// Returns the record of a message. One of 4 GiB or more has another length in it, so that it is no record.
+fn record_of(alloc: Global, message: &str) -> Result<Vec<u8>, AllocError> {
+    let len = u32::try_from(message.len()).unwrap_or(0);
+    let mut record = Vec::from_slice(alloc, &RECORD_HEAD)?;
+    record.extend_from_slice(&len.to_be_bytes())?;
+    record.extend_from_slice(message.as_bytes())?;
+    Ok(record)
+}
+
+/// Returns the name of a fault of the disk.
+pub fn name_of(fault: JournalFault) -> &'static str {
+    match fault {
+        JournalFault::NoMemory => "Err(NoMemory)",
+        JournalFault::Full => "Full",
+        JournalFault::Failed => "Failed",
+        JournalFault::Bound => "Bound",
+        JournalFault::Damaged => "Damaged",
+    }
+}
+
+/// Returns the answer of a put that was refused.
+pub fn refusal_of(fault: PutFault) -> &'static str {
+    match fault {
+        PutFault::NotOpen => "Err(NotOpen)",
+        PutFault::LongTag => "Err(LongTag)",
+        PutFault::NoRecord => "Err(NoRecord)",
+        PutFault::Full => "Err(Full)",
+        PutFault::TooMany => "Err(TooMany)",
+        PutFault::NoMemory => "Err(NoMemory)",
+    }
+}
