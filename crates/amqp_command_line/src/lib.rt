@@ -44,6 +44,28 @@ pub enum Order<'a> {
         /// Whether the records are in blocks.
         blocks: bool,
     },
+    /// To print the records of the spool in this directory.
+    SpoolRecords {
+        dir: &'a str,
+        /// Those after this number alone, if there is one.
+        after: Option<u64>,
+        /// Those alone whose target has this address, if there is one.
+        address: Option<&'a str>,
+        /// Whether they are printed as JSON.
+        json: bool,
+    },
+    /// To list the segments of the spool in this directory.
+    SpoolList {
+        dir: &'a str,
+    },
+    /// To read all of the spool in this directory, and to say what is damaged.
+    SpoolCheck {
+        dir: &'a str,
+    },
+    /// Nothing: this option is no longer there.
+    Gone {
+        option: &'static str,
+    },
     /// To send this file as one message to the listener at this address.
     Send {
         address: &'a str,
@@ -82,7 +104,6 @@ pub struct GatewaySettings {
     pub slow: u32,
     pub grace: u32,
     pub every: u32,
-    pub sync: bool,
     pub until_eof: bool,
     /// How many sessions a peer may have at a time, and how many links each.
     pub sessions: u32,
@@ -97,13 +118,28 @@ pub struct GatewaySettings {
 #[derive(Clone, Copy, Debug, PartialEq, Eq)]
 pub struct GatewayFiles<'a> {
     /// Where records go in place of standard output.
-    pub records: Option<&'a str>,
+    pub spool: Option<SpoolOrder<'a>>,
     /// The limits for links.
     pub limits: Option<&'a str>,
     /// Where the counts go.
     pub metrics: Option<&'a str>,
     pub told: ToldTo<'a>,
 }
+
+/// The spool of a gateway.
+#[derive(Clone, Copy, Debug, PartialEq, Eq)]
+pub struct SpoolOrder<'a> {
+    pub dir: &'a str,
+    /// The bytes of all its files, at most.
+    pub bytes: u64,
+    /// Where a segment ends, in bytes.
+    pub segment: u64,
+    /// How many bytes are kept free for credit that was given. Without it as many as all credit may bring.
+    pub reserve: Option<u64>,
+}
+
+/// Where a segment ends if the command line doesn't say it.
+const SEGMENT: u64 = 67_108_864;
 
 /// Makes an option that takes a number between these two.
 fn number<'a>(alloc: Global, name: &'a str, least: i64, most: i64, default: &'a str) -> Arg<'a> {
@@ -202,7 +238,8 @@ fn gateway_line<'a>(alloc: Global) -> Result<Command<'a>, AllocError> {
     let gateway = gateway.arg(flag(alloc, "until-eof").help(
         "Ends it at the end of standard input",
     ))?;
-    let gateway = with_places(alloc, with_files(alloc, with_times(alloc, gateway)?)?)?;
+    let gateway = with_files(alloc, with_times(alloc, gateway)?)?;
+    let gateway = with_places(alloc, with_spool(alloc, gateway)?)?;
     with_told(
         alloc,
         with_bounds(alloc, gateway, ["16384", "8", "32768", "256"])?,
@@ -237,16 +274,42 @@ fn with_times<'a>(alloc: Global, gateway: Command<'a>) -> Result<Command<'a>, Al
 
 /// Adds the files.
 fn with_files<'a>(alloc: Global, gateway: Command<'a>) -> Result<Command<'a>, AllocError> {
-    let gateway = gateway.arg(file(alloc, "records").help(
-        "Appends the records to a file, and not to standard output",
-    ))?;
-    let sync = flag(alloc, "sync").requires_arg("records")?;
-    let gateway = gateway.arg(sync.help(
-        "Brings records to the disk before their senders hear of it",
-    ))?;
+    let gateway = gateway.arg(file(alloc, "records").hide(true))?;
+    let gateway = gateway.arg(flag(alloc, "sync").hide(true))?;
     gateway.arg(file(alloc, "metrics").help(
         "Writes what it counts, in the text format of Prometheus",
     ))
+}
+
+/// Adds the spool.
+fn with_spool<'a>(alloc: Global, gateway: Command<'a>) -> Result<Command<'a>, AllocError> {
+    let spool = dir(alloc, "spool").requires_arg("bytes")?;
+    let gateway = gateway.arg(spool.help(
+        "Keeps the records in a spool in this directory, and not on standard output",
+    ))?;
+    let gateway = gateway.arg(of_spool(alloc, "bytes", "BYTES")?.help(
+        "All files of the spool have at most so many",
+    ))?;
+    let gateway = gateway.arg(of_spool(alloc, "segment", "BYTES")?.help(
+        "Where a segment of the spool ends [default: 67108864]",
+    ))?;
+    gateway.arg(of_spool(alloc, "reserve", "BYTES")?.help(
+        "How many are kept free for credit that was given; by default as many as all credit may bring",
+    ))
+}
+
+/// Makes an option that names a directory.
+fn dir<'a>(alloc: Global, name: &'a str) -> Arg<'a> {
+    Arg::new(alloc, name).long(name).value_name("DIR")
+}
+
+/// Makes an option that takes a number, which this word stands for, and needs `--spool`.
+fn of_spool<'a>(alloc: Global, name: &'a str, word: &'a str) -> Result<Arg<'a>, AllocError> {
+    Arg::new(alloc, name)
+        .long(name)
+        .value_name(word)
+        .value_parser(value_parser!(u64))
+        .requires_arg("spool")
 }
 
 /// Returns the settings of a command line that was read as one of [`gateway_line`].
@@ -258,7 +321,6 @@ fn gateway_settings(gateway: &ArgMatches<'_>) -> Option<GatewaySettings> {
         slow: gateway.get_one("slow")?,
         grace: gateway.get_one("grace")?,
         every: gateway.get_one("every")?,
-        sync: gateway.get_flag("sync"),
         until_eof: gateway.get_flag("until-eof"),
         sessions: gateway.get_one("sessions")?,
         links: gateway.get_one("links")?,
@@ -266,6 +328,45 @@ fn gateway_settings(gateway: &ArgMatches<'_>) -> Option<GatewaySettings> {
         allowed: gateway.get_one("allowed")?,
         max_message: gateway.get_one("max-message")?,
         window: gateway.get_one("window")?,
+    })
+}
+
+/// Returns the spool of a command line that was read as one of [`gateway_line`], if it has one.
+fn spool_of<'a>(gateway: &ArgMatches<'a>) -> Option<SpoolOrder<'a>> {
+    Some(SpoolOrder {
+        dir: gateway.get_str("spool")?,
+        bytes: gateway.get_one("bytes")?,
+        segment: gateway.get_one("segment").unwrap_or(SEGMENT),
+        reserve: gateway.get_one("reserve"),
+    })
+}
+
+/// Returns the option of a command line that was read as one of [`gateway_line`], and that is no longer there, if it
+/// has one.
+fn gone_of(gateway: &ArgMatches<'_>) -> Option<&'static str> {
+    if gateway.get_str("records").is_some() {
+        Some("--records")
+    } else if gateway.get_flag("sync") {
+        Some("--sync")
+    } else {
+        None
+    }
+}
+
+/// Returns what a command line that was read as one of [`gateway_line`] asks for.
+fn gateway_order<'a>(gateway: &ArgMatches<'a>) -> Option<Order<'a>> {
+    if let Some(option) = gone_of(gateway) {
+        return Some(Order::Gone { option });
+    }
+    Some(Order::Gateway {
+        address: gateway.get_str("ADDR")?,
+        settings: gateway_settings(gateway)?,
+        files: GatewayFiles {
+            spool: spool_of(gateway),
+            limits: gateway.get_str("limits"),
+            metrics: gateway.get_str("metrics"),
+            told: told_to(gateway),
+        },
     })
 }
 
@@ -294,20 +395,90 @@ fn records_line<'a>(alloc: Global) -> Result<Command<'a>, AllocError> {
     let records = Command::new(alloc, "records").about(
         "Prints the records that recv or gateway wrote, as they come",
     );
-    let records = records.arg(
-        Arg::new(alloc, "FILE").required(true).help(
-            "The records that recv or gateway wrote; - is standard input",
-        ),
-    )?;
+    let records = records.arg(records_file(alloc)?)?;
     let records = records.arg(flag(alloc, "json").help("Prints one JSON object on a line"))?;
-    let only = only(alloc)?;
-    let records = records.arg(only)?;
-    let records = records.arg(flag(alloc, "blocks").help(
-        "The records stand in blocks, as gateway writes them",
+    let records = records.arg(only(alloc)?)?;
+    let blocks = flag(alloc, "blocks").conflicts_with("spool")?;
+    let records = records.arg(blocks.help("The records stand in blocks, as gateway writes them"))?;
+    let most = number(alloc, "max-message", 1, 1073741824, "1073741824");
+    let records = records.arg(
+        most.conflicts_with("spool")?
+            .help("The longest message, in bytes"),
+    )?;
+    with_spooled(alloc, records)
+}
+
+/// Makes the file of records, which is there unless a spool is.
+fn records_file<'a>(alloc: Global) -> Result<Arg<'a>, AllocError> {
+    let file = Arg::new(alloc, "FILE").required_unless_present("spool")?;
+    let file = file.conflicts_with("spool")?;
+    Ok(file.help("The records that recv or gateway wrote; - is standard input"))
+}
+
+/// Adds the spool whose records are printed.
+fn with_spooled<'a>(alloc: Global, records: Command<'a>) -> Result<Command<'a>, AllocError> {
+    let records = records.arg(dir(alloc, "spool").help(
+        "Prints the records of the spool in this directory",
     ))?;
-    records.arg(number(alloc, "max-message", 1, 1073741824, "1073741824").help(
-        "The longest message, in bytes",
-    ))
+    let after = of_spool(alloc, "after", "N")?.conflicts_with("FILE")?;
+    let records = records.arg(after.help(
+        "Leaves out the records of the spool up to the number N",
+    ))?;
+    let address = Arg::new(alloc, "address").long("address").value_name("A");
+    let address = address.requires_arg("spool")?.conflicts_with("FILE")?;
+    records.arg(address.help("Prints only records of the spool whose target has this address"))
+}
+
+/// Makes the command that tells of a spool.
+fn spool_line<'a>(alloc: Global) -> Result<Command<'a>, AllocError> {
+    let list = Command::new(alloc, "list")
+        .about("Lists the segments")
+        .arg(spool_dir(alloc))?;
+    let check = Command::new(alloc, "check")
+        .about("Reads all of it, and says what is damaged")
+        .arg(spool_dir(alloc))?;
+    Command::new(alloc, "spool")
+        .about("Tells of the spool that gateway keeps in a directory")
+        .subcommand_required(true)
+        .arg_required_else_help(true)
+        .subcommand(list)?
+        .subcommand(check)
+}
+
+/// Makes the directory of a spool.
+fn spool_dir<'a>(alloc: Global) -> Arg<'a> {
+    Arg::new(alloc, "DIR")
+        .required(true)
+        .help("The directory of the spool")
+}
+
+/// Returns what a command line that was read as one of [`spool_line`] asks for.
+fn spool_order<'a>(spool: &ArgMatches<'a>) -> Option<Order<'a>> {
+    if let Some(list) = spool.subcommand_matches("list") {
+        let dir = list.get_str("DIR")?;
+        return Some(Order::SpoolList { dir });
+    }
+    let check = spool.subcommand_matches("check")?;
+    let dir = check.get_str("DIR")?;
+    Some(Order::SpoolCheck { dir })
+}
+
+/// Returns what a command line that was read as one of [`records_line`] asks for.
+fn records_order<'a>(records: &ArgMatches<'a>) -> Option<Order<'a>> {
+    if let Some(dir) = records.get_str("spool") {
+        return Some(Order::SpoolRecords {
+            dir,
+            after: records.get_one("after"),
+            address: records.get_str("address"),
+            json: records.get_flag("json"),
+        });
+    }
+    Some(Order::Records {
+        file: records.get_str("FILE")?,
+        output: records_output(records),
+        max_message: records.get_one("max-message")?,
+        blocks: records.get_flag("blocks"),
+    })
 }
 
 /// Makes the option that takes the number of one record.
@@ -316,7 +487,7 @@ fn only<'a>(alloc: Global) -> Result<Arg<'a>, AllocError> {
         .long("only")
         .value_name("N")
         .value_parser(value_parser!(u64).range(1..));
-    let only = only.conflicts_with("json")?;
+    let only = only.conflicts_with("json")?.conflicts_with("spool")?;
     Ok(only.help("Writes the bytes of the Nth message, and nothing else"))
 }
 
@@ -370,6 +541,7 @@ pub fn command_line<'a>(alloc: Global) -> Result<Command<'a>, AllocError> {
         .subcommand(recv_line(alloc)?)?
         .subcommand(gateway_line(alloc)?)?
         .subcommand(records_line(alloc)?)?
+        .subcommand(spool_line(alloc)?)?
         .subcommand(send_line(alloc)?)
 }
 
@@ -393,29 +565,13 @@ pub fn order_of<'a>(matches: &ArgMatches<'a>) -> Option<Order<'a>> {
         });
     }
     if let Some(gateway) = matches.subcommand_matches("gateway") {
-        let address = gateway.get_str("ADDR")?;
-        let settings = gateway_settings(gateway)?;
-        let files = GatewayFiles {
-            records: gateway.get_str("records"),
-            limits: gateway.get_str("limits"),
-            metrics: gateway.get_str("metrics"),
-            told: told_to(gateway),
-        };
-        return Some(Order::Gateway {
-            address,
-            settings,
-            files,
-        });
+        return gateway_order(gateway);
     }
     if let Some(records) = matches.subcommand_matches("records") {
-        let file = records.get_str("FILE")?;
-        let max_message = records.get_one("max-message")?;
-        return Some(Order::Records {
-            file,
-            output: records_output(records),
-            max_message,
-            blocks: records.get_flag("blocks"),
-        });
+        return records_order(records);
+    }
+    if let Some(spool) = matches.subcommand_matches("spool") {
+        return spool_order(spool);
     }
     if let Some(replay) = matches.subcommand_matches("replay") {
         let script = replay.get_str("SCRIPT")?;

@@ -1,12 +1,11 @@
 //! Serves many peers at a time.
 
-use crate::metrics::Metrics;
+use crate::metrics::{Metrics, Spooled};
+use crate::spool::{Shelf, Upheld};
 use crate::traces::Traces;
 use amqp_command_line::GatewaySettings;
 use amqp_endpoint::Config;
-use amqp_gateway::{
-    Ending, Gateway, GatewayFault, Settings, Sink, Watcher, link_most, outlet_most, peer_most,
-};
+use amqp_gateway::{Ending, Gateway, GatewayFault, Settings, Watcher, link_most, peer_most};
 use amqp_perform::Outcome;
 use amqp_serve::Rule;
 use amqp_trace::Host;
@@ -43,29 +42,31 @@ pub struct Plan<'a> {
     pub settings: GatewaySettings,
     /// How many bytes a link keeps at most.
     pub link: u64,
+    /// How many bytes of records wait at most.
+    pub records: u64,
     /// The file of metrics, if there is one.
     pub metrics: Option<&'a str>,
 }
 
-/// Serves peers by a plan, with the records to a sink, until it has ended. What passes is reported to the traces.
-pub fn serve_to<R, S, T, H>(
+/// Serves peers by a plan, with the records to a keeper, until it has ended. What passes is reported to the traces.
+pub fn serve_to<R, K, T, H>(
     rt: &R,
     plan: Plan<'_>,
-    sink: S,
+    keeper: K,
     traces: Traces<T, H>,
 ) -> Result<(), GatewayFault>
 where
     R: Eprint + Input + Files + Net + Clock + AllocGlobal,
-    S: Sink + Drop,
+    K: Shelf + Drop,
     T: Write + Drop,
     H: Host + Drop,
-    requires on_disk { S.on_disk sink }
 {
     let Plan {
         listener,
         config,
         settings,
         link,
+        records,
         metrics,
     } = plan;
     let rule = Rule {
@@ -76,7 +77,7 @@ where
     let most = peer_most(&config, link);
     let bound = (settings.open as u64)
         .saturating_mul(most)
-        .saturating_add(outlet_most(&config, link));
+        .saturating_add(records);
     let _ = eprintln!(rt; "a peer holds at most {most} bytes, and all together {bound}");
     let mut clock = Stopwatch::new(rt);
     let now = clock.millis(rt);
@@ -86,7 +87,7 @@ where
         config,
         rule,
         times(&settings),
-        sink,
+        keeper,
         traces,
         now,
     )?;
@@ -104,18 +105,19 @@ where
 }
 
 /// Has a gateway make turns until it is done, or until the end of standard input where that ends it.
-fn run<R, S, W>(
+fn run<R, K, W>(
     rt: &R,
-    gateway: &mut Gateway<S, W>,
+    gateway: &mut Gateway<K, W>,
     clock: &mut Stopwatch,
     mut watched: Watched<'_>,
     until_eof: bool,
 ) -> Result<(), GatewayFault>
 where
     R: Eprint + Input + Files + Clock + AllocGlobal,
-    S: Sink + Drop,
+    K: Shelf + Drop,
     W: Watcher + Drop,
 {
+    let mut upheld = Upheld::NOTHING;
     for _ in 0..u64::MAX {
         let now = clock.millis(rt);
         if now >= watched.due || gateway.is_done() {
@@ -125,6 +127,7 @@ where
             break;
         }
         let turned = gateway.turn(rt, now);
+        upheld.tell(rt, gateway.keeper(), gateway.held_up());
         watched.longest = watched.longest.max(clock.millis(rt).saturating_sub(now));
         let waited = match turned {
             Ok(()) => gateway.wait(WAIT),
@@ -133,6 +136,7 @@ where
         if let Err(fault) = waited {
             gateway.end_all(rt, ending_by(fault));
             watched.tell(rt, now, gateway);
+            upheld.end(rt, gateway.keeper());
             return Err(fault);
         }
         if until_eof && gateway.input_came() && (has_ended(rt) || gateway.watch_input().is_err()) {
@@ -163,10 +167,10 @@ struct Watched<'a> {
 
 impl Watched<'_> {
     /// Writes the file, if there is one, at this moment. The longest turn is counted anew.
-    fn tell<R, S, W>(&mut self, rt: &R, now: u64, gateway: &Gateway<S, W>)
+    fn tell<R, K, W>(&mut self, rt: &R, now: u64, gateway: &Gateway<K, W>)
     where
         R: Eprint + Files + AllocGlobal,
-        S: Sink + Drop,
+        K: Shelf + Drop,
         W: Watcher + Drop,
     {
         let told = Metrics {
@@ -175,11 +179,20 @@ impl Watched<'_> {
             held: gateway.held(),
             bound: self.bound,
             longest: self.longest,
+            spooled: spooled(gateway),
         };
         self.due = now.saturating_add(self.every);
         self.longest = 0;
         tell(rt, self.metrics, &told);
     }
+}
+
+/// Returns how the spool of a gateway stands, if it has one.
+fn spooled<K: Shelf + Drop, W: Watcher + Drop>(gateway: &Gateway<K, W>) -> Option<Spooled> {
+    Some(Spooled {
+        stock: gateway.keeper().stock()?,
+        held_up: gateway.held_up(),
+    })
 }
 
 /// Writes these metrics to the file, if there is one.
@@ -199,7 +212,6 @@ fn times(settings: &GatewaySettings) -> Settings {
         idle: (settings.idle as u64).saturating_mul(1000),
         slow: (settings.slow as u64).saturating_mul(1000),
         grace: (settings.grace as u64).saturating_mul(1000),
-        sync: settings.sync,
     }
 }
 

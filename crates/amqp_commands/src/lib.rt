@@ -3,7 +3,7 @@
 //! Begin reading at [`run`], which does what the command line asks for; `amqp_command_line` reads that. `dump` is done
 //! by `amqp_dump`, `records` by `amqp_records`, `replay` by `amqp_script`, `recv` by `amqp_receive` and `send` by
 //! `amqp_send_file`. `amqp_trace` shows what passes (`told`). `gateway` is done by `amqp_gateway` (`gateway`), with its
-//! records in a file (`store`) and its counts in another (`metrics`). The tests are in `test_amqp`.
+//! records in a spool (`spool`) and its counts in a file (`metrics`). The tests are in `test_amqp`.
 #![tactic(auto)]
 
 mod gateway;
@@ -11,8 +11,8 @@ mod metrics;
 pub mod recv;
 pub mod run;
 pub mod send;
-mod store;
+mod spool;
 mod told;
 mod traces;
 
-pub use store::Exclusive;
+pub use amqp_spool::Exclusive;

@@ -1,6 +1,7 @@
 //! What a gateway counts, in the text format of Prometheus.
 
-use amqp_gateway::{Counts, Ending};
+use crate::spool::Stock;
+use amqp_gateway::{Counts, Ending, HeldUp};
 use std::alloc::{AllocError, Global};
 use std::fs;
 use std::io::{self, Write};
@@ -17,6 +18,80 @@ pub struct Metrics {
     pub bound: u64,
     /// The longest turn since the file was written last, in milliseconds.
     pub longest: u64,
+    /// How the spool stands, if there is one.
+    pub spooled: Option<Spooled>,
+}
+
+/// How a spool stands, and what it holds up.
+#[derive(Clone, Copy, Debug)]
+pub struct Spooled {
+    pub stock: Stock,
+    pub held_up: Option<HeldUp>,
+}
+
+impl Spooled {
+    /// Puts their text after another.
+    fn put_to(&self, alloc: Global, text: &mut String) -> Result<(), AllocError> {
+        let Stock {
+            used,
+            limit,
+            segments,
+            next,
+        } = self.stock;
+        put(
+            alloc,
+            text,
+            "spool_bytes",
+            "gauge",
+            "Bytes that the segments of the spool have.",
+            used,
+        )?;
+        put(
+            alloc,
+            text,
+            "spool_bytes_bound",
+            "gauge",
+            "Bytes that they may have.",
+            limit,
+        )?;
+        put(
+            alloc,
+            text,
+            "spool_segments",
+            "gauge",
+            "Segments of the spool.",
+            segments,
+        )?;
+        put(
+            alloc,
+            text,
+            "spool_next",
+            "gauge",
+            "The number of the next record.",
+            next,
+        )?;
+        self.put_held_up(alloc, text)
+    }
+
+    /// Puts what is held up, by cause.
+    fn put_held_up(&self, alloc: Global, text: &mut String) -> Result<(), AllocError> {
+        put_head(
+            text,
+            "spool_held_up",
+            "gauge",
+            "Whether senders are held up, by cause.",
+        )?;
+        for (cause, what) in [
+            ("credit", HeldUp::Credit),
+            ("room", HeldUp::Peers),
+            ("disk", HeldUp::Records),
+        ] {
+            let is = u8::from(self.held_up == Some(what));
+            let line = format!(in alloc; "amqp_gateway_spool_held_up{{cause=\"{cause}\"}} {is}\n")?;
+            text.push_str(line.as_str())?;
+        }
+        Ok(())
+    }
 }
 
 impl Metrics {
@@ -92,6 +167,9 @@ impl Metrics {
             "The longest turn of the loop since this file was written last.",
             self.longest,
         )?;
+        if let Some(spooled) = &self.spooled {
+            spooled.put_to(alloc, &mut text)?;
+        }
         Ok(text)
     }
 

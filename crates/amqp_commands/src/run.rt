@@ -4,28 +4,31 @@ ghost use Rattle.std.specs.Prelude.{◌≡◌};
 ghost use Rattle.amqp_commands.specs.declared.run.Fault.TheVariants.{NoMemory};
 
 use crate::gateway::{self, Plan};
-use crate::store::{Exclusive, Store};
+use crate::spool::{self, Shelf, StartFault};
 use crate::told::{Desk, Told};
 use crate::traces::Traces;
 use amqp_command_line::{
-    GatewayFiles, GatewaySettings, Order, RecvSettings, ToldTo, command_line, order_of,
+    GatewayFiles, GatewaySettings, Order, RecvSettings, SpoolOrder, ToldTo, command_line, order_of,
 };
 use amqp_dump::{DumpFault, dump};
 use amqp_endpoint::Config;
 use amqp_frame::Device;
-use amqp_gateway::{GatewayFault, Sink, Unsynced};
+use amqp_gateway::{GatewayFault, Outlet, Unsynced, outlet_most};
 use amqp_perform::Outcome;
 use amqp_receive::{BUFFER, recv_on};
 use amqp_records::{BlocksFault, Output, RecordsFault, print_blocks, print_records};
 use amqp_script::{ScriptFault, read_limits, replay_script};
 use amqp_send_file::{Fate, FileFault, send_file};
 use amqp_serve::Policy;
+use amqp_spool::Exclusive;
+use amqp_spool_records::{Form, SpoolFault, Wanted, check_spool, list_spool, print_spool};
 use amqp_trace::Trace;
 use clap::error::ErrorKind;
 use std::alloc::{AllocError, Global};
-use std::io::Read;
+use std::io::{Read, Write};
 use std::net::{Net, TcpListener};
 use std::process::ExitCode;
+use std::random::RandomSource;
 use std::rt::{Env, Files};
 use std::time::{Clock, Duration};
 use std::{env, fs, io};
@@ -33,6 +36,9 @@ use thiserror::Error;
 
 /// The exit status of a command line that asks for no command.
 const USAGE: u8 = 2;
+
+/// The exit status of a command that has found damage in a spool.
+const DAMAGED: u8 = 3;
 
 /// Why a command did not come to its end.
 #[derive(Debug, Drop, Error)]
@@ -53,9 +59,13 @@ enum Fault {
     #[error(transparent)]
     Gateway(GatewayFault),
     #[error(transparent)]
+    Start(StartFault),
+    #[error(transparent)]
     Script(ScriptFault),
     #[error(transparent)]
     Send(FileFault),
+    #[error(transparent)]
+    Spool(SpoolFault),
 }
 
 impl From<AllocError> for Fault {
@@ -66,10 +76,11 @@ impl From<AllocError> for Fault {
     }
 }
 
-/// Runs the program. The exit status is 0 for success, 1 for a fault, and 2 for a command line that asks for no
-/// command. What went wrong is on standard error, except the fault in a dumped stream.
-pub fn run<R: Print + Eprint + Input + Env + Files + Net + Clock + AllocGlobal>(rt: &R) -> ExitCode
+/// Runs the program. The exit status is 0 for success, 1 for a fault, 2 for a command line that asks for no command, and
+/// 3 for a spool that is damaged. What went wrong is on standard error, except the fault in a dumped stream.
+pub fn run<R>(rt: &R) -> ExitCode
 where
+    R: Print + Eprint + Input + Env + Files + Net + Clock + RandomSource + AllocGlobal,
     R::File: Exclusive,
 {
     match obey(rt) {
@@ -82,10 +93,9 @@ where
 }
 
 /// Does what the command line asks for.
-fn obey<R: Print + Eprint + Input + Env + Files + Net + Clock + AllocGlobal>(
-    rt: &R,
-) -> Result<ExitCode, Fault>
+fn obey<R>(rt: &R) -> Result<ExitCode, Fault>
 where
+    R: Print + Eprint + Input + Env + Files + Net + Clock + RandomSource + AllocGlobal,
     R::File: Exclusive,
 {
     let words = match words(rt) {
@@ -121,6 +131,28 @@ where
                 blocks,
             },
         ) => records_file(rt, file, output, max_message, blocks),
+        Some(
+            Order::SpoolRecords {
+                dir,
+                after,
+                address,
+                json,
+            },
+        ) => {
+            let form = if json { Form::Json } else { Form::Text };
+            let wanted = Wanted {
+                after,
+                address,
+                form,
+            };
+            spool_records(rt, dir, wanted)
+        }
+        Some(Order::SpoolList { dir }) => spool_list(rt, dir),
+        Some(Order::SpoolCheck { dir }) => spool_check(rt, dir),
+        Some(Order::Gone { option }) => {
+            let _ = eprintln!(rt; "error: {option} is gone: use --spool DIR --bytes D");
+            Ok(ExitCode::from(USAGE))
+        }
         Some(Order::Replay { script }) => replay_file(rt, script),
         Some(Order::Send { address, file }) => send(rt, address, file),
         None => Ok(ExitCode::from(USAGE)),
@@ -243,6 +275,71 @@ fn blocks_printed(printed: Result<u64, BlocksFault>) -> Result<u64, Fault> {
     }
 }
 
+/// A buffer before standard output.
+type Out<'a, R> = io::BufWriter<io::Printer<'a, R>>;
+
+/// Makes a buffer before standard output.
+fn buffered<R: Print + AllocGlobal>(rt: &R) -> Result<Out<'_, R>, Fault> {
+    match io::BufWriter::with_capacity(rt.alloc(), BUFFER, io::writer(rt)) {
+        Ok(out) => Ok(out),
+        Err(_) => Err(Fault::NoMemory),
+    }
+}
+
+/// Brings what a buffer has to standard output, and returns what came of what was printed to it.
+fn flushed<R: Print, T: Drop>(
+    mut out: Out<'_, R>,
+    printed: Result<T, SpoolFault>,
+) -> Result<T, Fault> {
+    let went = out.flush();
+    let _ = out.into_parts(); // what standard output refused is not tried again
+    match printed {
+        Ok(_) if went.is_err() => Err(Fault::Spool(SpoolFault::Write)),
+        Ok(printed) => Ok(printed),
+        Err(fault) => Err(Fault::Spool(fault)),
+    }
+}
+
+/// Prints the records of a spool to standard output, and what is damaged to standard error.
+fn spool_records<R: Print + Eprint + Files + AllocGlobal>(
+    rt: &R,
+    dir: &str,
+    wanted: Wanted<'_>,
+) -> Result<ExitCode, Fault> {
+    let mut out = buffered(rt)?;
+    let printed = print_spool(rt, rt.alloc(), dir, wanted, &mut out, Told::Stderr(rt));
+    let damaged = flushed(out, printed)?;
+    Ok(well(damaged == 0))
+}
+
+/// Lists the segments of a spool on standard output.
+fn spool_list<R: Print + Files + AllocGlobal>(rt: &R, dir: &str) -> Result<ExitCode, Fault> {
+    let mut out = buffered(rt)?;
+    let listed = list_spool(rt, rt.alloc(), dir, &mut out);
+    flushed(out, listed)?;
+    Ok(ExitCode::SUCCESS)
+}
+
+/// Reads all of a spool, and says what is damaged.
+fn spool_check<R: Print + Eprint + Files + AllocGlobal>(
+    rt: &R,
+    dir: &str,
+) -> Result<ExitCode, Fault> {
+    let mut out = buffered(rt)?;
+    let checked = check_spool(rt, rt.alloc(), dir, &mut out, Told::Stderr(rt));
+    let is_well = flushed(out, checked)?;
+    Ok(well(is_well))
+}
+
+/// Returns the exit status of a command that has read a spool.
+fn well(is_well: bool) -> ExitCode {
+    if is_well {
+        ExitCode::SUCCESS
+    } else {
+        ExitCode::from(DAMAGED)
+    }
+}
+
 /// Runs a script, with its answers on standard output. They go out many at a time, and all of them at the end,
 /// however it ends.
 fn replay_file<R: Print + Files + AllocGlobal>(rt: &R, path: &str) -> Result<ExitCode, Fault> {
@@ -337,26 +434,27 @@ fn seconds(count: u32) -> Option<Duration> {
     }
 }
 
-/// Serves many peers at a time, with the records in blocks on standard output or at the end of a file. The file is
-/// checked after the listener is had, so that a second program at the same address touches nothing.
-fn serve_many<R: Print + Eprint + Input + Files + Net + Clock + AllocGlobal>(
+/// Serves many peers at a time, with the records in a spool or in blocks on standard output. The spool is opened after
+/// the listener is had, so that a second program at the same address touches nothing.
+fn serve_many<R>(
     rt: &R,
     address: &str,
     settings: GatewaySettings,
     files: GatewayFiles<'_>,
 ) -> Result<ExitCode, Fault>
 where
+    R: Print + Eprint + Input + Files + Net + Clock + RandomSource + AllocGlobal,
     R::File: Exclusive,
 {
     let alloc = rt.alloc();
     let Some(config) = gateway_config(alloc, settings)? else {
         return Ok(ExitCode::from(USAGE));
     };
-    let (config, link) = match files.limits {
+    let (config, most) = match files.limits {
         Some(path) => gateway_limits(rt, config, path)?,
         None => {
-            let link = gateway::most_of_links(&config, "");
-            (config, link)
+            let most = Most::of(&config, "");
+            (config, most)
         }
     };
     let Ok(listener) = gateway::listen(rt, address) else {
@@ -364,44 +462,96 @@ where
     };
     let plan = Plan {
         listener,
+        records: outlet_most(&config, most.link),
         config,
         settings,
-        link,
+        link: most.link,
         metrics: files.metrics,
     };
-    match files.records {
-        None => serve_told(rt, plan, Unsynced(io::writer(rt)), files.told),
-        Some(path) => {
-            let store = stored(rt, path)?;
-            serve_told(rt, plan, store, files.told)
+    match files.spool {
+        None => {
+            let outlet = Outlet::new(alloc, Unsynced(io::writer(rt)), false);
+            serve_told(rt, plan, outlet, files.told)
         }
+        Some(order) => serve_spooled(rt, plan, order, most.message, files.told),
     }
 }
 
-/// Serves many peers by a plan, with the records to a sink, and tells of them in these files.
-fn serve_told<R: Print + Eprint + Input + Files + Net + Clock + AllocGlobal, S: Sink + Drop>(
+/// Serves many peers by a plan, with the records in a spool. Messages have at most so many bytes.
+fn serve_spooled<R>(
     rt: &R,
     plan: Plan<'_>,
-    sink: S,
+    order: SpoolOrder<'_>,
+    message: u32,
     told: ToldTo<'_>,
 ) -> Result<ExitCode, Fault>
-    requires on_disk { S.on_disk sink }
+where
+    R: Print + Eprint + Input + Files + Net + Clock + RandomSource + AllocGlobal,
+    R::File: Exclusive,
+{
+    let links = most_links(&plan.settings);
+    let messages = links.saturating_mul(plan.settings.allowed as u64);
+    let sizes = match spool::sizes(&order, message, messages) {
+        Ok(sizes) => sizes,
+        Err(fault) => return Err(Fault::Start(fault)),
+    };
+    let plan = Plan {
+        records: spool::most_held(&sizes, links),
+        ..plan
+    };
+    match spool::started(rt, rt.alloc(), order.dir, sizes) {
+        Ok(keeper) => serve_told(rt, plan, keeper, told),
+        Err(fault) => Err(Fault::Start(fault)),
+    }
+}
+
+/// Returns how many links all peers may have at a time.
+fn most_links(settings: &GatewaySettings) -> u64 {
+    (settings.open as u64)
+        .saturating_mul(settings.sessions as u64)
+        .saturating_mul(settings.links as u64)
+}
+
+/// Serves many peers by a plan, with the records to a keeper, and tells of them in these files.
+fn serve_told<R, K>(rt: &R, plan: Plan<'_>, keeper: K, told: ToldTo<'_>) -> Result<ExitCode, Fault>
+where
+    R: Print + Eprint + Input + Files + Net + Clock + AllocGlobal,
+    K: Shelf + Drop,
 {
     let frames = opened(rt, told.trace)?;
     let events = opened(rt, told.events)?;
     let traces = Traces::new(rt.alloc(), Desk::new(rt), frames, events)?;
-    match gateway::serve_to(rt, plan, sink, traces) {
+    match gateway::serve_to(rt, plan, keeper, traces) {
         Ok(()) => Ok(ExitCode::SUCCESS),
         Err(fault) => Err(Fault::Gateway(fault)),
     }
 }
 
-/// Returns the settings with the limits of a file, and how many bytes a link of any name keeps at most by them.
+/// What links may have, in bytes.
+#[derive(Clone, Copy)]
+struct Most {
+    /// What one keeps.
+    link: u64,
+    /// The longest message.
+    message: u32,
+}
+
+impl Most {
+    /// Returns what links have at most by these settings, which have this table of limits.
+    fn of(config: &Config, table: &str) -> Most {
+        Most {
+            link: gateway::most_of_links(config, table),
+            message: spool::longest_message(config, table),
+        }
+    }
+}
+
+/// Returns the settings with the limits of a file, and what links may have by them.
 fn gateway_limits<R: Files + AllocGlobal>(
     rt: &R,
     config: Config,
     path: &str,
-) -> Result<(Config, u64), Fault> {
+) -> Result<(Config, Most), Fault> {
     let alloc = rt.alloc();
     let mut file = match fs::open(rt, path) {
         Ok(file) => file,
@@ -414,32 +564,10 @@ fn gateway_limits<R: Files + AllocGlobal>(
     match read_limits(alloc, config, &mut Device::new(table.as_slice())) {
         Ok(config) => {
             let text = str::from_utf8(&table).unwrap_or("");
-            let link = gateway::most_of_links(&config, text);
-            Ok((config, link))
+            let most = Most::of(&config, text);
+            Ok((config, most))
         }
         Err(fault) => Err(Fault::Script(fault)),
-    }
-}
-
-/// Returns the file of records at a path, checked. A last block that was not written to its end is set aside and
-/// cut off.
-fn stored<R: Eprint + Files + AllocGlobal>(rt: &R, path: &str) -> Result<Store<R::File>, Fault>
-where
-    R::File: Exclusive,
-{
-    let Ok(store) = Store::open(rt, path) else {
-        return Err(Fault::Open);
-    };
-    let aside = format!(in rt.alloc(); "{path}.torn")?;
-    match store.checked(rt, rt.alloc(), aside.as_str()) {
-        Ok((store, 0)) => Ok(store),
-        Ok((store, torn)) => {
-            let _ = eprintln!(rt;
-                "records: {torn} bytes of a block that was not written to its end are cut off, and stand in {aside}"
-            );
-            Ok(store)
-        }
-        Err(fault) => Err(Fault::Blocks(fault)),
     }
 }
 

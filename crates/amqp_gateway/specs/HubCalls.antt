@@ -8,20 +8,17 @@ use Rattle.amqp_serve.specs.declared.rules.Rule.{Rule}
 use Rattle.amqp_serve.specs.declared.steps.Stepped.{Stepped}
 use Rattle.amqp_serve.specs.Servers.{status_after}
 use Rattle.amqp_hub.specs.declared.keeper.Progress.{Progress}
-use Rattle.amqp_hub.specs.Turns.{HubState, IsOpened, HearsTo, IsDueAt, SendsAt, IsBeatAt, IsEndedAt, IsClosedAt, IsGone, AreAlike}
-use Rattle.amqp_gateway.specs.Outlets.{OutletState, is_roomy, is_settled, Accepts, MakesRoom, Settles}
+use Rattle.amqp_hub.specs.declared.keeper.Keeper.{Ghosts}
+use Rattle.amqp_hub.specs.Turns.{HubState, IsOpened, HearsTo, IsRuledAt, IsDueAt, SendsAt, IsBeatAt, IsEndedAt, IsClosedAt, IsGone, AreAlike}
 use Rattle.amqp_gateway.specs.declared.gateway.GatewayFault.{GatewayFault}
 use Rattle.amqp_gateway.specs.declared.gateway.GatewayFault.TheVariants as fault
-
--- a hub, whose keeper is an outlet, between two calls
-abbrev pub HubNow : Type 0
-HubNow = HubState OutletState
 
 pub data HubCall : Type 0 where
   Opened : ℕ → ℕ → HubCall  -- a connection was opened under this key, and has this number
   Heard : ℕ → List ℕ → HubCall  -- the connection under this key made a step with the first bytes of these
-  MadeRoom : HubCall  -- the outlet was asked to make room for records
-  Settled : HubCall  -- the outlet was asked to take all records for good
+  Ruled : ℕ → HubCall  -- the connection under this key is served by another rule from its next step on
+  MadeRoom : HubCall  -- the keeper was asked to make room for records
+  Settled : HubCall  -- the keeper was asked to take all records for good
   Sent : ℕ → ℕ → HubCall  -- so many of the bytes that waited for the peer under this key were sent
   Beaten : ℕ → HubCall  -- an empty frame was requested for the peer under this key
   Ended : ℕ → HubCall  -- the input of the connection under this key ended
@@ -30,33 +27,34 @@ pub data HubCall : Type 0 where
   Refused : HubCall  -- a call was refused
 
 -- as many connections may be open, and the records are as they were
-pub record IsStill (old new : HubNow) : Type 0 where
+pub record IsStill {K : Type 0} (old new : HubState K) : Type 0 where
   pub limit : new.limit ≡ old.limit
   pub keeper : new.keeper ≡ old.keeper
 
--- what a call does to the hub
-abbrev pub Does : HubCall → HubNow → HubNow → Type 0
-Does (Opened key number) old new = IsStill old new × ((r : Rule) × (config : Configured) × IsOpened r config number old.members new.members key) × (slab_len old.members < old.limit)
-Does (Heard key piece) old new =
-    (new.limit ≡ old.limit) × (is_roomy old.keeper ≡ true) × ((s : Stepped) × (noted : List ℕ) × HearsTo Accepts (status_after s.done) old.members new.members key piece s noted old.keeper new.keeper)
-Does MadeRoom old new = (new.limit ≡ old.limit) × (new.members ≡ old.members) × ((p : Progress) × MakesRoom old.keeper p new.keeper)
-Does Settled old new = (new.limit ≡ old.limit) × (new.members ≡ old.members) × ((p : Progress) × Settles old.keeper p new.keeper)
-Does (Sent key n) old new = IsStill old new × (is_settled old.keeper ≡ true) × IsDueAt (get old.members key) n × SendsAt (get old.members key) old.members new.members key n
-Does (Beaten key) old new = IsStill old new × IsBeatAt old.members new.members key
-Does (Ended key) old new = IsStill old new × ((how : End) × IsEndedAt old.members new.members key how)
-Does (Closed key) old new = IsStill old new × IsClosedAt old.members new.members key
-Does (Removed key) old new = IsStill old new × IsGone old.members new.members key
-Does Refused old new = IsStill old new × AreAlike old.members new.members
+-- what a call does to a hub with such a keeper
+abbrev pub Does : {K : Type 0} → Ghosts K → HubCall → HubState K → HubState K → Type 0
+Does k (Opened key number) old new = IsStill old new × ((r : Rule) × (config : Configured) × IsOpened r config number old.members new.members key) × (slab_len old.members < old.limit)
+Does k (Heard key piece) old new =
+    (new.limit ≡ old.limit) × (k.roomy old.keeper ≡ true) × ((s : Stepped) × (noted : List ℕ) × HearsTo k.accepts (status_after s.done) old.members new.members key piece s noted old.keeper new.keeper)
+Does k (Ruled key) old new = IsStill old new × ((r : Rule) × IsRuledAt old.members new.members key r)
+Does k MadeRoom old new = (new.limit ≡ old.limit) × (new.members ≡ old.members) × ((p : Progress) × k.makes_room old.keeper p new.keeper)
+Does k Settled old new = (new.limit ≡ old.limit) × (new.members ≡ old.members) × ((p : Progress) × k.settles old.keeper p new.keeper)
+Does k (Sent key n) old new = IsStill old new × (k.settled old.keeper ≡ true) × IsDueAt (get old.members key) n × SendsAt (get old.members key) old.members new.members key n
+Does k (Beaten key) old new = IsStill old new × IsBeatAt old.members new.members key
+Does k (Ended key) old new = IsStill old new × ((how : End) × IsEndedAt old.members new.members key how)
+Does k (Closed key) old new = IsStill old new × IsClosedAt old.members new.members key
+Does k (Removed key) old new = IsStill old new × IsGone old.members new.members key
+Does k Refused old new = IsStill old new × AreAlike old.members new.members
 
 -- these calls were made, one after the other, and no other
-abbrev pub Ran : List HubCall → HubNow → HubNow → Type 0
-Ran [] old new = new ≡ old
-Ran (x ∷ calls) old new = (next : HubNow) × Does x old next × Ran calls next new
+abbrev pub Ran : {K : Type 0} → Ghosts K → List HubCall → HubState K → HubState K → Type 0
+Ran k [] old new = new ≡ old
+Ran {K} k (x ∷ calls) old new = (next : HubState K) × Does k x old next × Ran k calls next new
 
 -- each call that was made is one of those that may be
-pub record Went (may : HubCall → Bool) (old new : HubNow) : Type 0 where
+pub record Went {K : Type 0} (k : Ghosts K) (may : HubCall → Bool) (old new : HubState K) : Type 0 where
   pub calls : List HubCall
-  pub ran : Ran calls old new
+  pub ran : Ran k calls old new
   pub each : AllPass may calls
 
 -- what may come at any time: a removal, and a call that was refused
@@ -65,10 +63,11 @@ parts (Removed key) = true
 parts Refused = true
 parts x = false
 
--- what comes before the settling of a turn: connections are opened, pieces heard, room made, inputs ended
+-- what comes before the settling of a turn: connections are opened, pieces heard, rules changed, room made, inputs ended
 abbrev pub takes : HubCall → Bool
 takes (Opened key number) = true
 takes (Heard key piece) = true
+takes (Ruled key) = true
 takes MadeRoom = true
 takes (Ended key) = true
 takes (Removed key) = true
@@ -85,20 +84,20 @@ tells Refused = true
 tells x = false
 
 -- all records were to be taken for good, and only then peers were told
-pub record HasAnswered (old new : HubNow) : Type 0 where
-  pub settled : HubNow
-  pub settles : Does Settled old settled
-  pub told : Went tells settled new
+pub record HasAnswered {K : Type 0} (k : Ghosts K) (old new : HubState K) : Type 0 where
+  pub settled : HubState K
+  pub settles : Does k Settled old settled
+  pub told : Went k tells settled new
 
 -- what came was taken, then all records were to be taken for good, and only then peers were told
-pub record HasTurned (old new : HubNow) : Type 0 where
-  pub taken : HubNow
-  pub took : Went takes old taken
-  pub answered : HasAnswered taken new
+pub record HasTurned {K : Type 0} (k : Ghosts K) (old new : HubState K) : Type 0 where
+  pub taken : HubState K
+  pub took : Went k takes old taken
+  pub answered : HasAnswered k taken new
 
 -- Which calls a turn made. It broke off before the settling only if the gateway itself could not go on.
-abbrev pub IsTurnOf : Result (Unit {0}) GatewayFault → HubNow → HubNow → Type 0
-IsTurnOf (Ok u) old new = HasTurned old new
-IsTurnOf (Err fault.Sink) old new = HasTurned old new
-IsTurnOf (Err fault.Poll) old new = Went takes old new ⊎ HasTurned old new
-IsTurnOf (Err fault.NoMemory) old new = Went takes old new ⊎ HasTurned old new
+abbrev pub IsTurnOf : {K : Type 0} → Ghosts K → Result (Unit {0}) GatewayFault → HubState K → HubState K → Type 0
+IsTurnOf k (Ok u) old new = HasTurned k old new
+IsTurnOf k (Err fault.Sink) old new = HasTurned k old new
+IsTurnOf k (Err fault.Poll) old new = Went k takes old new ⊎ HasTurned k old new
+IsTurnOf k (Err fault.NoMemory) old new = Went k takes old new ⊎ HasTurned k old new

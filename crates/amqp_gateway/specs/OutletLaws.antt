@@ -1,6 +1,7 @@
 -- An outlet is a keeper.
 use Rattle.std.proofs.Common.{◌≡◌, ℕ, arith, Bool, true, List, [], Option, None, refl, ap}
 use Rattle.std.specs.Prelude.{◌↔◌}
+use Rattle.amqp_endpoint.specs.Steps.{EndpointState}
 use Rattle.amqp_hub.specs.declared.keeper.Origin.{Origin}
 use Rattle.amqp_hub.specs.declared.keeper.Progress.{Progress}
 use Rattle.amqp_hub.specs.declared.keeper.Progress.TheVariants as progress
@@ -14,8 +15,8 @@ unknown = None
 pub nothing_known : (s : OutletState) → is_settled s ≡ true → unknown ≡ unknown
 nothing_known s is = refl
 
-pub accepts_more : (s t : OutletState) (origin : Origin) (bytes : List ℕ) → Accepts s origin bytes t → IsMore (one_entry origin bytes) unknown unknown unknown unknown × (t.has_failed ≡ s.has_failed)
-accepts_more s t origin bytes x = (record { grown = refl; still = refl }, ap (λ (o : OutletState). o.has_failed) x.rest)
+pub accepts_more : (s t : OutletState) (origin : Origin) (endpoint : EndpointState) (bytes : List ℕ) → Accepts s origin endpoint bytes t → IsMore (one_entry origin bytes) unknown unknown unknown unknown × (t.has_failed ≡ s.has_failed)
+accepts_more s t origin endpoint bytes x = (record { grown = refl; still = refl }, ap (λ (o : OutletState). o.has_failed) x.rest)
 
 failed_so : (p : Progress) (b : Bool) → b ≡ has_failed_by p → (p ≡ progress.Failed) ↔ (b ≡ true)
 failed_so progress.Out b e = (λ is. absurd (grind (arith, is)), λ is. absurd (grind (arith, is, e)))

@@ -2,6 +2,7 @@
 use Rattle.std.specs.Prelude.{◌≡◌, ◌≢◌, ◌++◌, ◌-◌, ◌==◌, ◌&&◌, nat_lt, not, ℕ, Bool, true, false, List, [], Option, length, drop}
 use Rattle.std.specs.Io.KnownBytes.{Appends}
 use Rattle.amqp_records.specs.Blocks.{Block, BlocksState, AreBlocks, with_records}
+use Rattle.amqp_endpoint.specs.Steps.{EndpointState}
 use Rattle.amqp_hub.specs.declared.keeper.Origin.{Origin}
 use Rattle.amqp_hub.specs.declared.keeper.Progress.{Progress}
 use Rattle.amqp_hub.specs.declared.keeper.Progress.TheVariants as progress
@@ -40,8 +41,8 @@ waiting_most = 262144
 abbrev pub is_roomy : OutletState → Bool
 is_roomy s = (s.written == 0) && (not s.has_failed && nat_lt (length s.blocks.bytes - s.written) waiting_most)
 
--- the record of a connection is in the blocks that wait, and nothing else changed
-pub record Accepts (old : OutletState) (origin : Origin) (bytes : List ℕ) (new : OutletState) : Type 0 where
+-- the record of a connection is in the blocks that wait, whatever its endpoint is, and nothing else changed
+pub record Accepts (old : OutletState) (origin : Origin) (endpoint : EndpointState) (bytes : List ℕ) (new : OutletState) : Type 0 where
   pub put : (blocks : List Block) → AreBlocks old.blocks blocks → bytes ≢ [] → AreBlocks new.blocks (with_records (record { number = origin.number; records = bytes }) blocks)
   pub rest : new ≡ record old { blocks = new.blocks }
 

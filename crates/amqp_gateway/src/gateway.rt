@@ -1,15 +1,14 @@
 //! The gateway: all peers, turn by turn.
 
 ghost use Rattle.slab.specs.Slab.{slab_len};
-ghost use Rattle.std.specs.Prelude.{◌≡◌, ◌≤◌, ◌+◌, ◌^◌, ◌-◌, true, min, length, Err, IsTrue, IfOk, OnErr};
+ghost use Rattle.std.specs.Prelude.{◌≡◌, ◌≤◌, ◌+◌, ◌^◌, ◌-◌, true, min, Err, IsTrue, IfOk, OnErr};
 ghost use Rattle.amqp_hub.specs.Turns.{all_held};
 ghost use Rattle.amqp_gateway.specs.Gateways.{IsNewGateway, IsStopping, IsGoneOn, IsTurned, IsPlaced, LeavesNone, MayOpen, is_done, is_last};
 ghost use Rattle.amqp_gateway.specs.HubCalls.{Went, HasAnswered, IsTurnOf, takes, tells};
-ghost use Rattle.amqp_gateway.specs.Outlets.{is_settled};
 
 use crate::counts::Counts;
 use crate::ending::Ending;
-use crate::outlet::{Outlet, Sink};
+use crate::held_up::HeldUp;
 use crate::passed::Passed;
 use crate::peer::{Came, Desk, Next, PIECE, Peer};
 use crate::settings::Settings;
@@ -40,7 +39,7 @@ const ACCEPTS: usize = 64;
 /// How often the peers are checked for time-outs, in milliseconds.
 const SWEEP: u64 = 250;
 
-/// How often a sink that took nothing is tried again, in milliseconds.
+/// How often a keeper that took nothing, or has no room, is asked again, in milliseconds.
 const RETRY: u64 = 20;
 
 /// How many events are reported at a time, at most.
@@ -73,7 +72,7 @@ impl From<AllocError> for GatewayFault {
 
 /// Many peers, served in turn.
 #[derive(Drop)]
-pub struct Gateway<S: Sink + Drop, W: Watcher + Drop> {
+pub struct Gateway<K: Keeper + Drop, W: Watcher + Drop> {
     alloc: Global,
     settings: Settings,
     config: Config,
@@ -83,9 +82,13 @@ pub struct Gateway<S: Sink + Drop, W: Watcher + Drop> {
     listener: TcpListener,
     may_accept: bool,
     peers: Slab<Peer>,
-    desk: Desk<S, W>,
-    /// Whether records wait for the sink, so that no peer is read.
+    desk: Desk<K, W>,
+    /// Whether records wait for the keeper, so that no peer is heard.
     is_stuck: bool,
+    /// Whether the keeper has no room for another record, so that no peer is heard.
+    is_full: bool,
+    /// Whether links get credit.
+    grants: bool,
     piece: Vec<u8>,
     now: Vec<usize>,
     next: Vec<usize>,
@@ -96,20 +99,20 @@ pub struct Gateway<S: Sink + Drop, W: Watcher + Drop> {
     stopped: Option<u64>,
 }
 
-impl<S: Sink + Drop, W: Watcher + Drop> Model for Gateway<S, W> {
+impl<K: Keeper + Drop, W: Watcher + Drop> Model for Gateway<K, W> {
     ghost use Rattle.std.specs.Prelude.{◌≡◌, false};
     ghost use Rattle.slab.specs.Slab.{slab_len};
     ghost use Rattle.amqp_gateway.specs.Gateways.{GatewayState};
 
-    ghost Value = { GatewayState };
+    ghost Value = { GatewayState K };
 
     ghost view = { λ a. record { settings = a.settings; counts = a.desk.counts; hub = a.desk.hub; peers = slab_len a.peers; stopped = a.stopped } };
 }
 
-impl<S: Sink + Drop, W: Watcher + Drop> Gateway<S, W> {
+impl<K: Keeper + Drop, W: Watcher + Drop> Gateway<K, W> {
     /// Makes a gateway that accepts peers at a listener, which must not block. Each peer is served by an endpoint
-    /// of these settings and this rule. Records go to the sink, to which nothing was written that is not on the disk,
-    /// and the watcher is told what passes. `now` is this moment in milliseconds, counted from any fixed moment.
+    /// of these settings and this rule, which grants no credit while the keeper has no room for it. Records go to the
+    /// keeper, and the watcher is told what passes. `now` is this moment in milliseconds, counted from any fixed moment.
     ///
     /// # Errors
     ///
@@ -120,12 +123,11 @@ impl<S: Sink + Drop, W: Watcher + Drop> Gateway<S, W> {
         config: Config,
         rule: Rule,
         settings: Settings,
-        sink: S,
+        keeper: K,
         watcher: W,
         now: u64,
-    ) -> Result<Gateway<S, W>, GatewayFault>
-        requires on_disk { S.on_disk sink }
-        ensures { IfOk result (λ gateway. IsNewGateway settings gateway) }
+    ) -> Result<Gateway<K, W>, GatewayFault>
+        ensures { IfOk result (λ gateway. IsNewGateway settings keeper gateway) }
     {
         let alloc = rt.alloc();
         let Ok(poll) = Poll::new(rt) else {
@@ -150,15 +152,13 @@ impl<S: Sink + Drop, W: Watcher + Drop> Gateway<S, W> {
             may_accept: true,
             peers: Slab::new(alloc),
             desk: Desk {
-                hub: Hub::new(
-                    alloc,
-                    settings.peers,
-                    Outlet::new(alloc, sink, settings.sync),
-                ),
+                hub: Hub::new(alloc, settings.peers, keeper),
                 watcher,
                 counts: Counts::NONE,
             },
             is_stuck: false,
+            is_full: false,
+            grants: true,
             piece: Vec::from_elem(alloc, 0, PIECE)?,
             now: Vec::with_capacity(alloc, settings.peers)?,
             next: Vec::with_capacity(alloc, settings.peers)?,
@@ -239,10 +239,30 @@ impl<S: Sink + Drop, W: Watcher + Drop> Gateway<S, W> {
         self.desk.counts
     }
 
+    /// Returns the keeper.
+    pub fn keeper(&self) -> &K
+        ensures { result.now ≡ self.entry.now.hub.keeper }
+    {
+        self.desk.hub.keeper()
+    }
+
+    /// Returns what the keeper holds up, if it holds up anything.
+    pub fn held_up(&self) -> Option<HeldUp> {
+        if self.is_stuck {
+            Some(HeldUp::Records)
+        } else if self.is_full {
+            Some(HeldUp::Peers)
+        } else if !self.grants {
+            Some(HeldUp::Credit)
+        } else {
+            None
+        }
+    }
+
     /// Returns how many bytes the endpoints of all peers hold, with what waits for the peers, what came from them and
-    /// the records that wait for the sink; `u64::MAX` if more. It visits all peers.
+    /// the records that wait in the keeper; `u64::MAX` if more. It visits all peers.
     pub fn held(&self) -> u64
-        ensures { min (all_held self.entry.now.hub.members + length self.entry.now.hub.keeper.blocks.bytes) (2 ^ 64 - 1) ≤ result }
+        ensures { min (all_held self.entry.now.hub.members + K.holds self.entry.now.hub.keeper) (2 ^ 64 - 1) ≤ result }
     {
         let mut sum = self.desk.hub.held();
         for (_, peer) in self.peers.iter() {
@@ -251,48 +271,133 @@ impl<S: Sink + Drop, W: Watcher + Drop> Gateway<S, W> {
         sum
     }
 
-    /// Makes one turn at the moment `now`, in milliseconds: takes what ready peers sent, writes their records, and
-    /// then sends the answers. It does not wait, unless the sink does. No answer is sent before the record that it
-    /// answers is written, and synced to the disk if `Settings::sync` is set.
+    /// Makes one turn at the moment `now`, in milliseconds: takes what ready peers sent, has the keeper take their
+    /// records for good, and then sends the answers. It does not wait, unless the keeper does. No answer is sent before
+    /// the keeper has taken the record that it answers.
+    ///
+    /// While records wait for the keeper, or it has no room for another, no peer is accepted or heard, and what passes
+    /// counts for no time-out of a peer. Empty frames go out all the same [2.4.5].
     ///
     /// Once it is to end, no peer is accepted, and after the time of grace all that are left are closed.
     ///
     /// # Errors
     ///
-    /// `Sink` if the sink has failed, or has not taken all within the time of grace. Each peer is gone then, and
+    /// `Sink` if the keeper has failed, or has not taken all within the time of grace. Each peer is gone then, and
     /// none was sent an answer to a record that waits. `NoMemory` if memory for the gateway itself is refused.
     #[tactic(auto, using(crate::proofs::HubRuns::went_none))]
     pub fn turn<R: Eprint>(&mut self, rt: &R, now: u64) -> Result<(), GatewayFault>
         ensures turned { IsTurned self.old self.new }
         ensures gone { LeavesNone result self.new }
-        ensures ran { IsTurnOf result self.old.hub self.new.hub }
+        ensures ran { IsTurnOf K.Keeper result self.old.hub self.new.hub }
     {
-        if self.is_stuck {
-            self.passed.stand_still(now);
-        } else {
-            self.passed.go_on(now);
-        }
+        self.take_time(now);
         self.note_events()?;
         self.take_all(rt)?;
         self.answer_all(rt)?;
         self.look_at_times(rt)
     }
 
-    /// Accepts peers, and takes what ready ones sent, unless records wait for the sink.
+    /// Takes the caller's time, which counts for the peers if they can be heard.
+    fn take_time(&mut self, now: u64)
+        ensures { self.new ≡ self.old }
+    {
+        if self.is_stuck || self.is_full {
+            self.passed.stand_still(now);
+        } else {
+            self.passed.go_on(now);
+        }
+    }
+
+    /// Has the peers served that are in the queue of the next turn.
+    fn take_queue(&mut self)
+        ensures { self.new ≡ self.old }
+    {
+        mem::swap(&mut self.now, &mut self.next);
+    }
+
+    /// Accepts peers, and takes what ready ones sent, unless records wait for the keeper or it has no room.
     #[tactic(auto, using(crate::proofs::HubRuns::went_none))]
     fn take_all<R: Eprint>(&mut self, rt: &R) -> Result<(), GatewayFault>
         ensures turned { IsTurned self.old self.new }
         ensures gone { LeavesNone result self.new }
-        ensures ran { Went takes self.old.hub self.new.hub }
+        ensures ran { Went K.Keeper takes self.old.hub self.new.hub }
         ensures fault { OnErr result (result ≡ Err GatewayFault.NoMemory) }
     {
         if self.is_stuck {
             return Ok(());
         }
+        self.look_at_room()?;
+        if self.is_full {
+            self.take_queue();
+            return Ok(());
+        }
         self.accept_some(rt)?;
-        mem::swap(&mut self.now, &mut self.next);
-        self.hear_all(rt);
+        self.take_queue();
+        self.hear_all(rt)
+    }
+
+    /// Asks the keeper whether it has room for a record, and whether it has room for what links may send for more credit.
+    #[tactic(auto, using(crate::proofs::HubRuns::went_none))]
+    fn look_at_room(&mut self) -> Result<(), GatewayFault>
+        ensures gone_on { IsGoneOn self.old self.new }
+        ensures gone { LeavesNone result self.new }
+        ensures ran { Went K.Keeper takes self.old.hub self.new.hub }
+        ensures fault { OnErr result (result ≡ Err GatewayFault.NoMemory) }
+    {
+        self.is_full = self.desk.hub.make_room() != Progress::Out;
+        let grants = self.desk.hub.keeper().may_grant();
+        if grants == self.grants {
+            return Ok(());
+        }
+        self.grants = grants;
+        self.follow_all()
+    }
+
+    /// Has each peer served by the rule of now.
+    #[tactic(auto, using(crate::proofs::HubRuns::went_none))]
+    fn follow_all(&mut self) -> Result<(), GatewayFault>
+        ensures gone_on { IsGoneOn self.old self.new }
+        ensures gone { LeavesNone result self.new }
+        ensures outlet { self.new.hub.keeper ≡ self.old.hub.keeper }
+        ensures ran { Went K.Keeper takes self.old.hub self.new.hub }
+        ensures fault { OnErr result (result ≡ Err GatewayFault.NoMemory) }
+    {
+        for at in 0..self.peers.capacity() {
+            self.follow(at)?;
+        }
         Ok(())
+    }
+
+    #[tactic(auto, using(crate::proofs::HubRuns::went_none))]
+    fn follow(&mut self, at: usize) -> Result<(), GatewayFault>
+        ensures gone_on { IsGoneOn self.old self.new }
+        ensures gone { LeavesNone result self.new }
+        ensures outlet { self.new.hub.keeper ≡ self.old.hub.keeper }
+        ensures ran { Went K.Keeper takes self.old.hub self.new.hub }
+        ensures fault { OnErr result (result ≡ Err GatewayFault.NoMemory) }
+    {
+        let rule = self.rule_of_now();
+        let Some(peer) = self.peers.get_mut(at) else {
+            return Ok(());
+        };
+        peer.follow(&mut self.desk.hub, rule);
+        if peer.queue() {
+            put(&mut self.next, at)?;
+        }
+        Ok(())
+    }
+
+    /// Returns the rule by which peers are served now: without credit if there is no room for it.
+    fn rule_of_now(&self) -> Rule {
+        if self.grants {
+            self.rule
+        } else {
+            Rule {
+                credit: 0,
+                mark: 0,
+                ..self.rule
+            }
+        }
     }
 
     /// Ends all that are left once the time of grace is over, or else checks the peers for time-outs.
@@ -300,7 +405,7 @@ impl<S: Sink + Drop, W: Watcher + Drop> Gateway<S, W> {
     fn look_at_times<R: Eprint>(&mut self, rt: &R) -> Result<(), GatewayFault>
         ensures gone_on { IsGoneOn self.old self.new }
         ensures gone { LeavesNone result self.new }
-        ensures ran { Went tells self.old.hub self.new.hub }
+        ensures ran { Went K.Keeper tells self.old.hub self.new.hub }
     {
         if self.has_no_grace() {
             return self.end_stopped(rt);
@@ -332,7 +437,7 @@ impl<S: Sink + Drop, W: Watcher + Drop> Gateway<S, W> {
     fn pause(&self, most: u64) -> u64
         ensures { result ≤ most }
     {
-        if self.is_stuck {
+        if self.is_stuck || self.is_full {
             most.min(RETRY)
         } else if !self.next.is_empty() || self.may_open() || self.is_done() {
             0
@@ -365,7 +470,7 @@ impl<S: Sink + Drop, W: Watcher + Drop> Gateway<S, W> {
         ensures turned { IsTurned self.old self.new }
         ensures gone { LeavesNone result self.new }
         ensures outlet { self.new.hub.keeper ≡ self.old.hub.keeper }
-        ensures ran { Went takes self.old.hub self.new.hub }
+        ensures ran { Went K.Keeper takes self.old.hub self.new.hub }
         ensures fault { OnErr result (result ≡ Err GatewayFault.NoMemory) }
     {
         for _ in 0..ACCEPTS {
@@ -395,15 +500,16 @@ impl<S: Sink + Drop, W: Watcher + Drop> Gateway<S, W> {
         ensures turned { IsTurned self.old self.new }
         ensures gone { LeavesNone result self.new }
         ensures outlet { self.new.hub.keeper ≡ self.old.hub.keeper }
-        ensures ran { Went takes self.old.hub self.new.hub }
+        ensures ran { Went K.Keeper takes self.old.hub self.new.hub }
         ensures fault { OnErr result (result ≡ Err GatewayFault.NoMemory) }
     {
         self.desk.counts.accepted = self.desk.counts.accepted.saturating_add(1);
         let number = self.desk.counts.accepted;
         let _ = eprintln!(rt; "connection {number}: from {address}");
-        let at = match self.place(number, stream) {
+        let at = match self.place(number, stream, address) {
             Ok(at) => at,
             Err(ending) => {
+                self.desk.hub.keeper().left(number);
                 self.note_end(rt, number, ending);
                 return Ok(());
             }
@@ -415,18 +521,22 @@ impl<S: Sink + Drop, W: Watcher + Drop> Gateway<S, W> {
 
     /// Makes a peer of a stream, and returns its place, or how its connection ends at once: `NoMemory` or `Poll`.
     #[tactic(auto, using(crate::proofs::HubRuns::went_none))]
-    fn place(&mut self, number: u64, stream: TcpStream) -> Result<usize, Ending>
+    fn place(&mut self, number: u64, stream: TcpStream, from: SocketAddr) -> Result<usize, Ending>
         ensures opened { IsPlaced self.old self.new }
         ensures outlet { self.new.hub.keeper ≡ self.old.hub.keeper }
-        ensures ran { Went takes self.old.hub self.new.hub }
+        ensures ran { Went K.Keeper takes self.old.hub self.new.hub }
     {
+        let Ok(()) = self.meet(number, from) else {
+            return Err(Ending::NoMemory);
+        };
         let Ok(config) = self.config.copy(self.alloc) else {
             return Err(Ending::NoMemory);
         };
-        let Ok(key) = self.desk.hub.open(config, self.rule, number) else {
+        let rule = self.rule_of_now();
+        let Ok(key) = self.desk.hub.open(config, rule, number) else {
             return Err(Ending::NoMemory);
         };
-        let peer = Peer::new(self.alloc, number, key, stream, self.passed.millis());
+        let peer = Peer::new(self.alloc, number, key, stream, self.passed);
         let Ok(at) = self.peers.insert(peer) else {
             let _ = self.desk.hub.remove(key);
             return Err(Ending::NoMemory);
@@ -442,29 +552,38 @@ impl<S: Sink + Drop, W: Watcher + Drop> Gateway<S, W> {
         Ok(at)
     }
 
-    /// Takes what each ready peer sent, as long as the sink takes the records.
+    /// Notes at the keeper where a connection comes from.
+    fn meet(&self, number: u64, from: SocketAddr) -> Result<(), AllocError> {
+        let from = format!(in self.alloc; "{from}")?;
+        self.desk.hub.keeper().met(number, from.as_str())
+    }
+
+    /// Takes what each ready peer sent, as long as the keeper has room for the records.
     #[tactic(auto, using(crate::proofs::HubRuns::went_none))]
-    fn hear_all<R: Eprint>(&mut self, rt: &R)
+    fn hear_all<R: Eprint>(&mut self, rt: &R) -> Result<(), GatewayFault>
         ensures gone_on { IsGoneOn self.old self.new }
-        ensures ran { Went takes self.old.hub self.new.hub }
+        ensures gone { LeavesNone result self.new }
+        ensures ran { Went K.Keeper takes self.old.hub self.new.hub }
+        ensures fault { OnErr result (result ≡ Err GatewayFault.NoMemory) }
     {
         for place in 0..self.now.len() {
             let Some(at) = self.now.get(place).copied() else {
                 break;
             };
             self.hear(rt, at);
-            if self.desk.hub.make_room() != Progress::Out {
-                self.is_stuck = true;
+            self.look_at_room()?;
+            if self.is_full {
                 break;
             }
         }
+        Ok(())
     }
 
     /// Takes a piece of what a peer sent.
     #[tactic(auto, using(crate::proofs::HubRuns::went_none))]
     fn hear<R: Eprint>(&mut self, rt: &R, at: usize)
         ensures gone_on { IsGoneOn self.old self.new }
-        ensures ran { Went takes self.old.hub self.new.hub }
+        ensures ran { Went K.Keeper takes self.old.hub self.new.hub }
     {
         let Some(peer) = self.peers.get_mut(at) else {
             return;
@@ -483,12 +602,12 @@ impl<S: Sink + Drop, W: Watcher + Drop> Gateway<S, W> {
         }
     }
 
-    /// Writes the records of the turn, and then the answers to them.
+    /// Has the keeper take the records of the turn, and then sends the answers to them.
     #[tactic(auto, using(crate::proofs::HubRuns::went_none))]
     fn answer_all<R: Eprint>(&mut self, rt: &R) -> Result<(), GatewayFault>
         ensures gone_on { IsGoneOn self.old self.new }
         ensures gone { LeavesNone result self.new }
-        ensures ran { HasAnswered self.old.hub self.new.hub }
+        ensures ran { HasAnswered K.Keeper self.old.hub self.new.hub }
     {
         let progress = self.desk.hub.settle();
         self.is_stuck = progress != Progress::Out;
@@ -505,10 +624,10 @@ impl<S: Sink + Drop, W: Watcher + Drop> Gateway<S, W> {
     /// Sends the answers of the turn.
     #[tactic(auto, using(crate::proofs::HubRuns::went_none))]
     fn send_all<R: Eprint>(&mut self, rt: &R) -> Result<(), GatewayFault>
-        requires { is_settled self.old.hub.keeper ≡ true }
+        requires { K.settled self.old.hub.keeper ≡ true }
         ensures gone_on { IsGoneOn self.old self.new }
         ensures gone { LeavesNone result self.new }
-        ensures ran { Went tells self.old.hub self.new.hub }
+        ensures ran { Went K.Keeper tells self.old.hub self.new.hub }
     {
         for place in 0..self.now.len() {
             if let Some(at) = self.now.get(place).copied() {
@@ -522,13 +641,13 @@ impl<S: Sink + Drop, W: Watcher + Drop> Gateway<S, W> {
     /// Sends what waits for a peer. No record waits that the answers may speak of.
     #[tactic(auto, using(crate::proofs::HubRuns::went_none))]
     fn send<R: Eprint>(&mut self, rt: &R, at: usize) -> Result<(), GatewayFault>
-        requires { is_settled self.old.hub.keeper ≡ true }
+        requires { K.settled self.old.hub.keeper ≡ true }
         ensures gone_on { IsGoneOn self.old self.new }
         ensures gone { LeavesNone result self.new }
         ensures outlet { self.new.hub.keeper ≡ self.old.hub.keeper }
-        ensures ran { Went tells self.old.hub self.new.hub }
+        ensures ran { Went K.Keeper tells self.old.hub self.new.hub }
     {
-        let now = self.passed.millis();
+        let now = self.passed;
         let Some(peer) = self.peers.get_mut(at) else {
             return Ok(());
         };
@@ -544,12 +663,13 @@ impl<S: Sink + Drop, W: Watcher + Drop> Gateway<S, W> {
     fn remove<R: Eprint>(&mut self, rt: &R, at: usize, ending: Ending)
         ensures gone_on { IsGoneOn self.old self.new }
         ensures outlet { self.new.hub.keeper ≡ self.old.hub.keeper }
-        ensures ran { Went tells self.old.hub self.new.hub }
+        ensures ran { Went K.Keeper tells self.old.hub self.new.hub }
     {
         let Some(mut peer) = self.peers.try_remove(at) else {
             return;
         };
         peer.leave(&mut self.desk.hub);
+        self.desk.hub.keeper().left(peer.number());
         self.desk.watcher.ended(at, ending, peer.end());
         self.may_accept = true; // an accept that failed for want of a descriptor is tried again
         self.note_end(rt, peer.number(), ending);
@@ -577,7 +697,7 @@ impl<S: Sink + Drop, W: Watcher + Drop> Gateway<S, W> {
     fn end_stopped<R: Eprint>(&mut self, rt: &R) -> Result<(), GatewayFault>
         ensures gone_on { IsGoneOn self.old self.new }
         ensures gone { LeavesNone result self.new }
-        ensures ran { Went tells self.old.hub self.new.hub }
+        ensures ran { Went K.Keeper tells self.old.hub self.new.hub }
     {
         let is_settled = self.desk.hub.keeper().is_settled();
         self.end_all(rt, Ending::Stopped);
@@ -593,13 +713,13 @@ impl<S: Sink + Drop, W: Watcher + Drop> Gateway<S, W> {
     fn sweep(&mut self) -> Result<(), GatewayFault>
         ensures gone_on { IsGoneOn self.old self.new }
         ensures gone { LeavesNone result self.new }
-        ensures ran { Went tells self.old.hub self.new.hub }
+        ensures ran { Went K.Keeper tells self.old.hub self.new.hub }
     {
-        let now = self.passed.millis();
-        if self.is_stuck || now < self.swept {
+        let now = self.passed;
+        if now.seen() < self.swept {
             return Ok(());
         }
-        self.swept = now.saturating_add(SWEEP);
+        self.swept = now.seen().saturating_add(SWEEP);
         self.may_accept = true;
         for at in 0..self.peers.capacity() {
             self.judge(at, now)?;
@@ -608,10 +728,10 @@ impl<S: Sink + Drop, W: Watcher + Drop> Gateway<S, W> {
     }
 
     #[tactic(auto, using(crate::proofs::HubRuns::went_none))]
-    fn judge(&mut self, at: usize, now: u64) -> Result<(), GatewayFault>
+    fn judge(&mut self, at: usize, now: Passed) -> Result<(), GatewayFault>
         ensures gone_on { IsGoneOn self.old self.new }
         ensures gone { LeavesNone result self.new }
-        ensures ran { Went tells self.old.hub self.new.hub }
+        ensures ran { Went K.Keeper tells self.old.hub self.new.hub }
     {
         let Some(peer) = self.peers.get_mut(at) else {
             return Ok(());
@@ -624,6 +744,7 @@ impl<S: Sink + Drop, W: Watcher + Drop> Gateway<S, W> {
         }
         let Settings { idle, slow, .. } = self.settings;
         speaks = peer.judge(hub, watcher, now, idle, slow) || speaks;
+        peer.send_beat();
         if speaks && peer.queue() {
             put(&mut self.next, at)?;
         }
@@ -636,7 +757,7 @@ impl<S: Sink + Drop, W: Watcher + Drop> Gateway<S, W> {
     pub fn end_all<R: Eprint>(&mut self, rt: &R, ending: Ending)
         ensures gone_on { IsGoneOn self.old self.new }
         ensures none { self.new.peers ≡ 0 }
-        ensures ran { Went tells self.old.hub self.new.hub }
+        ensures ran { Went K.Keeper tells self.old.hub self.new.hub }
     {
         for at in 0..self.peers.capacity() {
             self.end_one(rt, at, ending);
@@ -652,7 +773,7 @@ impl<S: Sink + Drop, W: Watcher + Drop> Gateway<S, W> {
     fn end_one<R: Eprint>(&mut self, rt: &R, at: usize, ending: Ending)
         ensures gone_on { IsGoneOn self.old self.new }
         ensures outlet { self.new.hub.keeper ≡ self.old.hub.keeper }
-        ensures ran { Went tells self.old.hub self.new.hub }
+        ensures ran { Went K.Keeper tells self.old.hub self.new.hub }
     {
         let Some(peer) = self.peers.get_mut(at) else {
             return;
@@ -663,7 +784,7 @@ impl<S: Sink + Drop, W: Watcher + Drop> Gateway<S, W> {
             return self.remove(rt, at, how);
         }
         peer.close(hub, watcher, ending);
-        let how = match peer.send(hub, self.passed.millis()) {
+        let how = match peer.send(hub, self.passed) {
             Next::Over(how) => how,
             _ => ending,
         };

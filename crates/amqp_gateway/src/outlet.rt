@@ -5,9 +5,10 @@ ghost use Rattle.std.specs.Io.KnownBytes.{Keeps};
 ghost use Rattle.amqp_gateway.specs.Outlets.{is_empty, is_settled, WritesOn, waiting, waiting_most, WhereOut, WhereStuck, has_failed_by};
 ghost use Rattle.amqp_hub.specs.declared.keeper.Progress.TheVariants as Progress;
 
+use amqp_endpoint::Endpoint;
 use amqp_hub::{Keeper, Origin, Progress};
 use amqp_records::Blocks;
-use std::alloc::{AllocError, Global};
+use std::alloc::{AllocError, Allocator, Global};
 use std::io::{self, ErrorKind, Write};
 use std::marker::Model;
 
@@ -271,7 +272,12 @@ impl<S: Sink + Drop> Keeper for Outlet<S> {
     }
 
     /// Adds a record to those that wait. A record of 2^32 bytes or more is refused as if for want of memory.
-    fn put(&mut self, origin: Origin, bytes: &[u8]) -> Result<(), AllocError> {
+    fn put<A: Allocator + Copy>(
+        &mut self,
+        origin: Origin,
+        _endpoint: &Endpoint<A>,
+        bytes: &[u8],
+    ) -> Result<(), AllocError> {
         if bytes.is_empty() {
             return Ok(());
         }

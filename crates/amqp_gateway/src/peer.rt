@@ -6,16 +6,15 @@ ghost use Rattle.amqp_endpoint.specs.Calls.{close_call_spoken};
 ghost use Rattle.amqp_endpoint.specs.Replies.{joined};
 ghost use Rattle.amqp_hub.specs.Turns.{answers_of};
 ghost use Rattle.amqp_gateway.specs.HubCalls.{Went, parts, takes, tells};
-ghost use Rattle.amqp_gateway.specs.Outlets.{is_settled};
 
 use crate::counts::Counts;
 use crate::ending::Ending;
-use crate::outlet::{Outlet, Sink};
+use crate::passed::Passed;
 use crate::watcher::Watcher;
 use amqp_endpoint::{End, Endpoint, Event, Outcome, Scope};
-use amqp_hub::{Hub, HubFault};
+use amqp_hub::{Hub, HubFault, Keeper};
 use amqp_perform::Condition;
-use amqp_serve::{ServeFault, Stepped};
+use amqp_serve::{Rule, ServeFault, Stepped};
 use mio::event::Event as Ready;
 use mio::net::TcpStream;
 use mio::{Interest, Registry, Token};
@@ -32,6 +31,9 @@ const UNITS: usize = 64;
 
 /// How many ends by this side are reported of a peer, so that one that errs without end fills no log.
 const MOST_TOLD: u32 = 100;
+
+/// An empty frame [2.3.2].
+const EMPTY_FRAME: [u8; 8] = [0, 0, 0, 8, 2, 0, 0, 0];
 
 /// What comes next of a peer.
 #[derive(Clone, Copy, Debug, PartialEq, Eq)]
@@ -56,8 +58,8 @@ pub enum Came {
 
 /// Where what peers bring goes.
 #[derive(Drop)]
-pub struct Desk<S: Sink + Drop, W: Watcher + Drop> {
-    pub hub: Hub<Outlet<S>>,
+pub struct Desk<K: Keeper + Drop, W: Watcher + Drop> {
+    pub hub: Hub<K>,
     pub watcher: W,
     pub counts: Counts,
 }
@@ -74,7 +76,7 @@ enum Phase {
     Ended(Ending, Option<End>),
 }
 
-/// A connection. Times are those that count, in milliseconds.
+/// A connection. Times are in milliseconds, and those that count but for `said`.
 #[derive(Drop)]
 pub struct Peer {
     number: u64,
@@ -86,15 +88,19 @@ pub struct Peer {
     phase: Phase,
     /// What came and was not heard, since memory was refused, or too many units came or answers wait.
     unheard: Vec<u8>,
+    /// Whether it is to make a step though nothing came, since it is served by a rule that grants credit again.
+    is_due: bool,
     is_queued: bool,
     is_readable: bool,
     /// An empty frame, and how many of its last bytes are still to be written.
     frame: [u8; 8],
     owed: usize,
+    /// Whether answers wait of which some bytes were sent, so that a frame may be cut in two.
+    is_cut: bool,
     /// How often it was reported that this side ended something of it.
     told: u32,
-    /// When it came, when something came from it, when something was written, and since when its socket takes
-    /// nothing.
+    /// When it came, when something came from it, when something was written by the caller's time, and since when its
+    /// socket takes nothing.
     came: u64,
     heard: u64,
     said: u64,
@@ -102,7 +108,7 @@ pub struct Peer {
 }
 
 impl Peer {
-    pub fn new(alloc: Global, number: u64, key: usize, stream: TcpStream, now: u64) -> Peer {
+    pub fn new(alloc: Global, number: u64, key: usize, stream: TcpStream, now: Passed) -> Peer {
         Peer {
             number,
             at: 0,
@@ -110,14 +116,16 @@ impl Peer {
             stream,
             phase: Phase::Served,
             unheard: Vec::new(alloc),
+            is_due: false,
             is_queued: false,
             is_readable: true,
             frame: [0; 8],
             owed: 0,
+            is_cut: false,
             told: 0,
-            came: now,
-            heard: now,
-            said: now,
+            came: now.millis(),
+            heard: now.millis(),
+            said: now.seen(),
             blocked: None,
         }
     }
@@ -147,11 +155,23 @@ impl Peer {
         (self.owed as u64).saturating_add(self.unheard.len() as u64)
     }
 
+    /// Has it served by another rule from its next step on. If that grants credit it makes one though nothing comes.
+    #[tactic(auto, using(crate::proofs::HubRuns::went_none))]
+    pub fn follow<K: Keeper + Drop>(&mut self, hub: &mut Hub<K>, rule: Rule)
+        ensures keeper { hub.new.keeper ≡ hub.old.keeper }
+        ensures ran { Went K.Keeper takes hub.old hub.new }
+    {
+        if let Some(key) = self.key {
+            let _ = hub.rule(key, rule);
+            self.is_due = rule.credit > 0;
+        }
+    }
+
     /// Gives its key back to the hub.
     #[tactic(auto, using(crate::proofs::HubRuns::went_none))]
-    pub fn leave<S: Sink + Drop>(&mut self, hub: &mut Hub<Outlet<S>>)
+    pub fn leave<K: Keeper + Drop>(&mut self, hub: &mut Hub<K>)
         ensures keeper { hub.new.keeper ≡ hub.old.keeper }
-        ensures ran { Went parts hub.old hub.new }
+        ensures ran { Went K.Keeper parts hub.old hub.new }
     {
         if let Some(key) = self.key.take() {
             let _ = hub.remove(key);
@@ -185,12 +205,12 @@ impl Peer {
     }
 
     /// Returns its endpoint, until the hub has dropped it.
-    fn endpoint<'a, S: Sink + Drop>(&self, hub: &'a Hub<Outlet<S>>) -> Option<&'a Endpoint> {
+    fn endpoint<'a, K: Keeper + Drop>(&self, hub: &'a Hub<K>) -> Option<&'a Endpoint> {
         hub.endpoint(self.key?)
     }
 
     /// Returns whether this side has ended its connection with an error.
-    fn has_failed<S: Sink + Drop>(&self, hub: &Hub<Outlet<S>>) -> bool {
+    fn has_failed<K: Keeper + Drop>(&self, hub: &Hub<K>) -> bool {
         match self.endpoint(hub) {
             Some(endpoint) => endpoint.has_failed(),
             None => false,
@@ -198,7 +218,7 @@ impl Peer {
     }
 
     /// Returns whether bytes wait for its socket.
-    fn is_blocked<S: Sink + Drop>(&self, hub: &Hub<Outlet<S>>) -> bool {
+    fn is_blocked<K: Keeper + Drop>(&self, hub: &Hub<K>) -> bool {
         self.owed > 0
             || match self.key {
                 Some(key) => hub.waits(key),
@@ -206,34 +226,29 @@ impl Peer {
             }
     }
 
-    /// Returns whether something of it is kept to be heard again.
+    /// Returns whether it is to make a step without a read.
     fn has_unheard(&self) -> bool {
-        self.phase == Phase::Starved || !self.unheard.is_empty()
+        self.phase == Phase::Starved || self.is_due || !self.unheard.is_empty()
     }
 
     /// Returns whether it may be heard: it has not ended, and no answers wait.
-    pub fn may_be_heard<S: Sink + Drop>(&self, hub: &Hub<Outlet<S>>) -> bool {
+    pub fn may_be_heard<K: Keeper + Drop>(&self, hub: &Hub<K>) -> bool {
         self.ending().is_none() && !self.is_blocked(hub)
     }
 
     /// Returns whether more of it may be read.
-    pub fn may_be_read<S: Sink + Drop>(&self, hub: &Hub<Outlet<S>>) -> bool {
+    pub fn may_be_read<K: Keeper + Drop>(&self, hub: &Hub<K>) -> bool {
         self.is_readable && !self.has_unheard() && self.may_be_heard(hub)
     }
 
     /// Returns whether it is to have another turn at once. One for which memory was refused is tried again from
     /// time to time.
     fn has_more(&self) -> bool {
-        self.phase == Phase::Served && (self.is_readable || !self.unheard.is_empty())
+        self.phase == Phase::Served && (self.is_readable || self.is_due || !self.unheard.is_empty())
     }
 
     /// Reads once.
-    pub fn read<S: Sink + Drop>(
-        &mut self,
-        piece: &mut [u8],
-        hub: &Hub<Outlet<S>>,
-        now: u64,
-    ) -> Came {
+    pub fn read<K: Keeper + Drop>(&mut self, piece: &mut [u8], hub: &Hub<K>, now: u64) -> Came {
         match self.stream.read(piece) {
             Ok(0) => Came::End,
             Ok(count) => {
@@ -256,16 +271,15 @@ impl Peer {
 
     /// Lets the hub hear what was kept, if anything was and it may be heard.
     #[tactic(auto, using(crate::proofs::HubRuns::went_none))]
-    pub fn hear_again<S: Sink + Drop, W: Watcher + Drop>(
+    pub fn hear_again<K: Keeper + Drop, W: Watcher + Drop>(
         &mut self,
         alloc: Global,
         now: u64,
-        desk: &mut Desk<S, W>,
+        desk: &mut Desk<K, W>,
         rt: &impl Eprint,
     )
         ensures accepted { desk.new.counts.accepted ≡ desk.old.counts.accepted }
-        ensures syncs { desk.new.hub.keeper.syncs ≡ desk.old.hub.keeper.syncs }
-        ensures ran { Went takes desk.old.hub desk.new.hub }
+        ensures ran { Went K.Keeper takes desk.old.hub desk.new.hub }
     {
         if self.has_unheard() && self.may_be_heard(&desk.hub) {
             if !self.has_failed(&desk.hub) {
@@ -279,19 +293,18 @@ impl Peer {
     /// Lets the hub hear what came, unit by unit: at most [`UNITS`], and none once so much waits for the peer that
     /// its socket has to take it first. The rest is kept.
     #[tactic(auto, using(crate::proofs::HubRuns::went_none))]
-    pub fn hear<S: Sink + Drop, W: Watcher + Drop>(
+    pub fn hear<K: Keeper + Drop, W: Watcher + Drop>(
         &mut self,
         bytes: &[u8],
-        desk: &mut Desk<S, W>,
+        desk: &mut Desk<K, W>,
         rt: &impl Eprint,
     )
         ensures accepted { desk.new.counts.accepted ≡ desk.old.counts.accepted }
-        ensures syncs { desk.new.hub.keeper.syncs ≡ desk.old.hub.keeper.syncs }
-        ensures ran { Went takes desk.old.hub desk.new.hub }
+        ensures ran { Went K.Keeper takes desk.old.hub desk.new.hub }
     {
         let mut rest = bytes;
         for _ in 0..UNITS {
-            if rest.is_empty() && self.phase != Phase::Starved {
+            if rest.is_empty() && self.phase != Phase::Starved && !self.is_due {
                 break;
             }
             let Some(key) = self.key else {
@@ -300,6 +313,7 @@ impl Peer {
             let waited = desk.hub.answers(key).len();
             match desk.hub.hear(key, rest) {
                 Ok(stepped) => {
+                    self.is_due = false;
                     let taken = rest.get(..stepped.used).unwrap_or(&[]);
                     rest = rest.get(stepped.used..).unwrap_or(&[]);
                     if !self.go_on(key, taken, waited, &stepped, desk, rt) {
@@ -320,18 +334,17 @@ impl Peer {
     /// Goes on after a step that took these bytes, before which so many bytes of answers waited. Returns `false` if no
     /// more is to be heard now.
     #[tactic(auto, using(crate::proofs::HubRuns::went_none, crate::proofs::HubRuns::as_takes))]
-    fn go_on<S: Sink + Drop, W: Watcher + Drop>(
+    fn go_on<K: Keeper + Drop, W: Watcher + Drop>(
         &mut self,
         key: usize,
         taken: &[u8],
         waited: usize,
         stepped: &Stepped,
-        desk: &mut Desk<S, W>,
+        desk: &mut Desk<K, W>,
         rt: &impl Eprint,
     ) -> bool
         ensures accepted { desk.new.counts.accepted ≡ desk.old.counts.accepted }
-        ensures syncs { desk.new.hub.keeper.syncs ≡ desk.old.hub.keeper.syncs }
-        ensures ran { Went takes desk.old.hub desk.new.hub }
+        ensures ran { Went K.Keeper takes desk.old.hub desk.new.hub }
     {
         if let Err(ServeFault::Read | ServeFault::Write | ServeFault::Sink) = stepped.done {
             self.key = None; // the hub has removed it
@@ -356,9 +369,9 @@ impl Peer {
 
     /// Keeps what is to be heard later, unless it has ended.
     #[tactic(auto, using(crate::proofs::HubRuns::went_none))]
-    fn keep<S: Sink + Drop>(&mut self, rest: &[u8], hub: &mut Hub<Outlet<S>>)
+    fn keep<K: Keeper + Drop>(&mut self, rest: &[u8], hub: &mut Hub<K>)
         ensures keeper { hub.new.keeper ≡ hub.old.keeper }
-        ensures ran { Went parts hub.old hub.new }
+        ensures ran { Went K.Keeper parts hub.old hub.new }
     {
         if self.ending().is_none() && self.unheard.extend_from_slice(rest).is_err() {
             self.give_up(hub, Ending::NoMemory);
@@ -367,7 +380,7 @@ impl Peer {
 
     /// Reports on standard error what concerns the operator: its open, and what this side ended, at most
     /// [`MOST_TOLD`] times.
-    fn tell<S: Sink + Drop>(&mut self, told: Outcome, hub: &Hub<Outlet<S>>, rt: &impl Eprint) {
+    fn tell<K: Keeper + Drop>(&mut self, told: Outcome, hub: &Hub<K>, rt: &impl Eprint) {
         match told {
             Outcome::Event(Event::Opened) => self.opened(hub, rt),
             Outcome::Event(
@@ -405,7 +418,7 @@ impl Peer {
     }
 
     /// Reports that its open came, and whose it says that it is [2.7.1].
-    fn opened<S: Sink + Drop>(&self, hub: &Hub<Outlet<S>>, rt: &impl Eprint) {
+    fn opened<K: Keeper + Drop>(&self, hub: &Hub<K>, rt: &impl Eprint) {
         if let Some(endpoint) = self.endpoint(hub)
             && let Some(said) = endpoint.peer()
         {
@@ -417,7 +430,7 @@ impl Peer {
 
     /// Returns whether its connection is over. If this side ended it with an error, it is so at once if what came was no
     /// frame. Else it awaits the peer's close [2.4.3].
-    fn is_over<S: Sink + Drop>(&self, hub: &Hub<Outlet<S>>) -> bool {
+    fn is_over<K: Keeper + Drop>(&self, hub: &Hub<K>) -> bool {
         match self.endpoint(hub) {
             Some(endpoint) => endpoint.is_over(),
             None => true,
@@ -426,9 +439,9 @@ impl Peer {
 
     /// Ends it, since its input has ended or its connection is over.
     #[tactic(auto, using(crate::proofs::HubRuns::went_none))]
-    pub fn finish<S: Sink + Drop>(&mut self, hub: &mut Hub<Outlet<S>>)
+    pub fn finish<K: Keeper + Drop>(&mut self, hub: &mut Hub<K>)
         ensures keeper { hub.new.keeper ≡ hub.old.keeper }
-        ensures ran { Went takes hub.old hub.new }
+        ensures ran { Went K.Keeper takes hub.old hub.new }
     {
         if self.ending().is_some() {
             return;
@@ -445,14 +458,14 @@ impl Peer {
 
     /// Closes it if it is open, and ends it.
     #[tactic(auto, using(crate::proofs::HubRuns::went_none))]
-    pub fn close<S: Sink + Drop>(
+    pub fn close<K: Keeper + Drop>(
         &mut self,
-        hub: &mut Hub<Outlet<S>>,
+        hub: &mut Hub<K>,
         watcher: &mut impl Watcher,
         ending: Ending,
     )
         ensures keeper { hub.new.keeper ≡ hub.old.keeper }
-        ensures ran { Went tells hub.old hub.new }
+        ensures ran { Went K.Keeper tells hub.old hub.new }
     {
         if self.ending().is_some() {
             return;
@@ -467,9 +480,9 @@ impl Peer {
 
     /// Ends it without a word.
     #[tactic(auto, using(crate::proofs::HubRuns::went_none))]
-    pub fn give_up<S: Sink + Drop>(&mut self, hub: &mut Hub<Outlet<S>>, ending: Ending)
+    pub fn give_up<K: Keeper + Drop>(&mut self, hub: &mut Hub<K>, ending: Ending)
         ensures keeper { hub.new.keeper ≡ hub.old.keeper }
-        ensures ran { Went parts hub.old hub.new }
+        ensures ran { Went K.Keeper parts hub.old hub.new }
     {
         self.phase = Phase::Ended(ending, self.end());
         self.leave(hub);
@@ -478,28 +491,29 @@ impl Peer {
 
     /// Checks it for time-outs. Returns whether it has something to say, is over, or is to be tried again.
     #[tactic(auto, using(crate::proofs::HubRuns::went_none, crate::proofs::HubRuns::as_tells))]
-    pub fn judge<S: Sink + Drop>(
+    pub fn judge<K: Keeper + Drop>(
         &mut self,
-        hub: &mut Hub<Outlet<S>>,
+        hub: &mut Hub<K>,
         watcher: &mut impl Watcher,
-        now: u64,
+        now: Passed,
         idle: u64,
         slow: u64,
     ) -> bool
         ensures keeper { hub.new.keeper ≡ hub.old.keeper }
-        ensures ran { Went tells hub.old hub.new }
+        ensures ran { Went K.Keeper tells hub.old hub.new }
     {
         if let Some(since) = self.blocked {
-            if now.saturating_sub(since) >= slow {
+            if now.millis().saturating_sub(since) >= slow {
                 let ending = self.ending().unwrap_or(Ending::Slow);
                 self.give_up(hub, ending);
                 return true;
             }
         }
-        if !self.may_be_heard(hub) {
+        if self.ending().is_some() {
             return false;
         }
-        if idle > 0 && self.is_late(hub, now, idle) {
+        let may_be_heard = self.may_be_heard(hub);
+        if may_be_heard && idle > 0 && self.is_late(hub, now.millis(), idle) {
             let ending = if self.has_failed(hub) {
                 Ending::Failed
             } else {
@@ -509,21 +523,21 @@ impl Peer {
             return true;
         }
         let beat = self.beat(hub);
-        if beat > 0 && now.saturating_sub(self.said) >= beat {
-            return self.say_beat(hub, watcher, now);
+        if beat > 0 && now.seen().saturating_sub(self.said) >= beat {
+            return self.say_beat(hub, watcher, now.seen());
         }
-        self.phase == Phase::Starved
+        may_be_heard && self.phase == Phase::Starved
     }
 
     /// Returns whether it was silent for `idle` milliseconds, or has been here for as long and its open has not
     /// come.
-    fn is_late<S: Sink + Drop>(&self, hub: &Hub<Outlet<S>>, now: u64, idle: u64) -> bool {
+    fn is_late<K: Keeper + Drop>(&self, hub: &Hub<K>, now: u64, idle: u64) -> bool {
         now.saturating_sub(self.heard) >= idle
             || now.saturating_sub(self.came) >= idle && !self.is_open(hub)
     }
 
     /// Returns whether its open came.
-    fn is_open<S: Sink + Drop>(&self, hub: &Hub<Outlet<S>>) -> bool {
+    fn is_open<K: Keeper + Drop>(&self, hub: &Hub<K>) -> bool {
         match self.endpoint(hub) {
             Some(endpoint) => endpoint.peer().is_some(),
             None => false,
@@ -531,7 +545,7 @@ impl Peer {
     }
 
     /// Returns how long after the last write an empty frame is due, by what its open says; 0 is never [2.4.5].
-    fn beat<S: Sink + Drop>(&self, hub: &Hub<Outlet<S>>) -> u64 {
+    fn beat<K: Keeper + Drop>(&self, hub: &Hub<K>) -> u64 {
         match self.endpoint(hub) {
             Some(endpoint) => match endpoint.peer() {
                 Some(said) => said.idle_time_out.unwrap_or(0) as u64 / 2,
@@ -543,19 +557,20 @@ impl Peer {
 
     /// Sends an empty frame, which says that this side is there [2.4.5]. Returns whether there is one to write.
     #[tactic(auto, using(crate::proofs::HubRuns::went_none))]
-    fn say_beat<S: Sink + Drop>(
+    fn say_beat<K: Keeper + Drop>(
         &mut self,
-        hub: &mut Hub<Outlet<S>>,
+        hub: &mut Hub<K>,
         watcher: &mut impl Watcher,
         now: u64,
     ) -> bool
         ensures keeper { hub.new.keeper ≡ hub.old.keeper }
-        ensures ran { Went tells hub.old hub.new }
+        ensures ran { Went K.Keeper tells hub.old hub.new }
     {
         let Some(key) = self.key else {
             return false;
         };
-        let Ok(frame) = hub.heartbeat(key) else {
+        let beat = hub.heartbeat(key);
+        let Some(frame) = self.frame_by(beat) else {
             return false;
         };
         watcher.said(self.at, &frame);
@@ -563,6 +578,16 @@ impl Peer {
         self.owed = frame.len();
         self.said = now;
         true
+    }
+
+    /// Returns the empty frame to send after the hub was asked for one. If answers wait of which nothing was sent, it
+    /// comes before them.
+    fn frame_by(&self, beat: Result<[u8; 8], HubFault>) -> Option<[u8; 8]> {
+        match beat {
+            Ok(frame) => Some(frame),
+            Err(HubFault::Unsent) if !self.is_cut && self.owed == 0 => Some(EMPTY_FRAME),
+            Err(_) => None,
+        }
     }
 
     /// Notes that its socket takes nothing more.
@@ -576,9 +601,9 @@ impl Peer {
     /// Writes once of what waits for it: what is left of an empty frame, or what the hub lends. Returns how many bytes the
     /// socket took, or `None` if nothing waits.
     #[tactic(auto, using(crate::proofs::HubRuns::went_none))]
-    fn write_once<S: Sink + Drop>(&mut self, hub: &mut Hub<Outlet<S>>) -> io::Result<Option<usize>>
+    fn write_once<K: Keeper + Drop>(&mut self, hub: &mut Hub<K>) -> io::Result<Option<usize>>
         ensures keeper { hub.new.keeper ≡ hub.old.keeper }
-        ensures ran { Went tells hub.old hub.new }
+        ensures ran { Went K.Keeper tells hub.old hub.new }
     {
         if self.owed > 0 {
             return Ok(Some(self.write_frame()?));
@@ -592,6 +617,7 @@ impl Peer {
         }
         let count = self.stream.write(front)?;
         hub.sent(key, count);
+        self.is_cut = hub.waits(key);
         Ok(Some(count))
     }
 
@@ -603,12 +629,20 @@ impl Peer {
         Ok(count)
     }
 
+    /// Writes once of what is left of an empty frame, which speaks of no record. What the socket doesn't take is
+    /// written with what waits.
+    pub fn send_beat(&mut self) {
+        if self.owed > 0 {
+            let _ = self.write_frame();
+        }
+    }
+
     /// Writes what the socket takes of what waits for it, and returns what comes next. The keeper must be settled.
     #[tactic(auto, using(crate::proofs::HubRuns::went_none))]
-    pub fn send<S: Sink + Drop>(&mut self, hub: &mut Hub<Outlet<S>>, now: u64) -> Next
-        requires { is_settled hub.old.keeper ≡ true }
+    pub fn send<K: Keeper + Drop>(&mut self, hub: &mut Hub<K>, now: Passed) -> Next
+        requires { K.settled hub.old.keeper ≡ true }
         ensures keeper { hub.new.keeper ≡ hub.old.keeper }
-        ensures ran { Went tells hub.old hub.new }
+        ensures ran { Went K.Keeper tells hub.old hub.new }
     {
         let was_blocked = self.blocked.is_some();
         for _ in 0..u64::MAX {
@@ -616,18 +650,18 @@ impl Peer {
                 Ok(None) => break,
                 Ok(Some(0)) => return Next::Over(self.ending().unwrap_or(Ending::Write)),
                 Ok(Some(_)) => {
-                    self.said = now;
+                    self.said = now.seen();
                     self.blocked = None;
                 }
                 Err(error) if error.kind() == ErrorKind::Interrupted => {}
                 Err(error) if error.kind() == ErrorKind::WouldBlock => {
-                    return self.block(now);
+                    return self.block(now.millis());
                 }
                 Err(_) => return Next::Over(self.ending().unwrap_or(Ending::Write)),
             }
         }
         if was_blocked {
-            self.heard = now; // it was not read meanwhile
+            self.heard = now.millis(); // it was not read meanwhile
         }
         match self.ending() {
             Some(ending) => {
@@ -641,7 +675,7 @@ impl Peer {
 }
 
 /// Returns the answers that wait for the peer under a key, after the first `waited` bytes of them.
-fn answers_after<S: Sink + Drop>(hub: &Hub<Outlet<S>>, key: usize, waited: usize) -> &[u8]
+fn answers_after<K: Keeper + Drop>(hub: &Hub<K>, key: usize, waited: usize) -> &[u8]
     ensures { result.now ≡ drop waited (answers_of (get hub.now.members key)) }
 {
     hub.answers(key).get(waited..).unwrap_or(&[])

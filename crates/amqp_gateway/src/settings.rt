@@ -13,6 +13,4 @@ pub struct Settings {
     pub slow: u64,
     /// How long what waits may still go out once the gateway is to end.
     pub grace: u64,
-    /// Whether records are on the disk before an answer to them is sent.
-    pub sync: bool,
 }

@@ -23,7 +23,7 @@ use Rattle.amqp_hub.specs.Keepers.{Entry, one_entry, Given, origin_told, receive
 use Rattle.amqp_hub.specs.declared.ledger.Record.{Record}
 use Rattle.amqp_hub.specs.Ledgers.{LedgerState, record_entry, records_of, first_bytes, with_record, with_noted}
 use Rattle.amqp_hub.specs.Members.{MemberState, unsent_of}
-use Rattle.amqp_hub.specs.Turns.{IsGone, IsHeardAt, IsLostAt, HearsBy, HearsTo, IsKeptSo, IsFrontAt, HeardSo, put_by}
+use Rattle.amqp_hub.specs.Turns.{IsGone, IsHeardAt, IsLostAt, HearsBy, HearsTo, IsKeptSo, IsFrontAt, HeardSo, put_by, endpoint_at}
 use Rattle.amqp_hub.proofs.Livings.{appends_to}
 use Rattle.amqp_hub.proofs.Turning.{lost_by, heard_due}
 
@@ -33,9 +33,9 @@ use Rattle.amqp_hub.proofs.Turning.{lost_by, heard_due}
 pub none_of : (number : ℕ) (x : Stepped) (f : ServeFault) → x.done ≡ Err f → origin_of number x ≡ None
 none_of number x f is = ap (λ (q : Result Done ServeFault). origin_told number (received_in q) x.told) is
 
-module _ {K : Type 0} (accepts : K → Origin → List ℕ → K → Type 0) where
-  given_fault : (number : ℕ) (x : Stepped) (f : ServeFault) (noted : List ℕ) (kept keeps : K) → x.done ≡ Err f → Given accepts (origin_of number x) noted kept keeps → keeps ≡ kept
-  given_fault number x f noted kept keeps is g = subst (λ (o : Option Origin). Given accepts o noted kept keeps) (none_of number x f is) g
+module _ {K : Type 0} (accepts : K → Origin → EndpointState → List ℕ → K → Type 0) where
+  given_fault : (number : ℕ) (x : Stepped) (f : ServeFault) (e : Option EndpointState) (noted : List ℕ) (kept keeps : K) → x.done ≡ Err f → Given accepts (origin_of number x) e noted kept keeps → keeps ≡ kept
+  given_fault number x f e noted kept keeps is g = subst (λ (o : Option Origin). Given accepts o e noted kept keeps) (none_of number x f is) g
 
   module _ (s m t : Slab MemberState) (key number : ℕ) (piece noted : List ℕ) (x r : Stepped) (kept keeps : K) (numbered : option_map (λ m. m.number) (get s key) ≡ Some number) where
     number_is : (o : Option MemberState) (a : MemberState) → option_map (λ m. m.number) o ≡ Some number → o ≡ Some a → number ≡ a.number
@@ -43,12 +43,12 @@ module _ {K : Type 0} (accepts : K → Origin → List ℕ → K → Type 0) whe
     number_is (Some b) a e is = grind (arith, e, is)
 
     -- it was put, if the step made a record
-    put_so : (q : Result Done ServeFault) → x.done ≡ q → HearsBy (status_after q) s m key piece x (Some []) (Some noted) → Given accepts (origin_of number x) noted kept keeps → HearsTo accepts (status_after q) s m key piece x noted kept keeps
-    put_so (Ok d) is h g = (h, subst (λ (n : ℕ). Given accepts (origin_of n x) noted kept keeps) (number_is (get s key) h.before numbered h.changed.was) g)
-    put_so (Err lost.NoMemory) is h g = (h, given_fault number x lost.NoMemory noted kept keeps is g)
-    put_so (Err lost.Read) is h g = (h, given_fault number x lost.Read noted kept keeps is g)
-    put_so (Err lost.Write) is h g = (h, given_fault number x lost.Write noted kept keeps is g)
-    put_so (Err lost.Sink) is h g = (h, given_fault number x lost.Sink noted kept keeps is g)
+    put_so : (q : Result Done ServeFault) → x.done ≡ q → HearsBy (status_after q) s m key piece x (Some []) (Some noted) → Given accepts (origin_of number x) (endpoint_at m key) noted kept keeps → HearsTo accepts (status_after q) s m key piece x noted kept keeps
+    put_so (Ok d) is h g = (h, subst (λ (n : ℕ). Given accepts (origin_of n x) (endpoint_at m key) noted kept keeps) (number_is (get s key) h.before numbered h.changed.was) g)
+    put_so (Err lost.NoMemory) is h g = (h, given_fault number x lost.NoMemory (endpoint_at m key) noted kept keeps is g)
+    put_so (Err lost.Read) is h g = (h, given_fault number x lost.Read (endpoint_at m key) noted kept keeps is g)
+    put_so (Err lost.Write) is h g = (h, given_fault number x lost.Write (endpoint_at m key) noted kept keeps is g)
+    put_so (Err lost.Sink) is h g = (h, given_fault number x lost.Sink (endpoint_at m key) noted kept keeps is g)
 
     -- or the connection is gone
     gone_so : (q : Result Done ServeFault) → IsOk q → HearsBy (status_after q) s m key piece x (Some []) (Some noted) → IsGone m t key → IsLostAt s t key piece x
@@ -76,12 +76,13 @@ there_after s t key piece x a b (Err f) h = tt
 
 -- A ledger. -----------------------------------------------------------------------------------------------------------
 
-abbrev put : LedgerState → Origin → List ℕ → LedgerState → Type 0
-put old origin bytes new = new ≡ with_record origin bytes old
+abbrev put : LedgerState → Origin → EndpointState → List ℕ → LedgerState → Type 0
+put old origin endpoint bytes new = new ≡ with_record origin bytes old
 
-noted_so : (origin : Option Origin) (noted : List ℕ) (old new : LedgerState) → Given put origin noted old new → new ≡ with_noted origin noted old
-noted_so None noted old new g = g
-noted_so (Some origin) noted old new g = g
+noted_so : (origin : Option Origin) (endpoint : Option EndpointState) (noted : List ℕ) (old new : LedgerState) → Given put origin endpoint noted old new → new ≡ with_noted origin noted old
+noted_so None endpoint noted old new g = g
+noted_so (Some origin) None noted old new g = absurd g
+noted_so (Some origin) (Some endpoint) noted old new g = g
 
 -- the last record of the ledger, if there is one more
 last_of : (origin : Option Origin) (noted : List ℕ) (old : LedgerState) → (origin ≡ None → noted ≡ []) → first_bytes (drop (length (records_of old)) (records_of (with_noted origin noted old))) ≡ noted
@@ -158,7 +159,7 @@ module _ (s t : Slab MemberState) (key : ℕ) (piece : List ℕ) (x : Stepped) (
   by (Ok d) e h =
       let y = h.0 in
       let n = y.before.number in
-      let kept = noted_so (origin_of n x) noted old new h.1 in
+      let kept = noted_so (origin_of n x) (endpoint_at t key) noted old new h.1 in
       let same = answered n noted (silent d n y e) kept in (
         whole y (ap (λ (q : Result Done ServeFault). hears (status_after q)) e) same,
         kept ∙ ap (λ (l : List ℕ). with_noted (origin_of n x) l old) (sym same) ∙ ap (λ (o : Option MemberState). put_by (option_map (λ m. m.number) o) x answer old) (sym y.changed.was),

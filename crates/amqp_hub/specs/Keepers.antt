@@ -1,5 +1,6 @@
 -- What a keeper of records was given, and what it has taken for good.
 use Rattle.std.specs.Prelude.{◌≡◌, ◌↔◌, ℕ, Bool, true, List, [], ◌∷◌, ◌++◌, Option, Some, None, option_map, Result, Ok, Err}
+use Rattle.amqp_endpoint.specs.Steps.{EndpointState}
 use Rattle.amqp_endpoint.specs.declared.event.Event.TheVariants as event
 use Rattle.amqp_endpoint.specs.declared.event.Outcome.{Outcome}
 use Rattle.amqp_endpoint.specs.declared.event.Outcome.TheVariants as outcome
@@ -54,7 +55,8 @@ pub record HasCome (p : Progress) (puts put taken took : Option (List Entry)) (d
   pub out : p ≡ progress.Out → done ≡ true
   pub failed : (p ≡ progress.Failed) ↔ (broken ≡ true)
 
--- What a step recorded is given to it, if it made a record.
-abbrev pub Given : {K : Type 0} → (K → Origin → List ℕ → K → Type 0) → Option Origin → List ℕ → K → K → Type 0
-Given accepts None noted old new = new ≡ old
-Given accepts (Some origin) noted old new = accepts old origin noted new
+-- What a step recorded is given to it, if it made a record, as one that came to this endpoint.
+abbrev pub Given : {K : Type 0} → (K → Origin → EndpointState → List ℕ → K → Type 0) → Option Origin → Option EndpointState → List ℕ → K → K → Type 0
+Given accepts None endpoint noted old new = new ≡ old
+Given accepts (Some origin) None noted old new = ⊥
+Given accepts (Some origin) (Some endpoint) noted old new = accepts old origin endpoint noted new

@@ -2,6 +2,7 @@
 use Rattle.std.proofs.Common.{◌≡◌, ℕ, arith, Bool, true, false, List, [], ◌∷◌, ◌++◌, length, take, drop, Option, Some, None, refl, sym, ap, subst, ◌∙◌, append-nil, append_assoc}
 use Rattle.std.proofs.lemmas.List.{take-append-drop}
 use Rattle.std.specs.Prelude.{◌==◌, ◌↔◌, nat_lt, if◌then◌else◌}
+use Rattle.amqp_endpoint.specs.Steps.{EndpointState}
 use Rattle.amqp_hub.specs.declared.keeper.Origin.{Origin}
 use Rattle.amqp_hub.specs.declared.keeper.Progress.{Progress}
 use Rattle.amqp_hub.specs.declared.keeper.Progress.TheVariants as progress
@@ -20,9 +21,9 @@ settled_is_all l is = by l.has_failed (length l.waiting == 0) refl refl
     by false false e1 e2 = absurd (grind (arith, is, e1, e2))
     by false true e1 e2 = ap (λ (r : List Entry). Some r) (sym (ap (λ (w : List Entry). l.taken ++ w) (no_more l.waiting e2) ∙ append-nil l.taken))
 
-pub accepted_is_last : (k l : LedgerState) (origin : Origin) (bytes : List ℕ) → l ≡ with_record origin bytes k →
+pub accepted_is_last : (k l : LedgerState) (origin : Origin) (endpoint : EndpointState) (bytes : List ℕ) → l ≡ with_record origin bytes k →
     IsMore (one_entry origin bytes) (Some (records_of k)) (Some (records_of l)) (Some k.taken) (Some l.taken) × (l.has_failed ≡ k.has_failed)
-accepted_is_last k l origin bytes is = (
+accepted_is_last k l origin endpoint bytes is = (
   record {
     grown = ap (λ (s : LedgerState). Some (records_of s)) is ∙ ap (λ (r : List Entry). Some r) (sym (append_assoc k.taken k.waiting (one_entry origin bytes)));
     still = ap (λ (s : LedgerState). Some s.taken) is;

@@ -5,6 +5,7 @@ use Rattle.amqp_endpoint.specs.declared.event.End as of_end
 use Rattle.amqp_endpoint.specs.declared.event.Outcome.{Outcome}
 use Rattle.amqp_endpoint.specs.Calls.{heartbeat}
 use Rattle.amqp_endpoint.specs.Configs.{Configured}
+use Rattle.amqp_endpoint.specs.Steps.{EndpointState}
 use Rattle.amqp_endpoint.specs.Uses.{held_by_any}
 use Rattle.amqp_serve.specs.declared.rules.Rule.{Rule}
 use Rattle.amqp_serve.specs.declared.serving.ServeFault.{ServeFault}
@@ -349,17 +350,21 @@ HearsBy status.Starved old new key piece s kept keeps = IsHeardAt old new key pi
 HearsBy status.Ended old new key piece s kept keeps = ⊥
 HearsBy (status.Lost f) old new key piece s kept keeps = IsLostAt old new key piece s
 
--- It made a step, and what that recorded was put under its number. If serving broke off, or the record could not be put, it is gone, and nothing was put.
-abbrev pub HearsTo : {K : Type 0} → (K → Origin → List ℕ → K → Type 0) → Status → Slab MemberState → Slab MemberState → ℕ → List ℕ → Stepped → List ℕ → K → K → Type 0
-HearsTo accepts status.Serving old new key piece s noted kept keeps = (x : IsHeardAt old new key piece s (Some []) (Some noted)) × Given accepts (origin_of x.before.number s) noted kept keeps
+-- the endpoint of the connection under a key
+abbrev pub endpoint_at : Slab MemberState → ℕ → Option EndpointState
+endpoint_at members key = option_map (λ m. m.server.endpoint) (get members key)
+
+-- It made a step, and what that recorded was put under its number, as one that came to its endpoint. If serving broke off, or the record could not be put, it is gone, and nothing was put.
+abbrev pub HearsTo : {K : Type 0} → (K → Origin → EndpointState → List ℕ → K → Type 0) → Status → Slab MemberState → Slab MemberState → ℕ → List ℕ → Stepped → List ℕ → K → K → Type 0
+HearsTo accepts status.Serving old new key piece s noted kept keeps = (x : IsHeardAt old new key piece s (Some []) (Some noted)) × Given accepts (origin_of x.before.number s) (endpoint_at new key) noted kept keeps
 HearsTo accepts status.Starved old new key piece s noted kept keeps = IsHeardAt old new key piece s (Some []) (Some noted) × (keeps ≡ kept)
 HearsTo accepts status.Ended old new key piece s noted kept keeps = ⊥
 HearsTo accepts (status.Lost f) old new key piece s noted kept keeps = IsLostAt old new key piece s × (keeps ≡ kept)
 
 -- What a step recorded was put, and the step is as it was. Or memory for that was refused: then nothing was put, the connection is gone, and the step resulted in `Sink`.
-abbrev pub IsKeptSo : {K : Type 0} → (K → Origin → List ℕ → K → Type 0) → ℕ → List ℕ → Slab MemberState → Slab MemberState → ℕ → Stepped → Stepped → K → K → Type 0
+abbrev pub IsKeptSo : {K : Type 0} → (K → Origin → EndpointState → List ℕ → K → Type 0) → ℕ → List ℕ → Slab MemberState → Slab MemberState → ℕ → Stepped → Stepped → K → K → Type 0
 IsKeptSo accepts number noted old new key s r kept keeps =
-    ((r ≡ s) × (new ≡ old) × Given accepts (origin_of number s) noted kept keeps) ⊎ ((r ≡ record s { done = Err lost.Sink }) × IsOk s.done × IsGone old new key × (keeps ≡ kept))
+    ((r ≡ s) × (new ≡ old) × Given accepts (origin_of number s) (endpoint_at old key) noted kept keeps) ⊎ ((r ≡ record s { done = Err lost.Sink }) × IsOk s.done × IsGone old new key × (keeps ≡ kept))
 
 -- nothing is heard without room for a record
 abbrev pub HearRefusedBy : Bool → Option HubFault → HubFault → Type 0

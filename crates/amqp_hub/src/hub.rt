@@ -190,7 +190,10 @@ impl<K: Keeper + Drop, A: Allocator + Copy> Hub<K, A> {
         let Some(origin) = origin_of(number, fed, end, note) else {
             return end;
         };
-        if self.keeper.put(origin, noted).is_ok() {
+        let Some(endpoint) = self.servers.endpoint(key) else {
+            return end;
+        };
+        if self.keeper.put(origin, endpoint, noted).is_ok() {
             return end;
         }
         let _ = self.servers.remove(key);

@@ -1,11 +1,13 @@
 //! Where the records of all connections go.
 ghost use Rattle.std.specs.Prelude.{◌≡◌, ◌^◌, ◌-◌, min, Bool, true, ℕ, List, Option, OnOk, OnErr};
 ghost use Rattle.amqp_hub.specs.Keepers.{Entry, one_entry, IsMore, HasCome};
+ghost use Rattle.amqp_endpoint.specs.Steps.{EndpointState};
 ghost use Rattle.amqp_hub.specs.declared.keeper.Origin.{Origin};
 ghost use Rattle.amqp_hub.specs.declared.keeper.Progress.{Progress};
 
+use amqp_endpoint::Endpoint;
 use amqp_link::Tag;
-use std::alloc::AllocError;
+use std::alloc::{AllocError, Allocator};
 
 /// Where a record came from.
 #[derive(Clone, Copy, Debug, PartialEq, Eq)]
@@ -52,8 +54,8 @@ pub trait Keeper {
     // How many bytes of records it holds that it has not taken for good.
     ghost holds: { Self → ℕ };
 
-    // It was given this record of this origin, and is this one then.
-    ghost accepts: { Self → Origin → List ℕ → Self → Type 0 };
+    // It was given this record of this origin, which came to this endpoint, and is this one then.
+    ghost accepts: { Self → Origin → EndpointState → List ℕ → Self → Type 0 };
 
     // It was asked to make room for a record, came so far, and is this one then.
     ghost makes_room: { Self → Progress → Self → Type 0 };
@@ -61,14 +63,34 @@ pub trait Keeper {
     // It was asked to take all records for good, came so far, and is this one then.
     ghost settles: { Self → Progress → Self → Type 0 };
 
+    /// Notes that the connection of this number comes from there. Returns `AllocError` if memory is refused.
+    fn met(&self, _number: u64, _from: &str) -> Result<(), AllocError> {
+        Ok(())
+    }
+
+    /// Notes that the connection of this number has ended: no record of it comes any more.
+    fn left(&self, _number: u64) {}
+
+    /// Returns whether links may get more credit, as far as it knows: whether it has room for what they send for it.
+    fn may_grant(&self) -> bool {
+        true
+    }
+
     /// Returns whether it takes a record now.
     fn has_room(&self) -> bool
         ensures { result ≡ roomy self.now };
 
-    /// Takes the bytes of a record of this origin. Returns `AllocError` if memory is refused; nothing has changed then.
-    fn put(&mut self, origin: Origin, bytes: &[u8]) -> Result<(), AllocError>
+    /// Takes the bytes of a record of this origin. The endpoint of its connection, as it stands after the step, says who
+    /// sent it: its peer and, at the handle of the origin, its link. Returns `AllocError` if memory is refused; nothing
+    /// has changed then.
+    fn put<A: Allocator + Copy>(
+        &mut self,
+        origin: Origin,
+        endpoint: &Endpoint<A>,
+        bytes: &[u8],
+    ) -> Result<(), AllocError>
         requires { roomy self.old ≡ true }
-        ensures put { OnOk result (accepts self.old origin bytes.now self.new) }
+        ensures put { OnOk result (accepts self.old origin endpoint.now bytes.now self.new) }
         ensures refused { OnErr result (self.new ≡ self.old) };
 
     /// Makes room for a record, as far as it can do so without taking those that it has for good. `Out` says that
@@ -92,7 +114,7 @@ pub trait Keeper {
     ghost settled_is_taken: { (k : Self) → settled k ≡ true → taken k ≡ puts k };
 
     /// A record that it was given is its last one.
-    ghost accepted_is_put: { (k l : Self) (origin : Origin) (bytes : List ℕ) → accepts k origin bytes l → IsMore (one_entry origin bytes) (puts k) (puts l) (taken k) (taken l) × (broken l ≡ broken k) };
+    ghost accepted_is_put: { (k l : Self) (origin : Origin) (endpoint : EndpointState) (bytes : List ℕ) → accepts k origin endpoint bytes l → IsMore (one_entry origin bytes) (puts k) (puts l) (taken k) (taken l) × (broken l ≡ broken k) };
 
     /// Making room loses none and puts none, takes those in order, and says how far it came: there is room at `Out`.
     ghost room_is_made: { (k l : Self) (p : Progress) → makes_room k p l → HasCome p (puts k) (puts l) (taken k) (taken l) (roomy l) (broken l) };

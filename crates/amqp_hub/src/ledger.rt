@@ -3,6 +3,7 @@ ghost use Rattle.std.specs.Prelude.{◌≡◌, ◌^◌, ◌-◌, length, map, mi
 ghost use Rattle.amqp_hub.specs.Ledgers.{record_entry, records_of, new_ledger, will_take};
 
 use crate::keeper::{Keeper, Origin, Progress};
+use amqp_endpoint::Endpoint;
 use std::alloc::{AllocError, Allocator, Global};
 use std::marker::Model;
 
@@ -93,7 +94,7 @@ impl<A: Allocator + Copy> Keeper for Ledger<A> {
 
     ghost holds = { waiting_bytes };
 
-    ghost accepts = { λ old origin bytes new. new ≡ with_record origin bytes old };
+    ghost accepts = { λ old origin _ bytes new. new ≡ with_record origin bytes old };
 
     ghost makes_room = { λ old p new. (new ≡ old) × (p ≡ room_in old) };
 
@@ -111,7 +112,12 @@ impl<A: Allocator + Copy> Keeper for Ledger<A> {
         !self.has_failed && self.waiting() < self.room
     }
 
-    fn put(&mut self, origin: Origin, bytes: &[u8]) -> Result<(), AllocError> {
+    fn put<B: Allocator + Copy>(
+        &mut self,
+        origin: Origin,
+        _endpoint: &Endpoint<B>,
+        bytes: &[u8],
+    ) -> Result<(), AllocError> {
         let bytes = Vec::from_slice(self.alloc, bytes)?;
         match self.records.push(Record { origin, bytes }) {
             Ok(()) => Ok(()),

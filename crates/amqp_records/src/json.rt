@@ -8,7 +8,7 @@ ghost use Rattle.amqp_records.specs.Lines.{HasNumbers, IsJsonLine};
 use crate::ascii::put_ascii;
 use crate::record::{HEAD, Record, record_in};
 use crate::section::{Section, SectionKind, sections};
-use crate::value::{LEVELS, Members, base64, json_of, whole};
+use crate::value::{Binaries, LEVELS, Members, base64, json_of, whole};
 use amqp_dump::LIMITS;
 use amqp_types::{Value, decode};
 use serde_json::{Value as Json, put};
@@ -21,13 +21,14 @@ use std::alloc::{AllocError, Global};
 pub fn put_line(
     alloc: Global,
     line: &mut Vec<u8>,
+    binaries: Binaries,
     number: u64,
     bytes: &[u8],
 ) -> Result<(), AllocError>
     requires { HEAD ≤ length bytes.now }
     ensures { OnOk result (IsJsonLine number bytes.now line.new.items) }
 {
-    let object = object_of(alloc, number, &record_in(bytes))?;
+    let object = object_of(alloc, binaries, number, &record_in(bytes))?;
     let text = object.to_string(alloc)?;
     line.clear();
     put_ascii(line, &text)?;
@@ -36,12 +37,17 @@ pub fn put_line(
 }
 
 /// Returns the object of a record.
-fn object_of(alloc: Global, number: u64, record: &Record<'_>) -> Result<Json, AllocError>
+fn object_of(
+    alloc: Global,
+    binaries: Binaries,
+    number: u64,
+    record: &Record<'_>,
+) -> Result<Json, AllocError>
     ensures { IfOk result (λ json. HasNumbers number «record».now.channel «record».now.handle «record».now.delivery_id «record».now.message_format (length «record».now.message.now) (view json)) }
 {
     let mut members = Members::new(alloc);
     match sections(alloc, record.message)? {
-        Some(sections) => put_sections(alloc, &mut members, &sections)?,
+        Some(sections) => put_sections(alloc, &mut members, binaries, &sections)?,
         None => {
             let bytes = base64(alloc, record.message)?;
             put(&mut members, alloc, "bytes_base64", bytes)?;
@@ -73,6 +79,7 @@ fn put_numbers(
 fn put_sections(
     alloc: Global,
     members: &mut Members,
+    binaries: Binaries,
     sections: &[Section<'_>],
 ) -> Result<(), AllocError> {
     let mut data: Option<Vec<u8>> = None;
@@ -86,11 +93,11 @@ fn put_sections(
             }
             SectionKind::AmqpSequence => {
                 let mut lists = sequences.take().unwrap_or(Vec::new(alloc));
-                lists.push(value_of(alloc, section)?)?;
+                lists.push(value_of(alloc, binaries, section)?)?;
                 sequences = Some(lists);
             }
             _ => {
-                let value = value_of(alloc, section)?;
+                let value = value_of(alloc, binaries, section)?;
                 put(members, alloc, section.kind.name(), value)?;
             }
         }
@@ -115,25 +122,33 @@ fn put_data(alloc: Global, members: &mut Members, data: &[u8]) -> Result<(), All
 
 /// Returns the value of a section, which is known to be within the limits. The fields of a header and of
 /// properties have their names, and those that are null are left out.
-fn value_of(alloc: Global, section: &Section<'_>) -> Result<Json, AllocError> {
+fn value_of(alloc: Global, binaries: Binaries, section: &Section<'_>) -> Result<Json, AllocError> {
     let Ok((value, _)) = decode(alloc, section.value, LIMITS) else {
         return Err(AllocError);
     };
     match (section.kind, &value) {
         (SectionKind::Header | SectionKind::Properties, Value::List(items)) => {
-            fields_of(alloc, section.kind.fields(), items)
+            fields_of(alloc, binaries, section.kind.fields(), items)
         }
-        _ => json_of(alloc, LEVELS, &value),
+        _ => json_of(alloc, LEVELS, binaries, &value),
     }
 }
 
 /// Returns the object of fields that have these names, without those that are null.
-fn fields_of(alloc: Global, names: &[&str], items: &[Value]) -> Result<Json, AllocError> {
+fn fields_of(
+    alloc: Global,
+    binaries: Binaries,
+    names: &[&str],
+    items: &[Value],
+) -> Result<Json, AllocError> {
     let mut members = Members::new(alloc);
     for (name, item) in names.iter().zip(items) {
         match item {
             Value::Null => {}
-            _ => put(&mut members, alloc, name, json_of(alloc, LEVELS, item)?)?,
+            _ => {
+                let value = json_of(alloc, LEVELS, binaries, item)?;
+                put(&mut members, alloc, name, value)?;
+            }
         }
     }
     Ok(Json::Object(members))

@@ -24,9 +24,11 @@ mod section;
 mod summary;
 mod value;
 
+pub use ascii::put_ascii;
 pub use block_file::{Whole, whole_blocks};
 pub use block_printer::print_blocks;
 pub use blocks::{BLOCK_MOST, Blocks};
 pub use faults::{BlocksFault, RecordsFault};
-pub use printer::{Output, print_records};
+pub use printer::{Output, Scratch, print_records, put_line_of, put_object_of};
 pub use record::HEAD;
+pub use value::{Binaries, binary, json_in, object_with, whole};

@@ -3,11 +3,13 @@
 ghost use Rattle.std.specs.Prelude.{◌≡◌, ◌≢◌, ◌↔◌, ℕ, ◌+◌, ◌-◌, ◌<◌, ◌≤◌, ◌++◌, [], List, Option, true, false, length, take, drop, IsTrue, IfOk, IfErr, OnOk, OnErr, Ok, Err};
 ghost use Rattle.std.specs.Io.KnownBytes.{Consumes, Keeps, Appends};
 ghost use Rattle.amqp_frame.specs.Devices.{device_inner, has_failed, has_ended, reads_ahead, AppendsFront};
+ghost use Rattle.amqp_records.specs.Lines.{IsJsonLine};
 ghost use Rattle.amqp_records.specs.Records.{front_of, BeginsNoRecord, IsRecord};
 ghost use Rattle.amqp_records.specs.Printing.{IsLineOf, IsWritten, BeginsWriting, HasPrinted, HasBegun, Prints, BreaksOff, IsNothing, IsCut, IsTooLong, BreaksIn};
 
 use crate::faults::RecordsFault;
 use crate::record::{Front, HEAD, front_of};
+use crate::value::Binaries;
 use crate::{json, summary};
 use amqp_dump::Page;
 use amqp_frame::Device;
@@ -312,9 +314,23 @@ pub fn put_line_of(
     ensures { OnOk result (IsLineOf output number bytes.now scratch.new.line.items) }
 {
     match output {
-        Output::Json => json::put_line(alloc, &mut scratch.line, number, bytes),
+        Output::Json => { json::put_line(alloc, &mut scratch.line, Binaries::Text, number, bytes) }
         _ => summary::put_line(alloc, &mut scratch.page, &mut scratch.line, number, bytes),
     }
+}
+
+/// Replaces the line that was made last by the JSON object of a record, in which a binary value is
+/// `{"binary":"BASE64"}`.
+pub fn put_object_of(
+    alloc: Global,
+    number: u64,
+    bytes: &[u8],
+    scratch: &mut Scratch,
+) -> Result<(), AllocError>
+    requires { HEAD ≤ length bytes.now }
+    ensures { OnOk result (IsJsonLine number bytes.now scratch.new.line.items) }
+{
+    json::put_line(alloc, &mut scratch.line, Binaries::Object, number, bytes)
 }
 
 /// Writes all of the bytes.

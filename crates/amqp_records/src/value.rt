@@ -5,7 +5,7 @@ ghost use Rattle.serde_json.specs.View.{view};
 ghost use Rattle.amqp_records.specs.Lines.{whole_json};
 
 use amqp_dump::LIMITS;
-use amqp_types::Value;
+use amqp_types::{ReadFault, Value, decode};
 use base64::engine::general_purpose::STANDARD;
 use byteorder::{BigEndian, ByteOrder};
 use serde_json::{Map, Number, Value as Json, put};
@@ -21,46 +21,76 @@ pub const LEVELS: usize = LIMITS.depth + 1;
 /// An object that is being made.
 pub type Members = Map<String, Json>;
 
+/// What a binary value is in JSON.
+#[derive(Clone, Copy, Debug, PartialEq, Eq)]
+pub enum Binaries {
+    /// A string: its base64. A string of the same characters is the same.
+    Text,
+    /// `{"binary":"BASE64"}`, which no string is.
+    Object,
+}
+
+/// Returns the JSON of the value that these bytes are. If they are none within the limits of `dump`, it is that of the
+/// bytes as a binary.
+pub fn json_in(alloc: Global, binaries: Binaries, bytes: &[u8]) -> Result<Json, AllocError> {
+    match decode(alloc, bytes, LIMITS) {
+        Ok((value, len)) if len == bytes.len() => json_of(alloc, LEVELS, binaries, &value),
+        Err(ReadFault::NoMemory) => Err(AllocError),
+        _ => binary(alloc, binaries, bytes),
+    }
+}
+
 /// Returns the JSON of a value that has fewer levels than `depth`.
 #[cycle(json)]
-pub fn json_of(alloc: Global, depth: usize, value: &Value) -> Result<Json, AllocError> {
+pub fn json_of(
+    alloc: Global,
+    depth: usize,
+    binaries: Binaries,
+    value: &Value,
+) -> Result<Json, AllocError> {
     if depth == 0 {
         return Ok(Json::Null);
     }
     match value {
-        Value::List(items) => list_of(alloc, depth - 1, items),
+        Value::List(items) => list_of(alloc, depth - 1, binaries, items),
         Value::Array {
             descriptors,
             items,
             ..
-        } => array_of(alloc, depth - 1, descriptors, items),
-        Value::Map(entries) => map_of(alloc, depth - 1, entries),
+        } => array_of(alloc, depth - 1, binaries, descriptors, items),
+        Value::Map(entries) => map_of(alloc, depth - 1, binaries, entries),
         Value::Described(descriptor, described) => {
             let mut members = Members::new(alloc);
             put(
                 &mut members,
                 alloc,
                 "descriptor",
-                json_of(alloc, depth - 1, descriptor)?,
+                json_of(alloc, depth - 1, binaries, descriptor)?,
             )?;
             put(
                 &mut members,
                 alloc,
                 "value",
-                json_of(alloc, depth - 1, described)?,
+                json_of(alloc, depth - 1, binaries, described)?,
             )?;
             Ok(Json::Object(members))
         }
+        Value::Binary(octets) => binary(alloc, binaries, octets),
         _ => scalar(alloc, value),
     }
 }
 
 /// Returns the list of these items.
 #[cycle(json)]
-fn list_of(alloc: Global, depth: usize, items: &[Value]) -> Result<Json, AllocError> {
+fn list_of(
+    alloc: Global,
+    depth: usize,
+    binaries: Binaries,
+    items: &[Value],
+) -> Result<Json, AllocError> {
     let mut list = Vec::new(alloc);
     for item in items {
-        list.push(json_of(alloc, depth, item)?)?;
+        list.push(json_of(alloc, depth, binaries, item)?)?;
     }
     Ok(Json::Array(list))
 }
@@ -71,10 +101,11 @@ fn list_of(alloc: Global, depth: usize, items: &[Value]) -> Result<Json, AllocEr
 fn array_of(
     alloc: Global,
     depth: usize,
+    binaries: Binaries,
     descriptors: &[Value],
     items: &[Value],
 ) -> Result<Json, AllocError> {
-    let items = list_of(alloc, depth, items)?;
+    let items = list_of(alloc, depth, binaries, items)?;
     if descriptors.is_empty() {
         return Ok(items);
     }
@@ -83,7 +114,7 @@ fn array_of(
         &mut members,
         alloc,
         "descriptors",
-        list_of(alloc, depth, descriptors)?,
+        list_of(alloc, depth, binaries, descriptors)?,
     )?;
     put(&mut members, alloc, "items", items)?;
     Ok(Json::Object(members))
@@ -91,13 +122,18 @@ fn array_of(
 
 /// Returns an object if all keys are strings or all are symbols, else the list of the pairs.
 #[cycle(json)]
-fn map_of(alloc: Global, depth: usize, entries: &[(Value, Value)]) -> Result<Json, AllocError> {
+fn map_of(
+    alloc: Global,
+    depth: usize,
+    binaries: Binaries,
+    entries: &[(Value, Value)],
+) -> Result<Json, AllocError> {
     if !are_texts(entries) {
-        return pairs_of(alloc, depth, entries);
+        return pairs_of(alloc, depth, binaries, entries);
     }
     let mut members = Members::new(alloc);
     for (key, value) in entries {
-        let value = json_of(alloc, depth, value)?;
+        let value = json_of(alloc, depth, binaries, value)?;
         put(&mut members, alloc, text_of(key).unwrap_or(""), value)?;
     }
     Ok(Json::Object(members))
@@ -105,12 +141,17 @@ fn map_of(alloc: Global, depth: usize, entries: &[(Value, Value)]) -> Result<Jso
 
 /// Returns the list of the pairs of keys and values.
 #[cycle(json)]
-fn pairs_of(alloc: Global, depth: usize, entries: &[(Value, Value)]) -> Result<Json, AllocError> {
+fn pairs_of(
+    alloc: Global,
+    depth: usize,
+    binaries: Binaries,
+    entries: &[(Value, Value)],
+) -> Result<Json, AllocError> {
     let mut list = Vec::new(alloc);
     for (key, value) in entries {
         let mut pair = Vec::new(alloc);
-        pair.push(json_of(alloc, depth, key)?)?;
-        pair.push(json_of(alloc, depth, value)?)?;
+        pair.push(json_of(alloc, depth, binaries, key)?)?;
+        pair.push(json_of(alloc, depth, binaries, value)?)?;
         list.push(Json::Array(pair))?;
     }
     Ok(Json::Array(list))
@@ -135,7 +176,7 @@ fn text_of(value: &Value) -> Option<&str> {
     }
 }
 
-/// Returns the JSON of a value that holds no others.
+/// Returns the JSON of a value that holds no others and is no binary.
 fn scalar(alloc: Global, value: &Value) -> Result<Json, AllocError> {
     match value {
         Value::Boolean(truth) => Ok(Json::Bool(*truth)),
@@ -160,7 +201,6 @@ fn scalar(alloc: Global, value: &Value) -> Result<Json, AllocError> {
                 .encode_lower(&mut room);
             Json::try_from_str(alloc, text)
         }
-        Value::Binary(octets) => base64(alloc, octets),
         Value::String(_) | Value::Symbol(_) => {
             Json::try_from_str(alloc, text_of(value).unwrap_or(""))
         }
@@ -194,6 +234,22 @@ fn float(alloc: Global, number: f64) -> Result<Json, AllocError> {
         None if number > 0.0 => Json::try_from_str(alloc, "Infinity"),
         None => Json::try_from_str(alloc, "-Infinity"),
     }
+}
+
+/// Returns the JSON of a binary value.
+pub fn binary(alloc: Global, binaries: Binaries, octets: &[u8]) -> Result<Json, AllocError> {
+    let text = base64(alloc, octets)?;
+    match binaries {
+        Binaries::Text => Ok(text),
+        Binaries::Object => object_with(alloc, "binary", text),
+    }
+}
+
+/// Returns an object with one member.
+pub fn object_with(alloc: Global, name: &str, value: Json) -> Result<Json, AllocError> {
+    let mut members = Members::new(alloc);
+    put(&mut members, alloc, name, value)?;
+    Ok(Json::Object(members))
 }
 
 /// Returns bytes in base64.

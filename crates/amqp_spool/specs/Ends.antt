@@ -2,6 +2,8 @@
 use Rattle.std.specs.Prelude.{◌≡◌, ℕ, ◌^◌, ◌<◌, List, ◌++◌, length}
 use Rattle.std.specs.Int.{w64, to_be_bytes}
 use Rattle.amqp_spool.specs.declared.end.End.{End}
+use Rattle.amqp_spool.specs.declared.journal.Journal.{Journal}
+use Rattle.amqp_spool.specs.Heads.{head_front}
 use Rattle.amqp_spool.specs.Sums.{sum_of}
 
 -- an end that there may be
@@ -19,3 +21,7 @@ end_front e = e.spool ++ to_be_bytes w64 e.first ++ to_be_bytes w64 e.mark ++ to
 -- and the sum of all this
 unfoldable pub end_text : End → List ℕ
 end_text e = end_front e ++ to_be_bytes w64 (sum_of e.spool (end_front e))
+
+-- where a journal ends: with the last batch that was settled, in its newest segment
+abbrev pub end_of : {F : Type 0} → Journal F → End
+end_of j = record { spool = j.head.spool; first = j.head.first; mark = sum_of j.head.secret (head_front j.head); place = j.place; next = j.next }

@@ -61,6 +61,14 @@ impl BatchHead {
         }
     }
 
+    /// Returns how many bytes the body has, by a head that these bytes are. Whether they are one is seen once the body is
+    /// there too.
+    pub fn size_said(bytes: &[u8; BATCH_HEAD]) -> u32
+        ensures { result ≡ from_be_bytes w32 (take 4 bytes.now) }
+    {
+        small_at(bytes, 0)
+    }
+
     /// Returns the bytes of the head without the sum.
     #[tactic(auto, unfolding(crate::specs::Heads::batch_front))]
     fn front(&self) -> [u8; 24]

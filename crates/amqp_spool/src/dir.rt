@@ -366,16 +366,6 @@ impl<R: Files + Drop> Dir<R> {
         self.floor.spool
     }
 
-    /// Says how far the spool may be read: writes the file `end` over in place, without a sync. Returns `Full` if
-    /// there is no room to make it, and `Failed` if the system refuses it for another reason. After an error the file
-    /// may be torn, and the call may be tried again.
-    pub fn publish(&mut self, end: &End) -> Result<(), FolderFault>
-        ensures same { (self.new.segments ≡ self.old.segments) × (self.new.floor ≡ self.old.floor) × (self.new.newest ≡ self.old.newest) × (self.new.failed ≡ self.old.failed) }
-    {
-        self.write_end(end)
-            .map_err(|reason| self.told(Refusal(FileName::End, reason)))
-    }
-
     /// Returns what the file `end` says. Returns `None` if there is none, if it is torn, or if it can't be read.
     pub fn published(&self) -> Option<End> {
         let mut bytes = [0; END];
@@ -423,9 +413,7 @@ impl<R: Files + Drop> Dir<R> {
 
     /// Returns why a call was last `Full` or `Failed`: which file the system has refused something of, and its reason.
     /// It returns that once. Returns `None` if no call was refused since.
-    pub fn take_reason(&mut self) -> Option<Refusal>
-        ensures { self.new ≡ self.old }
-    {
+    pub fn take_reason(&self) -> Option<Refusal> {
         self.reason.take()
     }
 
@@ -640,6 +628,15 @@ impl<R: Files + Drop> Folder for Dir<R> {
             Some(bytes) if !self.is_reserved => self.set_reserve(bytes),
             _ => Ok(()),
         }
+    }
+
+    /// Writes the file `end` over in place, without a sync. Returns `Full` if there is no room to make it, and `Failed` if
+    /// the system refuses it for another reason. After an error the file may be torn, and the call may be tried again.
+    fn publish(&mut self, end: &End) -> Result<(), FolderFault>
+        ensures same { (self.new.segments ≡ self.old.segments) × (self.new.floor ≡ self.old.floor) × (self.new.newest ≡ self.old.newest) × (self.new.failed ≡ self.old.failed) }
+    {
+        self.write_end(end)
+            .map_err(|reason| self.told(Refusal(FileName::End, reason)))
     }
 
     fn append(&mut self, bytes: &[u8]) -> Result<(), FolderFault>

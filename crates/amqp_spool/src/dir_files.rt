@@ -47,7 +47,7 @@ impl fmt::Display for Refusal {
 
 /// The files of a directory, by name.
 #[derive(Drop)]
-pub(crate) struct DirFiles<R: Files + Drop> {
+pub struct DirFiles<R: Files + Drop> {
     rt: R,
     alloc: Global,
     path: String,
@@ -55,7 +55,7 @@ pub(crate) struct DirFiles<R: Files + Drop> {
 
 impl<R: Files + Drop> DirFiles<R> {
     /// Returns those of the directory at this path, which need not be there yet.
-    pub(crate) fn new(rt: R, alloc: Global, path: &str) -> Result<DirFiles<R>, AllocError> {
+    pub fn new(rt: R, alloc: Global, path: &str) -> Result<DirFiles<R>, AllocError> {
         let path = String::from_str(alloc, path)?;
         Ok(DirFiles { rt, alloc, path })
     }
@@ -116,19 +116,24 @@ impl<R: Files + Drop> DirFiles<R> {
         self.open(name, &options)
     }
 
-    /// Reads bytes of a file, from a place on. Fails if it has fewer.
-    pub(crate) fn read(&self, name: FileName, at: u64, out: &mut [u8]) -> io::Result<()>
-        ensures { length out.new ≡ length out.old }
-    {
+    /// Opens a file to read it.
+    pub fn open_read(&self, name: FileName) -> io::Result<R::File> {
         let mut options = OpenOptions::new();
         options.read(true);
-        let mut file = self.open(name, &options)?;
+        self.open(name, &options)
+    }
+
+    /// Reads bytes of a file, from a place on. Fails if it has fewer.
+    pub fn read(&self, name: FileName, at: u64, out: &mut [u8]) -> io::Result<()>
+        ensures { length out.new ≡ length out.old }
+    {
+        let mut file = self.open_read(name)?;
         file.seek(SeekFrom::Start(at))?;
         file.read_exact(out)
     }
 
     /// Returns how many bytes a file has. Returns `None` if it is no file.
-    pub(crate) fn len(&self, name: FileName) -> io::Result<Option<u64>> {
+    pub fn len(&self, name: FileName) -> io::Result<Option<u64>> {
         let path = self.path_of(name)?;
         let metadata = self.rt.metadata(path.as_str())?;
         if metadata.is_file() {
@@ -170,14 +175,12 @@ impl<R: Files + Drop> DirFiles<R> {
 
     /// Makes durable what a file has, or which names a directory has.
     pub(crate) fn sync(&self, name: FileName) -> io::Result<()> {
-        let mut options = OpenOptions::new();
-        options.read(true);
-        self.open(name, &options)?.sync_all()
+        self.open_read(name)?.sync_all()
     }
 
     /// Returns the first numbers of the segments that have names, in no order. Returns `None` if there are more than
     /// `most`.
-    pub(crate) fn firsts(&self, most: usize) -> io::Result<Option<Vec<u64>>>
+    pub fn firsts(&self, most: usize) -> io::Result<Option<Vec<u64>>>
         ensures { IfOk result (λ o. IfSome o (λ firsts. vec_len firsts ≤ most)) }
     {
         let rt = (&self.rt, self.alloc);

@@ -3,6 +3,7 @@ ghost use Rattle.amqp_spool.specs.Folders.{History, Goes, GoesBy, Now, MayWrite,
 ghost use Rattle.std.specs.Prelude.{◌≡◌, length, IfOk, OnOk};
 ghost use Rattle.amqp_spool.specs.Reads.{HasNames, IsRead};
 
+use crate::end::End;
 use crate::segments::Named;
 use std::alloc::{AllocError, Global};
 
@@ -37,6 +38,13 @@ pub trait Folder {
     /// Makes ready for a write: says whether the room that is kept for a full disk is there.
     fn prepare(&mut self) -> Result<(), FolderFault>
         ensures { history self.new ≡ history self.old };
+
+    /// Says to readers how far it may be read. It says so as long as it can, and nothing rests on it.
+    fn publish(&mut self, _end: &End) -> Result<(), FolderFault>
+        ensures { history self.new ≡ history self.old }
+    {
+        Ok(())
+    }
 
     /// Writes at the end of the newest segment.
     fn append(&mut self, bytes: &[u8]) -> Result<(), FolderFault>

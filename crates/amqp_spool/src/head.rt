@@ -2,6 +2,7 @@
 ghost use Rattle.std.specs.Prelude.{◌≡◌, ◌≢◌, ◌≤◌, ◌+◌, ◌++◌, take, drop, length, None, IfSome};
 ghost use Rattle.std.specs.Int.{w64, from_be_bytes};
 ghost use Rattle.amqp_spool.specs.Heads.{IsHead, head_front, head_text};
+ghost use Rattle.amqp_spool.specs.Sums.{sum_of};
 
 use crate::sum::sum_of;
 
@@ -36,11 +37,7 @@ impl Head {
         let mut bytes = [0; HEAD];
         let front = self.front();
         put(&mut bytes, 0, &front);
-        put(
-            &mut bytes,
-            72,
-            &sum_of(&self.secret, &front, &[]).to_be_bytes(),
-        );
+        put(&mut bytes, 72, &self.sum().to_be_bytes());
         bytes
     }
 
@@ -66,6 +63,13 @@ impl Head {
         } else {
             None
         }
+    }
+
+    /// Returns the sum in the head. Two segments of one name have not the same.
+    pub fn sum(&self) -> u64
+        ensures { result ≡ sum_of self.now.secret (head_front self.now) }
+    {
+        sum_of(&self.secret, &self.front(), &[])
     }
 
     /// Returns the bytes of the head without their sum.

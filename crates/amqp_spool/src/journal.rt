@@ -4,12 +4,14 @@ ghost use Rattle.std.specs.Vec.{vec_len, vec_capacity};
 ghost use Rattle.amqp_spool.specs.Batches.{Batch, Follows};
 ghost use Rattle.amqp_spool.specs.Chapters.{Chapter, GoesAfter, Holds, IsAt, IsPut, IsBegun, chapter_text, next_of};
 ghost use Rattle.amqp_spool.specs.Counting.{HasRaised, OldestIsNeeded, AllAreNeeded, AreInOrder, AreFrontOf, IsFreed};
+ghost use Rattle.amqp_spool.specs.Ends.{end_of};
 ghost use Rattle.amqp_spool.specs.Folders.{Now, Since, IsUnasked};
 ghost use Rattle.amqp_spool.specs.declared.journal.JournalFault.TheVariants.{NoMemory};
 ghost use Rattle.amqp_spool.specs.Heads.{batch_text, head_text};
 ghost use Rattle.amqp_spool.specs.Journals.{IsCounted, LeavesMost, HasFloor, Stands, IsSettled, IsTended, GoesHere, GoesAnew, GoesEither, StaysAt, head_after, AreSame, HaveLimits, as_told, IsRefused, HasNoRoom, HasNoRoomHere};
 
 use crate::batch_head::{BATCH_HEAD, BatchHead};
+use crate::end::End;
 use crate::folder::{Folder, FolderFault};
 use crate::head::{HEAD, Head};
 use crate::segments::Segments;
@@ -242,6 +244,63 @@ impl<F: Folder + Drop> Journal<F> {
                 Err(JournalFault::Failed)
             }
         }
+    }
+
+    /// Returns its folder.
+    pub fn folder(&self) -> &F
+        ensures { result.now ≡ self.now.folder }
+    {
+        &self.folder
+    }
+
+    /// Returns how many bytes its segments have together, at most.
+    pub fn used(&self) -> u64
+        ensures { result ≡ self.now.used }
+    {
+        self.used
+    }
+
+    /// Returns how many bytes they may have.
+    pub fn limit(&self) -> u64
+        ensures { result ≡ self.now.limit }
+    {
+        self.limit
+    }
+
+    /// Returns how many segments there are.
+    pub fn len(&self) -> usize
+        ensures { result ≡ vec_len self.now.segments.list }
+    {
+        self.segments.list.len()
+    }
+
+    /// Returns how often it was started.
+    pub fn life(&self) -> u64
+        ensures { result ≡ self.now.life }
+    {
+        self.life
+    }
+
+    /// Returns how far it may be read: to the end of what was settled.
+    pub fn end(&self) -> End
+        ensures { result ≡ end_of self.now }
+    {
+        End {
+            spool: self.head.spool,
+            first: self.head.first,
+            mark: self.head.sum(),
+            place: self.place,
+            next: self.next,
+        }
+    }
+
+    /// Says to readers how far it may be read. Nothing else changes, also if the folder can't say it.
+    pub fn publish(&mut self) -> Result<(), FolderFault>
+        ensures same { self.new ≡ record self.old { folder = self.new.folder } }
+        ensures history { F.history self.new.folder ≡ F.history self.old.folder }
+    {
+        let end = self.end();
+        self.folder.publish(&end)
     }
 
     /// Returns the head of the next segment, with this secret.

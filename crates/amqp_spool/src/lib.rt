@@ -27,7 +27,7 @@ mod waiting;
 pub use batch_head::{BATCH_HEAD, BatchHead};
 pub use calls::{Call, run};
 pub use dir::{Dir, MOST_SEGMENTS, OpenError, reserve_for};
-pub use dir_files::{Exclusive, Refusal};
+pub use dir_files::{DirFiles, Exclusive, Refusal};
 pub use dir_names::FileName;
 pub use end::{END, End};
 pub use entry::{

@@ -14,7 +14,7 @@ ghost use Rattle.amqp_spool.specs.Spools.{IsNew, IsSound, Has, IsDone, KeepsTold
 ghost use Rattle.amqp_spool.specs.Waitings.{batch_len, IsFrom, IsOpened, IsClosed};
 
 use crate::entry::Introduction;
-use crate::folder::Folder;
+use crate::folder::{Folder, FolderFault};
 use crate::journal::{Journal, JournalFault};
 use crate::links::{Links, OpenFault};
 use crate::waiting::{PutFault, Waiting};
@@ -134,6 +134,13 @@ impl<F: Folder + Drop> Spool<F> {
         self.journal.failed
     }
 
+    /// Returns what is on the disk.
+    pub fn journal(&self) -> &Journal<F>
+        ensures { result.now ≡ self.now.journal }
+    {
+        &self.journal
+    }
+
     /// Returns how many bytes wait.
     pub fn held(&self) -> u64
         ensures { result ≡ batch_len self.now.waiting }
@@ -188,6 +195,8 @@ impl<F: Folder + Drop> Spool<F> {
         ensures most { self.new.waiting.most ≡ self.old.waiting.most }
         ensures head { OnOk result ((self.new.journal.head ≡ self.old.journal.head) ⊎ (self.new.journal.head ≡ head_after self.old.journal secret)) }
         ensures fails { result ≡ Err JournalFault.Failed → self.new.journal.failed ≡ true }
+        ensures alive { result ≢ Err JournalFault.Failed → self.new.journal.failed ≡ false }
+        ensures empty { OnOk result (self.new.waiting.count ≡ 0) }
         ensures batch { (all : List Batch) (it : Stands F.history all self.old.journal) → 0 < self.old.waiting.count → IsSettled F.history it.chapter it.older (GoesEither arrived it.chapter it.older self.old.waiting.count self.old.waiting.here (self.old.waiting.again ++ self.old.waiting.here)) all result self.old.journal self.new.journal }
         ensures settled { (told waiting : Puts) → Has F.history told waiting self.old → IsDone F.history told waiting result self.new }
         ensures faults { IfErr result (λ fault. (fault ≡ JournalFault.NoMemory) ⊎ (fault ≡ JournalFault.Full) ⊎ (fault ≡ JournalFault.Failed) ⊎ ((fault ≡ JournalFault.Bound) × (2 ^ 64 ≤ self.old.journal.next + self.old.waiting.count))) }
@@ -208,6 +217,21 @@ impl<F: Folder + Drop> Spool<F> {
             .settle(count, arrived, self.waiting.here(), &anew, secret)?;
         self.waiting.clear();
         Ok(())
+    }
+
+    /// Says to readers how far the spool may be read: to the end of what was settled. Returns what stood in the way of
+    /// that; nothing else changes.
+    pub fn publish(&mut self) -> Result<(), FolderFault>
+        requires { IsSound F.history self.old }
+        ensures sound { IsSound F.history self.new }
+        ensures history { F.history self.new.journal.folder ≡ F.history self.old.journal.folder }
+        ensures same { self.new ≡ record self.old { journal = record self.old.journal { folder = self.new.journal.folder } } }
+        ensures has { (told waiting : Puts) → Has F.history told waiting self.old → Has F.history told waiting self.new }
+    {
+        if self.journal.failed {
+            return Ok(());
+        }
+        self.journal.publish()
     }
 
     /// Removes segments that every consumer has passed: `passed` is the least of their positions. The newest stays.

@@ -2,11 +2,11 @@
 
 use crate::digest::Digest;
 use crate::failure::Failure;
-use amqp_endpoint::Config;
+use amqp_endpoint::{Config, Endpoint};
 use amqp_hub::{Hub, Keeper, Origin, Progress};
 use amqp_perform::Outcome;
 use amqp_serve::Rule;
-use std::alloc::{AllocError, Global};
+use std::alloc::{AllocError, Allocator, Global};
 
 /// The credit of a link, which is topped up once half of it is left.
 const CREDIT: u32 = 16;
@@ -34,7 +34,7 @@ impl Keeper for Digester {
 
     ghost holds = { λ _. 0 };
 
-    ghost accepts = { λ _ _ _ _. Unit {0} };
+    ghost accepts = { λ _ _ _ _ _. Unit {0} };
 
     ghost makes_room = { λ old p new. (p ≡ Out) × (new ≡ old) };
 
@@ -42,7 +42,7 @@ impl Keeper for Digester {
 
     ghost settled_is_taken = { λ _ is. nothing_known is };
 
-    ghost accepted_is_put = { λ _ _ origin bytes _. accepts_more origin bytes };
+    ghost accepted_is_put = { λ _ _ origin _ bytes _. accepts_more origin bytes };
 
     ghost room_is_made = { λ _ _ p x. comes_so p x.0 };
 
@@ -52,7 +52,12 @@ impl Keeper for Digester {
         true
     }
 
-    fn put(&mut self, _origin: Origin, record: &[u8]) -> Result<(), AllocError> {
+    fn put<A: Allocator + Copy>(
+        &mut self,
+        _origin: Origin,
+        _endpoint: &Endpoint<A>,
+        record: &[u8],
+    ) -> Result<(), AllocError> {
         self.digest.add(record);
         Ok(())
     }

@@ -80,7 +80,7 @@ fn assert_told(
 /// With no option two sessions and eight links of one are served.
 #[test]
 fn a_gateway_serves_two_sessions_and_eight_links(rt: HostRuntime) -> Result<(), Fail> {
-    let more = ["--records=a.amqp", "--events=-"];
+    let more = ["--idle=60", "--events=-"];
     for line in [
         "1 0ms session 1 began",
         "1 0ms link \"h\" began in session 0",
@@ -106,7 +106,7 @@ fn a_gateway_refuses_a_session_or_a_link_too_many(rt: HostRuntime) -> Result<(),
         ("--links=1", 1, 2),
         ("--links=64", 1, 65),
     ] {
-        assert_told(&rt, &rt, ["--records=a.amqp", word], sessions, links, lines)?;
+        assert_told(&rt, &rt, ["--idle=60", word], sessions, links, lines)?;
     }
     Ok(())
 }
@@ -121,14 +121,7 @@ fn a_gateway_serves_as_many_as_an_option_says(rt: HostRuntime) -> Result<(), Fai
         ("--links=64", 2, 64),
     ] {
         let closed = ["connection 1: opened by \"a\"", "connection 1: Closed"];
-        assert_told(
-            &rt,
-            &rt,
-            ["--records=a.amqp", word],
-            sessions,
-            links,
-            closed,
-        )?;
+        assert_told(&rt, &rt, ["--idle=60", word], sessions, links, closed)?;
     }
     Ok(())
 }

@@ -6,13 +6,14 @@ use amqp_commands::Exclusive;
 use amqp_commands::run::run;
 use amqp_frame::HEADER;
 use std::alloc::{Alloc, AllocError, Allocator, Global};
-use std::cell::{Cell, RefCell};
+use std::cell::RefCell;
 use std::env::FillError;
 use std::fmt::Display;
 use std::fs::{Metadata, OpenFile, OpenOptions};
 use std::io::{self, BufRead, ErrorKind, Input, Read, Seek, SeekFrom, Write};
 use std::net::{Net, SocketAddr, TcpListener, TcpStream};
 use std::process::{Abort, ExitCode};
+use std::random::RandomSource;
 use std::rt::{Env, Files};
 use std::str::Split;
 use std::test::Fail;
@@ -21,49 +22,32 @@ use std::time::{Clock, Duration};
 /// What became of the files of a disk.
 #[derive(Drop)]
 struct Disk {
-    cut_to: Cell<u64>,
     appended: RefCell<Vec<u8>>,
-    aside: RefCell<Vec<u8>>,
     /// The file of metrics that is written, and the one that stands in its place.
     written: RefCell<Vec<u8>>,
     metrics: RefCell<Vec<u8>>,
-    /// Whether another has the file.
-    is_busy: bool,
 }
 
 /// A file of a disk.
 #[derive(Clone, Copy)]
 enum Place {
-    Records,
-    Aside,
+    Given,
     Metrics,
 }
 
 impl Disk {
     fn new(alloc: Global) -> Disk {
         Disk {
-            cut_to: Cell::new(0),
             appended: RefCell::new(Vec::new(alloc)),
-            aside: RefCell::new(Vec::new(alloc)),
             written: RefCell::new(Vec::new(alloc)),
             metrics: RefCell::new(Vec::new(alloc)),
-            is_busy: false,
         }
     }
 
     fn file(&self, place: Place) -> &RefCell<Vec<u8>> {
         match place {
-            Place::Records => &self.appended,
-            Place::Aside => &self.aside,
+            Place::Given => &self.appended,
             Place::Metrics => &self.written,
-        }
-    }
-
-    /// Whether a file has these bytes.
-    fn has(&self, place: Place, bytes: &[u8]) -> bool {
-        match self.file(place).try_borrow() {
-            Ok(file) => file.as_slice() == bytes,
-            Err(_) => false,
         }
     }
 
@@ -136,14 +120,8 @@ impl OpenFile for Bytes<'_> {
         Err(io::Error::from(ErrorKind::Unsupported))
     }
 
-    fn set_len(&self, size: u64) -> io::Result<()> {
-        match self.disk {
-            Some(disk) => {
-                disk.cut_to.set(size);
-                Ok(())
-            }
-            None => Err(io::Error::from(ErrorKind::Unsupported)),
-        }
+    fn set_len(&self, _size: u64) -> io::Result<()> {
+        Err(io::Error::from(ErrorKind::Unsupported))
     }
 
     fn sync_all(&self) -> io::Result<()> {
@@ -156,11 +134,8 @@ impl OpenFile for Bytes<'_> {
 }
 
 impl Exclusive for Bytes<'_> {
-    fn hold(&self) -> bool {
-        match self.disk {
-            Some(disk) => !disk.is_busy,
-            None => true,
-        }
+    fn hold(&self) -> io::Result<bool> {
+        Ok(true)
     }
 }
 
@@ -249,7 +224,7 @@ impl Print for Host<'_> {
         let (taken, left) = bytes.split_at(self.room().min(bytes.len()));
         match std::str::from_utf8(taken) {
             Ok(text) => append(&self.out, text, "")?,
-            Err(_) => return Err(io::Error::from(ErrorKind::InvalidData)),
+            Err(_) => append(&self.out, "?", "")?, // what is no text
         }
         if left.is_empty() {
             Ok(())
@@ -318,10 +293,6 @@ impl<'a> Files for Host<'a> {
     fn open_file(&self, _how: &OpenOptions, path: &str) -> io::Result<Bytes<'a>> {
         match self.file {
             Some(file) if path == "a.amqp" => Ok(file),
-            Some(file) if path == "a.amqp.torn" => Ok(Bytes {
-                place: Place::Aside,
-                ..file
-            }),
             Some(file) if path == "m.prom.new" => Ok(Bytes {
                 place: Place::Metrics,
                 ..file
@@ -382,6 +353,13 @@ impl Clock for Host<'_> {
     }
 
     fn since_1970(&self) -> io::Result<Duration> {
+        Err(io::Error::from(ErrorKind::Unsupported))
+    }
+}
+
+/// It has no random bytes.
+impl RandomSource for Host<'_> {
+    fn fill_bytes(&self, _buf: &mut [u8]) -> io::Result<()> {
         Err(io::Error::from(ErrorKind::Unsupported))
     }
 }
@@ -482,7 +460,7 @@ fn whole<'a>(bytes: &'a [u8]) -> Option<Bytes<'a>> {
         bytes,
         is_broken: false,
         disk: None,
-        place: Place::Records,
+        place: Place::Given,
     })
 }
 
@@ -493,7 +471,7 @@ fn broken<'a>(bytes: &'a [u8]) -> Option<Bytes<'a>> {
         bytes,
         is_broken: true,
         disk: None,
-        place: Place::Records,
+        place: Place::Given,
     })
 }
 
@@ -504,7 +482,7 @@ fn kept<'a>(disk: &'a Disk, bytes: &'a [u8]) -> Option<Bytes<'a>> {
         bytes,
         is_broken: false,
         disk: Some(disk),
-        place: Place::Records,
+        place: Place::Given,
     })
 }
 
@@ -780,11 +758,18 @@ fn answers_a_command_line(rt: HostRuntime) {
     let alloc = rt.alloc();
     let host = host_of(alloc, &["amqp", "--version"], None);
     assert_ends(&rt, host, ExitCode::SUCCESS, "amqp 0.1.0\n", "");
-    let lines: [&[&str]; 17] = [
+    let lines: [&[&str]; 26] = [
         &["amqp"],
         &["amqp", "records"],
         &["amqp", "records", "a", "--only", "0"],
         &["amqp", "records", "a", "--json", "--only", "1"],
+        &["amqp", "records", "a", "--spool", "b"],
+        &["amqp", "records", "a", "--after", "1"],
+        &["amqp", "records", "--spool", "a", "--after", "-1"],
+        &["amqp", "records", "--spool", "a", "--blocks"],
+        &["amqp", "records", "--spool", "a", "--only", "1"],
+        &["amqp", "spool"],
+        &["amqp", "spool", "check"],
         &["amqp", "dump"],
         &["amqp", "dump", "a", "b"],
         &["amqp", "replay"],
@@ -798,11 +783,35 @@ fn answers_a_command_line(rt: HostRuntime) {
         &["amqp", "gateway", "--listen", "a:1", "--links", "0"],
         &["amqp", "gateway", "--listen", "a:1", "--links", "65"],
         &["amqp", "gateway", "--listen", "a:1", "--links", "x"],
+        &["amqp", "gateway", "--listen", "a:1", "--spool", "a"],
+        &["amqp", "gateway", "--listen", "a:1", "--bytes", "1"],
     ];
     for words in lines {
         let host = host_of(alloc, words, None);
         assert!(rt; run(&host) == ExitCode::from(2));
         assert_eq!(rt; host.out.into_inner().as_str(), "");
+    }
+}
+
+/// An option that is gone is refused with what is there in its place.
+#[test]
+fn tells_what_stands_for_an_option_that_is_gone(rt: HostRuntime) {
+    let gateway = ["amqp", "gateway", "--listen", "a:1"];
+    let [amqp, name, listen, address] = gateway;
+    let file = [amqp, name, listen, address, "--records", "b"];
+    let sync = [amqp, name, listen, address, "--sync"];
+    for (words, err) in [
+        (
+            file.as_slice(),
+            "error: --records is gone: use --spool DIR --bytes D\n",
+        ),
+        (
+            sync.as_slice(),
+            "error: --sync is gone: use --spool DIR --bytes D\n",
+        ),
+    ] {
+        let host = host_of(rt.alloc(), words, None);
+        assert_ends(&rt, host, ExitCode::from(2), "", err);
     }
 }
 
@@ -956,12 +965,29 @@ fn ran_with<'a>(
     ran(&host)
 }
 
+/// Runs a gateway with a spool of these sizes, to which the peer comes that sends [`STREAM`].
+fn gateway_spooled(rt: &HostRuntime, sizes: [&str; 2], disk: &Disk) -> io::Result<Left> {
+    let address = free_port(rt)?;
+    let at = format!(in rt.alloc(); "{address}")?;
+    let words = [
+        "amqp",
+        "gateway",
+        "--listen",
+        at.as_str(),
+        "--spool",
+        "d",
+        sizes[0],
+        sizes[1],
+    ];
+    ran_with(rt, &words, address, STREAM, kept(disk, b""))
+}
+
 /// Runs a gateway with two words more, to which the peer comes that sends [`STREAM`].
 fn gateway_ran(rt: &HostRuntime, more: [&str; 2], disk: &Disk, bytes: &[u8]) -> io::Result<Left> {
     gateway_heard(rt, more, STREAM, disk, bytes)
 }
 
-/// Runs a gateway with two words more, whose file of records is empty, to which a peer comes that sends a stream.
+/// Runs a gateway with two words more, to which a peer comes that sends a stream.
 pub fn gateway_served(rt: &HostRuntime, more: [&str; 2], stream: &[u8]) -> io::Result<Left> {
     let disk = Disk::new(rt.alloc());
     gateway_heard(rt, more, stream, &disk, b"")
@@ -984,40 +1010,29 @@ fn a_gateway_tells_the_bound_of_its_limits(rt: HostRuntime) -> Result<(), Fail> 
 const SERVED: &[u8] =
     b"\x00\x00\x00\x00\x00\x00\x00\x01\x00\x00\x00\x26\x00\x00\x00\x00\x00\x00\x00\x00\x00\x00\x00\x00\x00\x00\x00\x00\x00\x01\x78\x00\x00\x00\x00\x00\x00\x00\x00\x00\x01\x00\x00\x00\x00\x00\x00\x00\x01\x78";
 
-/// A block, and the first 20 bytes of it once more.
-const TORN: &[u8] =
-    b"\x00\x00\x00\x00\x00\x00\x00\x07\x00\x00\x00\x1c\x00\x01\x00\x00\x00\x02\x00\x00\x00\x03\x00\x00\x00\x00\x00\x00\x00\x0a\x00Su\xa0\x05hello\x00\x00\x00\x00\x00\x00\x00\x07\x00\x00\x00\x1c\x00\x01\x00\x00\x00\x02\x00\x00";
-
-/// A block, and bytes that are none.
-const MIXED: &[u8] =
-    b"\x00\x00\x00\x00\x00\x00\x00\x07\x00\x00\x00\x1c\x00\x01\x00\x00\x00\x02\x00\x00\x00\x03\x00\x00\x00\x00\x00\x00\x00\x0a\x00Su\xa0\x05helloAMQP\x00\x01\x00\x00\x00\x00\x00\x00";
-
-const CUT_OFF: &str =
-    "records: 20 bytes of a block that was not written to its end are cut off, and stand in a.amqp.torn";
-
-/// Asserts to which length the file of a disk was cut, what was set aside, and what was appended.
-fn assert_left(rt: &impl Abort, disk: &Disk, cut_to: u64, aside: &[u8], appended: &[u8]) {
-    assert_eq!(rt; disk.cut_to.get(), cut_to);
-    assert!(rt; disk.has(Place::Aside, aside) && disk.has(Place::Records, appended));
-}
-
-/// A file of records is gone through at the start: a block that was not written to its end is set aside and cut off, and bytes that
-/// are no block stay, and end it. One that another has is not touched.
+/// A spool that can't be had is a fault that says what would do, and nothing is served.
 #[test]
-fn a_gateway_goes_through_its_file(rt: HostRuntime) -> Result<(), Fail> {
-    let (good, bad) = (ExitCode::SUCCESS, ExitCode::FAILURE);
-    let (torn, none) = (&TORN[40..], b"".as_slice());
-    for (bytes, is_busy, status, line, cut_to, aside, appended) in [
-        (BLOCK, false, good, "connection 1: Closed", 0, none, SERVED),
-        (TORN, false, good, CUT_OFF, 40, torn, SERVED),
-        (TORN, true, bad, "fault: Open", 0, none, none),
-        (MIXED, false, bad, "fault: 40 Block", 0, none, none),
+fn a_gateway_says_what_its_spool_needs(rt: HostRuntime) -> Result<(), Fail> {
+    for (bytes, segment, line) in [
+        // 3 * 67108864 + 32000 * (32768 + 1923 + 112) + 1048576 + 112 + 32768 + 65536
+        (
+            "--bytes=1316169583",
+            "--segment=67108864",
+            "fault: Bound: --bytes 1316169584 would do",
+        ),
+        (
+            "--bytes=2000000000",
+            "--segment=1048687",
+            "fault: Bound: --segment 1048688 would do",
+        ),
+        ("--bytes=1316169584", "--segment=67108864", "fault: Random"),
     ] {
-        let mut disk = Disk::new(rt.alloc());
-        disk.is_busy = is_busy;
-        let left = gateway_ran(&rt, ["--records", "a.amqp"], &disk, bytes)?;
-        assert!(rt; left.status == status && has_line(&left.told, line));
-        assert_left(&rt, &disk, cut_to, aside, appended);
+        let disk = Disk::new(rt.alloc());
+        let left = gateway_spooled(&rt, [bytes, segment], &disk)?;
+        assert!(rt;
+            left.status == ExitCode::FAILURE && has_line(&left.told, line),
+            "{line}"
+        );
     }
     Ok(())
 }

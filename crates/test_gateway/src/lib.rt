@@ -3,6 +3,10 @@
 #![tactic(auto)]
 
 #[cfg(test)]
+mod full_disk;
+#[cfg(test)]
 mod scene;
+#[cfg(test)]
+mod spool_turns;
 #[cfg(test)]
 mod turns;

@@ -2,8 +2,9 @@
 
 use amqp_endpoint::Config;
 use amqp_gateway::{
-    Gateway, GatewayFault, Settings, Sink, Unwatched, link_most, outlet_most, peer_most,
+    Gateway, GatewayFault, Outlet, Settings, Sink, Unwatched, link_most, outlet_most, peer_most,
 };
+use amqp_hub::Keeper;
 use amqp_perform::Outcome;
 use amqp_serve::Rule;
 use mio::net::TcpListener;
@@ -214,29 +215,31 @@ const SETTINGS: Settings = Settings {
     idle: 10_000,
     slow: 3_000,
     grace: 2_000,
-    sync: true,
 };
 
 /// A gateway, at a moment.
 #[derive(Drop)]
-pub struct Scene<'a> {
-    pub gateway: Gateway<Shared<'a>, Unwatched>,
+pub struct Scene<K: Keeper + Drop> {
+    pub gateway: Gateway<K, Unwatched>,
     pub log: Log,
     /// What a peer holds at most.
     pub bound: u64,
-    /// How many bytes of records may wait for the sink.
+    /// How many bytes of records may wait for a sink.
     pub records: u64,
     address: SocketAddr,
     now: u64,
 }
 
-impl<'a> Scene<'a> {
+/// One whose records go to a store.
+pub type Stored<'a> = Scene<Outlet<Shared<'a>>>;
+
+impl<'a> Scene<Outlet<Shared<'a>>> {
     /// One with this many peers at a time.
     pub fn new(
         rt: &HostRuntime,
         store: &'a RefCell<Store>,
         open: usize,
-    ) -> Result<Scene<'a>, Fail> {
+    ) -> Result<Stored<'a>, Fail> {
         Scene::with(rt, store, open, true)
     }
 
@@ -246,7 +249,7 @@ impl<'a> Scene<'a> {
         store: &'a RefCell<Store>,
         open: usize,
         sync: bool,
-    ) -> Result<Scene<'a>, Fail> {
+    ) -> Result<Stored<'a>, Fail> {
         Scene::sized(rt, store, open, sync, 512)
     }
 
@@ -257,7 +260,19 @@ impl<'a> Scene<'a> {
         open: usize,
         sync: bool,
         frame: u32,
-    ) -> Result<Scene<'a>, Fail> {
+    ) -> Result<Stored<'a>, Fail> {
+        Scene::of(
+            rt,
+            Outlet::new(rt.alloc(), Shared(store), sync),
+            open,
+            frame,
+        )
+    }
+}
+
+impl<K: Keeper + Drop> Scene<K> {
+    /// One with this keeper and this many peers at a time, which may send frames of this many bytes.
+    pub fn of(rt: &HostRuntime, keeper: K, open: usize, frame: u32) -> Result<Scene<K>, Fail> {
         let alloc = rt.alloc();
         let listener = net::TcpListener::bind(rt, SocketAddr::from((Ipv4Addr::LOCALHOST, 0)))?;
         let address = listener.local_addr()?;
@@ -275,19 +290,9 @@ impl<'a> Scene<'a> {
         let listener = TcpListener::from_std(listener);
         let settings = Settings {
             peers: open,
-            sync,
             ..SETTINGS
         };
-        let gateway = Gateway::new(
-            rt,
-            listener,
-            config,
-            rule,
-            settings,
-            Shared(store),
-            Unwatched,
-            0,
-        );
+        let gateway = Gateway::new(rt, listener, config, rule, settings, keeper, Unwatched, 0);
         Ok(Scene {
             gateway: gateway.ok().ok_or("no gateway")?,
             log: Log::new(alloc),
@@ -331,6 +336,18 @@ pub fn times(bytes: &[u8], these: &[u8]) -> usize {
 /// Sends bytes to the gateway.
 pub fn send(stream: &mut TcpStream, bytes: &[u8]) -> io::Result<()> {
     stream.write_all(bytes)
+}
+
+/// Returns the bytes that have come to a peer whose connection stays open.
+pub fn heard(alloc: Global, stream: &mut TcpStream) -> io::Result<Vec<u8>> {
+    let mut bytes = Vec::new(alloc);
+    stream.set_nonblocking(true)?;
+    let end = stream.read_to_end(&mut bytes);
+    stream.set_nonblocking(false)?;
+    match end {
+        Err(error) if error.kind() != ErrorKind::WouldBlock => Err(error),
+        _ => Ok(bytes),
+    }
 }
 
 /// Returns all that a peer is sent, up to the end.

@@ -1,8 +1,8 @@
 //! Peers and gateway by turns.
 
 use crate::scene::{
-    ATTACHED, CLOSE, DELIVERED, EMPTY, FIRST, RECORD, RECORDS, STREAM, Scene, Store, Taking,
-    dispositions, hears_close, received, send, times,
+    ATTACHED, CLOSE, DELIVERED, EMPTY, FIRST, RECORD, RECORDS, STREAM, Scene, Store, Stored,
+    Taking, dispositions, hears_close, received, send, times,
 };
 use amqp_gateway::GatewayFault;
 use std::cell::RefCell;
@@ -35,7 +35,7 @@ fn assert_records(rt: &impl Abort, store: &Store) {
 fn records_stand_in_a_block_in(
     rt: &impl Abort,
     host: &HostRuntime,
-    scene: &mut Scene<'_>,
+    scene: &mut Stored<'_>,
 ) -> Result<(), Fail> {
     let mut peer = scene.peer(host, STREAM)?;
     assert!(rt; scene.turns(8, 1).is_ok());
@@ -54,7 +54,7 @@ fn a_silent_peer_is_closed(rt: HostRuntime) -> Result<(), Fail> {
 fn a_silent_peer_in(
     rt: &impl Abort,
     host: &HostRuntime,
-    scene: &mut Scene<'_>,
+    scene: &mut Stored<'_>,
 ) -> Result<(), Fail> {
     let mut peer = scene.peer(host, STREAM.get(..ATTACHED).unwrap_or(&[]))?;
     assert!(rt; scene.turns(4, 1).is_ok());
@@ -76,7 +76,7 @@ fn a_peer_that_does_not_open_is_closed(rt: HostRuntime) -> Result<(), Fail> {
 fn does_not_open_in(
     rt: &impl Abort,
     host: &HostRuntime,
-    scene: &mut Scene<'_>,
+    scene: &mut Stored<'_>,
 ) -> Result<(), Fail> {
     let mut peer = scene.peer(host, b"")?;
     for byte in STREAM.get(..12).unwrap_or(&[]) {
@@ -97,7 +97,7 @@ fn a_peer_that_was_ended_is_not_awaited_for_ever(rt: HostRuntime) -> Result<(), 
     was_ended_in(&rt, &rt, &mut Scene::new(&rt, &store, 3)?)
 }
 
-fn was_ended_in(rt: &impl Abort, host: &HostRuntime, scene: &mut Scene<'_>) -> Result<(), Fail> {
+fn was_ended_in(rt: &impl Abort, host: &HostRuntime, scene: &mut Stored<'_>) -> Result<(), Fail> {
     let mut peer = scene.peer(host, STREAM.get(..25).unwrap_or(&[]))?;
     assert!(rt; scene.turns(2, 1).is_ok());
     send(&mut peer, STREAM.get(8..25).unwrap_or(&[]))?;
@@ -119,7 +119,7 @@ fn a_peer_that_asks_for_it_hears_of_this_side(rt: HostRuntime) -> Result<(), Fai
     asks_for_it_in(&rt, &rt, &mut Scene::new(&rt, &store, 3)?)
 }
 
-fn asks_for_it_in(rt: &impl Abort, host: &HostRuntime, scene: &mut Scene<'_>) -> Result<(), Fail> {
+fn asks_for_it_in(rt: &impl Abort, host: &HostRuntime, scene: &mut Stored<'_>) -> Result<(), Fail> {
     let open =
         b"AMQP\x00\x01\x00\x00\x00\x00\x00\x19\x02\x00\x00\x00\x00\x53\x10\xc0\x0c\x05\xa1\x01\x61\x40\x40\x40\x70\x00\x00\x07\xd0";
     let mut peer = scene.peer(host, open)?;
@@ -138,7 +138,7 @@ fn a_long_open_is_read_whole(rt: HostRuntime) -> Result<(), Fail> {
     long_open_in(&rt, &rt, &mut Scene::sized(&rt, &store, 3, true, 65_536)?)
 }
 
-fn long_open_in(rt: &impl Abort, host: &HostRuntime, scene: &mut Scene<'_>) -> Result<(), Fail> {
+fn long_open_in(rt: &impl Abort, host: &HostRuntime, scene: &mut Stored<'_>) -> Result<(), Fail> {
     let mut peer = scene.peer(host, b"AMQP\x00\x01\x00\x00")?;
     let open = long_open();
     for part in open.chunks(20_000) {
@@ -190,7 +190,7 @@ fn holds_all_up_in(
     rt: &impl Abort,
     host: &HostRuntime,
     store: &RefCell<Store>,
-    scene: &mut Scene<'_>,
+    scene: &mut Stored<'_>,
     taking: Taking,
 ) -> Result<(), Fail> {
     let mut peer = scene.peer(host, STREAM.get(..DELIVERED).unwrap_or(&[]))?;
@@ -223,7 +223,7 @@ fn a_sink_that_fails_in(
     rt: &impl Abort,
     host: &HostRuntime,
     store: &RefCell<Store>,
-    scene: &mut Scene<'_>,
+    scene: &mut Stored<'_>,
     calls: usize,
 ) -> Result<(), Fail> {
     let mut peer = scene.peer(host, STREAM.get(..ATTACHED).unwrap_or(&[]))?;
@@ -236,7 +236,7 @@ fn a_sink_that_fails_in(
 
 fn it_ends(
     rt: &impl Abort,
-    scene: &mut Scene<'_>,
+    scene: &mut Stored<'_>,
     peer: &mut TcpStream,
     calls: usize,
 ) -> Result<(), Fail> {
@@ -285,7 +285,7 @@ fn is_not_awaited_in(
     rt: &impl Abort,
     host: &HostRuntime,
     store: &RefCell<Store>,
-    scene: &mut Scene<'_>,
+    scene: &mut Stored<'_>,
     taking: Taking,
 ) -> Result<(), Fail> {
     let mut peer = scene.peer(host, STREAM.get(..DELIVERED).unwrap_or(&[]))?;
@@ -313,7 +313,7 @@ fn a_few_bytes_in(
     rt: &impl Abort,
     host: &HostRuntime,
     store: &RefCell<Store>,
-    scene: &mut Scene<'_>,
+    scene: &mut Stored<'_>,
 ) -> Result<(), Fail> {
     let mut peer = scene.peer(host, STREAM)?;
     for _ in 0..7 {
@@ -345,7 +345,7 @@ fn peers_of_all_kinds_are_served_at_once(rt: HostRuntime) -> Result<(), Fail> {
     all_kinds_in(&rt, &rt, &mut Scene::new(&rt, &store, 16)?)
 }
 
-fn all_kinds_in(rt: &impl Abort, host: &HostRuntime, scene: &mut Scene<'_>) -> Result<(), Fail> {
+fn all_kinds_in(rt: &impl Abort, host: &HostRuntime, scene: &mut Stored<'_>) -> Result<(), Fail> {
     let mut good = peers(host, scene, &[STREAM; 4])?;
     let mut slow = scene.peer(host, &[])?;
     let _silent = scene.peer(host, b"AMQP\x00\x01\x00\x00")?;
@@ -356,7 +356,11 @@ fn all_kinds_in(rt: &impl Abort, host: &HostRuntime, scene: &mut Scene<'_>) -> R
 }
 
 /// Returns a peer for each of these streams, which it has sent.
-fn peers(host: &HostRuntime, scene: &Scene<'_>, streams: &[&[u8]]) -> Result<Vec<TcpStream>, Fail> {
+fn peers(
+    host: &HostRuntime,
+    scene: &Stored<'_>,
+    streams: &[&[u8]],
+) -> Result<Vec<TcpStream>, Fail> {
     let mut peers = Vec::new(host.alloc());
     for stream in streams {
         peers.push(scene.peer(host, stream)?)?;
@@ -368,7 +372,7 @@ fn peers(host: &HostRuntime, scene: &Scene<'_>, streams: &[&[u8]]) -> Result<Vec
 fn bad_ones_leave(
     rt: &impl Abort,
     host: &HostRuntime,
-    scene: &mut Scene<'_>,
+    scene: &mut Stored<'_>,
     slow: &mut TcpStream,
 ) -> Result<(), Fail> {
     let attached = STREAM.get(..ATTACHED).unwrap_or(&[]);
@@ -380,7 +384,7 @@ fn bad_ones_leave(
 
 fn bad_ones_send(
     rt: &impl Abort,
-    scene: &mut Scene<'_>,
+    scene: &mut Stored<'_>,
     slow: &mut TcpStream,
     endless: &mut TcpStream,
     flood: &mut TcpStream,
@@ -400,7 +404,7 @@ fn bad_ones_send(
 fn good_ones_get_all(
     rt: &impl Abort,
     host: &HostRuntime,
-    scene: &mut Scene<'_>,
+    scene: &mut Stored<'_>,
     good: &mut [TcpStream],
     slow: &mut TcpStream,
 ) -> Result<(), Fail> {
@@ -416,7 +420,7 @@ fn good_ones_get_all(
     Ok(())
 }
 
-fn each_other_ends(rt: &impl Abort, scene: &mut Scene<'_>) {
+fn each_other_ends(rt: &impl Abort, scene: &mut Stored<'_>) {
     assert_eq!(rt;
         scene
             .log
@@ -437,7 +441,7 @@ fn many_short_frames_are_heard_in_parts(rt: HostRuntime) -> Result<(), Fail> {
 fn heard_in_parts_in(
     rt: &impl Abort,
     host: &HostRuntime,
-    scene: &mut Scene<'_>,
+    scene: &mut Stored<'_>,
 ) -> Result<(), Fail> {
     let mut flood = scene.peer(host, STREAM.get(..ATTACHED).unwrap_or(&[]))?;
     assert!(rt; scene.turns(2, 1).is_ok());
@@ -473,7 +477,7 @@ fn a_peer_too_many_waits(rt: HostRuntime) -> Result<(), Fail> {
     too_many_in(&rt, &rt, &mut Scene::new(&rt, &store, 3)?)
 }
 
-fn too_many_in(rt: &impl Abort, host: &HostRuntime, scene: &mut Scene<'_>) -> Result<(), Fail> {
+fn too_many_in(rt: &impl Abort, host: &HostRuntime, scene: &mut Stored<'_>) -> Result<(), Fail> {
     let mut first = scene.peer(host, STREAM.get(..DELIVERED).unwrap_or(&[]))?;
     let attached = STREAM.get(..ATTACHED).unwrap_or(&[]);
     let _others = peers(host, scene, &[attached, b"AMQP\x00\x01\x00\x00", STREAM])?;
@@ -482,7 +486,7 @@ fn too_many_in(rt: &impl Abort, host: &HostRuntime, scene: &mut Scene<'_>) -> Re
 
 fn the_fourth_waits(
     rt: &impl Abort,
-    scene: &mut Scene<'_>,
+    scene: &mut Stored<'_>,
     first: &mut TcpStream,
 ) -> Result<(), Fail> {
     assert!(rt; scene.turns(6, 1).is_ok());

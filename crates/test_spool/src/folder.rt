@@ -22,7 +22,7 @@ pub enum Call {
 }
 
 /// What a folder may still be asked.
-#[derive(Clone, Copy, PartialEq, Eq)]
+#[derive(Clone, Copy)]
 enum State {
     Well,
     /// No write or sync of the newest segment, until one is added.

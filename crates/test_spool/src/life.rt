@@ -5,7 +5,7 @@ ghost use Rattle.amqp_spool.specs.Reads.{IsFound};
 ghost use Rattle.amqp_spool.specs.Spools.{IsNew};
 ghost use Rattle.std.specs.Prelude.{IfErr};
 
-use amqp_spool::{Folder, Introduction, JournalFault, OpenFault, PutFault, Spool};
+use amqp_spool::{Call, Folder, Introduction, JournalFault, OpenFault, PutFault, Spool, run};
 use std::alloc::{AllocError, Global};
 use std::marker::Model;
 
@@ -43,28 +43,32 @@ impl<F: Folder + Drop> Life<F> {
         }
     }
 
-    /// Opens a link of this connection and name, and returns its number.
-    pub fn open_link(&mut self, connection: u64, name: &str) -> Result<u32, OpenFault> {
-        self.spool.open_link(&Introduction {
-            link: 0,
-            connection,
-            peer: b"::1",
-            container: b"c",
-            name: name.as_bytes(),
-            user: b"",
-            kind: 0,
-            target: b"q",
-        })
+    pub fn open_link(&mut self, from: &Introduction) -> Result<u32, OpenFault> {
+        self.spool.open_link(from)
     }
 
     pub fn close_link(&mut self, link: u32) {
         self.spool.close_link(link);
     }
 
-    /// Puts a message of a link, with the tag `t`.
-    pub fn put(&mut self, alloc: Global, link: u32, message: &str) -> Result<(), PutFault> {
+    /// Puts a message of a link, without so many bytes at the end of its record.
+    pub fn put(
+        &mut self,
+        alloc: Global,
+        link: u32,
+        tag: &str,
+        message: &str,
+        cut: usize,
+    ) -> Result<(), PutFault> {
         let record = record_of(alloc, message)?;
-        self.spool.put(link, b"t", &record)
+        let len = record.len().saturating_sub(cut);
+        let bytes = record.get(..len).unwrap_or(&[]);
+        self.spool.put(link, tag.as_bytes(), bytes)
+    }
+
+    /// Makes these calls, whatever they answer.
+    pub fn run(&mut self, calls: &[Call]) {
+        run(&mut self.spool, calls);
     }
 
     pub fn settle(&mut self, arrived: u64, secret: [u8; 16]) -> Result<(), JournalFault> {
@@ -85,6 +89,15 @@ impl<F: Folder + Drop> Life<F> {
 
     pub fn is_settled(&self) -> bool {
         self.spool.is_settled()
+    }
+
+    /// Returns how many bytes wait.
+    pub fn held(&self) -> u64 {
+        self.spool.held()
+    }
+
+    pub fn is_open(&self, link: u32) -> bool {
+        self.spool.links().get(link).is_some()
     }
 }
 

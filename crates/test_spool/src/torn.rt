@@ -2,7 +2,6 @@
 
 use crate::segment::{Segment, after_head};
 use amqp_spool::{HEAD, Head, Scanned, scan};
-use std::alloc::Global;
 use test_row_files::Miss;
 
 /// Where the last batch of a segment begins and ends.
@@ -14,20 +13,20 @@ struct Last {
     first: u64,
 }
 
-/// Cuts a segment before each byte of its last batch, and turns a bit of each of them, and scans what is left.
-/// Returns how many of these found the batches before it and no more, and where those end.
-pub fn found(alloc: Global, bytes: &[u8]) -> Result<String, Miss> {
+/// Cuts a segment before each byte of its last batch, and turns a bit of each of them, and scans what is left. Puts how
+/// many of these found the batches before it and no more, and where those end.
+pub fn put_found(bytes: &mut [u8], out: &mut String) -> Result<(), Miss> {
     let last = last_of(bytes)?;
     let head = Head::read(bytes).ok_or("no head")?;
     let wanted = Scanned {
         end: last.place.saturating_sub(HEAD),
         next: last.first,
     };
-    let cuts = cuts_found(&head, bytes, &last, wanted);
-    let mut turned = Vec::from_slice(alloc, bytes)?;
-    let bits = bits_found(&head, &mut turned, &last, wanted);
+    let cuts = cuts_found(&head, bytes, last, wanted);
+    let bits = bits_found(&head, bytes, last, wanted);
     let (place, first) = (last.place, last.first);
-    Ok(format!(in alloc; "{cuts} cuts {bits} bits {place} {first}")?)
+    write!(out, "{cuts} cuts {bits} bits {place} {first}")?;
+    Ok(())
 }
 
 fn last_of(bytes: &[u8]) -> Result<Last, Miss> {
@@ -47,7 +46,7 @@ fn last_of(bytes: &[u8]) -> Result<Last, Miss> {
 }
 
 /// Cuts a segment before each byte of its last batch. Returns how many scans found what is wanted.
-fn cuts_found(head: &Head, bytes: &[u8], last: &Last, wanted: Scanned) -> usize {
+fn cuts_found(head: &Head, bytes: &[u8], last: Last, wanted: Scanned) -> usize {
     let mut count = 0usize;
     for at in last.place..last.end {
         let cut = bytes.get(..at).unwrap_or(&[]);
@@ -60,7 +59,7 @@ fn cuts_found(head: &Head, bytes: &[u8], last: &Last, wanted: Scanned) -> usize 
 
 /// Turns a bit of each byte of the last batch of a segment, and turns it back. Returns how many scans found what is
 /// wanted.
-fn bits_found(head: &Head, bytes: &mut Vec<u8>, last: &Last, wanted: Scanned) -> usize {
+fn bits_found(head: &Head, bytes: &mut [u8], last: Last, wanted: Scanned) -> usize {
     let mut count = 0usize;
     for at in last.place..last.end {
         turn(bytes, at);

@@ -6,7 +6,7 @@ use Rattle.amqp_gateway.proofs.gateway.Gateway.accept_some.Goals as goal
 use Rattle.amqp_gateway.proofs.gateway.Gateway.accept_some.Goals.{in-Ok+in_ok-open_one-in-Ok, in-Err, in-Err-2, in-Err-3}
 
 pub returns-in_err-open_one-in-Ok-clause-ran : goal.returns-in_err-open_one-in-Ok-clause-ran
-returns-in_err-open_one-in-Ok-clause-ran g c = went_on takes c.args.self.now.hub c.loop.self.hub c.open_one.new.self.hub c.loop.invariant.ran c.open_one.ensures.ran
+returns-in_err-open_one-in-Ok-clause-ran g c = went_on g.K.Keeper takes c.args.self.now.hub c.loop.self.hub c.open_one.new.self.hub c.loop.invariant.ran c.open_one.ensures.ran
 
 pub loop-preserved : goal.loop-preserved
 loop-preserved g c =
@@ -19,7 +19,7 @@ loop-preserved g c =
           rw w.self-is (record {
             turned = turned_then old at next so_far.turned w.open_one.ensures.turned;
             outlet = w.open_one.ensures.outlet ∙ so_far.outlet;
-            ran = went_on takes old.hub at.hub next.hub so_far.ran w.open_one.ensures.ran;
+            ran = went_on g.K.Keeper takes old.hub at.hub next.hub so_far.ran w.open_one.ensures.ran;
           })
       | in-Err w ↦ let same : c.match-accept.self ≡ at = cc (w.self-is, c.self.view_is) in rw same so_far
       | in-Err-2 w ↦ let same : c.match-accept.self ≡ at = cc (w.self-is, c.self.view_is) in rw same so_far

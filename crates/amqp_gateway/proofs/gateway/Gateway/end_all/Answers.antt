@@ -6,5 +6,5 @@ use Rattle.amqp_gateway.proofs.gateway.Gateway.end_all.Goals as goal
 pub loop-at-preserved : goal.loop-at-preserved
 loop-at-preserved g c = record {
   gone_on = gone_then c.args.self.now c.loop-at.self c.end_one.new.self c.loop-at.invariant.gone_on c.end_one.ensures.gone_on;
-  ran = went_on tells c.args.self.now.hub c.loop-at.self.hub c.end_one.new.self.hub c.loop-at.invariant.ran c.end_one.ensures.ran;
+  ran = went_on g.K.Keeper tells c.args.self.now.hub c.loop-at.self.hub c.end_one.new.self.hub c.loop-at.invariant.ran c.end_one.ensures.ran;
 }

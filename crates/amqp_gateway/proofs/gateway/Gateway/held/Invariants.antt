@@ -1,4 +1,4 @@
-use Rattle.std.proofs.Common.{◌≤◌, ◌+◌, ◌^◌, ◌-◌, min, length}
+use Rattle.std.proofs.Common.{◌≤◌, ◌+◌, ◌^◌, ◌-◌, min}
 use Rattle.amqp_hub.specs.Turns.{all_held}
 use Rattle.amqp_gateway.proofs.gateway.Gateway.held.Given as goal
 
@@ -6,5 +6,5 @@ abbrev pub invariant-loop-peer : goal.invariant-loop-peer
 invariant-loop-peer g l = record {
   can : (goal.iterator-loop-peer g).can_next l.peer-iterator;
   ends : (goal.iterator-loop-peer g).is_finite l.peer-iterator;
-  least : min (all_held l.fn.self.hub.members + length l.fn.self.hub.keeper.blocks.bytes) (2 ^ 64 - 1) ≤ l.sum;
+  least : min (all_held l.fn.self.hub.members + g.K.Keeper.holds l.fn.self.hub.keeper) (2 ^ 64 - 1) ≤ l.sum;
 }

@@ -11,16 +11,16 @@ returns-in_err-put-clause-ran g c =
     let hub = c.self.inside.desk.hub in
     let next = c.if-is_some.hub in
     let new = c.judge.new.hub in
-    let closed : Went tells hub next = elim c.if-is_some.branch [ then-is_some w ↦ rw w.hub-is w.close.ensures.ran | else-is_some w ↦ rw w.hub-is (went_none tells hub) ] in
-    went_from tells c.args.self.now.hub hub new (hub_of _ c.args.self.now c.self.view_is) (went_on tells hub next new closed c.judge.ensures.ran)
+    let closed : Went g.K.Keeper tells hub next = elim c.if-is_some.branch [ then-is_some w ↦ rw w.hub-is w.close.ensures.ran | else-is_some w ↦ rw w.hub-is (went_none g.K.Keeper tells hub) ] in
+    went_from g.K.Keeper tells c.args.self.now.hub hub new (hub_of _ c.args.self.now c.self.view_is) (went_on g.K.Keeper tells hub next new closed c.judge.ensures.ran)
 
 pub returns-in_ok-put-clause-ran : goal.returns-in_ok-put-clause-ran
 returns-in_ok-put-clause-ran g c =
     let hub = c.self.inside.desk.hub in
     let next = c.if-is_some.hub in
     let new = c.judge.new.hub in
-    let closed : Went tells hub next = elim c.if-is_some.branch [ then-is_some w ↦ rw w.hub-is w.close.ensures.ran | else-is_some w ↦ rw w.hub-is (went_none tells hub) ] in
-    went_from tells c.args.self.now.hub hub new (hub_of _ c.args.self.now c.self.view_is) (went_on tells hub next new closed c.judge.ensures.ran)
+    let closed : Went g.K.Keeper tells hub next = elim c.if-is_some.branch [ then-is_some w ↦ rw w.hub-is w.close.ensures.ran | else-is_some w ↦ rw w.hub-is (went_none g.K.Keeper tells hub) ] in
+    went_from g.K.Keeper tells c.args.self.now.hub hub new (hub_of _ c.args.self.now c.self.view_is) (went_on g.K.Keeper tells hub next new closed c.judge.ensures.ran)
 
 pub returns-else-speaks-clause-ran : goal.returns-else-speaks-clause-ran
 returns-else-speaks-clause-ran g c =
@@ -28,9 +28,9 @@ returns-else-speaks-clause-ran g c =
     let hub = c.self.inside.desk.hub in
     let next = c.if-is_some.hub in
     let new = c.judge.new.hub in
-    let closed : Went tells hub next = elim c.if-is_some.branch [ then-is_some w ↦ rw w.hub-is w.close.ensures.ran | else-is_some w ↦ rw w.hub-is (went_none tells hub) ] in
-    let ran = went_from tells old hub new (hub_of _ c.args.self.now c.self.view_is) (went_on tells hub next new closed c.judge.ensures.ran) in
+    let closed : Went g.K.Keeper tells hub next = elim c.if-is_some.branch [ then-is_some w ↦ rw w.hub-is w.close.ensures.ran | else-is_some w ↦ rw w.hub-is (went_none g.K.Keeper tells hub) ] in
+    let ran = went_from g.K.Keeper tells old hub new (hub_of _ c.args.self.now c.self.view_is) (went_on g.K.Keeper tells hub next new closed c.judge.ensures.ran) in
     elim c.else-speaks.branch [
-      | else-speaks-via-then-speaks+else-queue w ↦ subst (λ (s : GatewayState). Went tells old s.hub) (sym w.self-is) ran
-      | else-speaks-via-else-speaks w ↦ subst (λ (s : GatewayState). Went tells old s.hub) (sym w.self-is) ran
+      | else-speaks-via-then-speaks+else-queue w ↦ subst (λ (s : GatewayState _). Went g.K.Keeper tells old s.hub) (sym w.self-is) ran
+      | else-speaks-via-else-speaks w ↦ subst (λ (s : GatewayState _). Went g.K.Keeper tells old s.hub) (sym w.self-is) ran
     ]

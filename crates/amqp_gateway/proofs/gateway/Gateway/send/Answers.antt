@@ -7,4 +7,4 @@ pub returns-in-Over-clause-ran : goal.returns-in-Over-clause-ran
 returns-in-Over-clause-ran g c =
     let hub = c.self.inside.desk.hub in
     let new = c.remove.new.self.hub in
-    went_from tells c.args.self.now.hub hub new (hub_of _ c.args.self.now c.self.view_is) (went_on tells hub c.send.new.hub new c.send.ensures.ran c.remove.ensures.ran)
+    went_from g.K.Keeper tells c.args.self.now.hub hub new (hub_of _ c.args.self.now c.self.view_is) (went_on g.K.Keeper tells hub c.send.new.hub new c.send.ensures.ran c.remove.ensures.ran)

@@ -6,7 +6,7 @@ use Rattle.amqp_gateway.proofs.gateway.Gateway.send_all.Goals as goal
 use Rattle.amqp_gateway.proofs.gateway.Gateway.send_all.Goals.{in-Some+in_ok-send, in_default}
 
 pub returns-in_err-send-clause-ran : goal.returns-in_err-send-clause-ran
-returns-in_err-send-clause-ran g c = went_on tells c.args.self.now.hub c.loop-place.self.hub c.send.new.self.hub c.loop-place.invariant.ran c.send.ensures.ran
+returns-in_err-send-clause-ran g c = went_on g.K.Keeper tells c.args.self.now.hub c.loop-place.self.hub c.send.new.self.hub c.loop-place.invariant.ran c.send.ensures.ran
 
 pub loop-place-preserved : goal.loop-place-preserved
 loop-place-preserved g c =
@@ -19,7 +19,7 @@ loop-place-preserved g c =
           rw w.self-is (record {
             gone_on = gone_then old at next so_far.gone_on w.send.ensures.gone_on;
             outlet = w.send.ensures.outlet ∙ so_far.outlet;
-            ran = went_on tells old.hub at.hub next.hub so_far.ran w.send.ensures.ran;
+            ran = went_on g.K.Keeper tells old.hub at.hub next.hub so_far.ran w.send.ensures.ran;
           })
       | in_default w ↦ let same : c.match-copied.self ≡ at = cc (w.self-is, c.self-in-loop-place.view_is) in rw same so_far
     ]

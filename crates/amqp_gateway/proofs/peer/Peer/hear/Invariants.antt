@@ -5,6 +5,5 @@ use Rattle.amqp_gateway.proofs.peer.Peer.hear.Given as goal
 abbrev pub invariant-loop : goal.invariant-loop
 invariant-loop g l = record {
   accepted : l.desk.counts.accepted ≡ l.fn.desk.counts.accepted;
-  syncs : l.desk.hub.keeper.syncs ≡ l.fn.desk.hub.keeper.syncs;
-  ran : Went takes l.fn.desk.hub l.desk.hub;
+  ran : Went g.K.Keeper takes l.fn.desk.hub l.desk.hub;
 }

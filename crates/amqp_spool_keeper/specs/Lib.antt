@@ -1,0 +1,4 @@
+pub mod Senders
+pub mod Keeping
+pub mod Laws
+pub mod Sizing

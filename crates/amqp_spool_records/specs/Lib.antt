@@ -1,0 +1,5 @@
+pub mod Numbers
+pub mod Extents
+pub mod Damages
+pub mod Stops
+pub mod Listings

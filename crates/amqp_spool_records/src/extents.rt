@@ -1,0 +1,59 @@
+//! How far a segment counts.
+
+ghost use Rattle.std.specs.Prelude.{◌≡◌, ◌≢◌, Some, None};
+ghost use Rattle.amqp_spool_records.specs.declared.extents.Extent.{Extent};
+ghost use Rattle.amqp_spool.specs.declared.head.Head.{Head};
+ghost use Rattle.amqp_spool.specs.declared.end.End.{End};
+ghost use Rattle.amqp_spool_records.specs.Extents.{extent_before, extent_by};
+
+use amqp_spool::{End, HEAD, Head};
+
+/// How far a segment counts.
+#[derive(Clone, Copy, Debug, PartialEq, Eq)]
+pub struct Extent {
+    /// How many of its bytes count. Without it the whole batches do.
+    pub bytes: Option<u64>,
+    /// The number of the record after its last. Without it none is known.
+    pub next: Option<u64>,
+}
+
+/// Returns how far the segment that begins with the record `first` counts, if another with this head comes after it, which
+/// has the number `newer` in its name: as far as that head says, if it speaks of this one.
+pub fn extent_before(first: u64, newer: u64, head: Option<Head>) -> Extent
+    ensures { result ≡ extent_before first newer head }
+{
+    let bytes = match head {
+        Some(head) if head.before == first => Some(head.counted),
+        _ => None,
+    };
+    Extent {
+        bytes,
+        next: Some(newer),
+    }
+}
+
+/// Returns how far the newest segment counts, whose head this is, with this sum: as far as the published end says, if it
+/// speaks of this one. If it speaks of one that is newer and not there, the whole batches count, and if it speaks of one
+/// that was there before, nothing does.
+pub fn extent_by(first: u64, mark: u64, end: Option<End>) -> Extent
+    ensures { result ≡ extent_by first mark end }
+{
+    match end {
+        None => Extent {
+            bytes: None,
+            next: None,
+        },
+        Some(end) if end.first == first && end.mark == mark => Extent {
+            bytes: Some(end.place),
+            next: Some(end.next),
+        },
+        Some(end) if end.first > first => Extent {
+            bytes: None,
+            next: Some(end.first),
+        },
+        Some(_) => Extent {
+            bytes: Some(HEAD as u64),
+            next: Some(first),
+        },
+    }
+}
