@@ -97,6 +97,8 @@ pub struct Peer {
     owed: usize,
     /// Whether answers wait of which some bytes were sent, so that a frame may be cut in two.
     is_cut: bool,
+    /// Whether this side's open was sent [2.4.1].
+    is_greeted: bool,
     /// How often it was reported that this side ended something of it.
     told: u32,
     /// When it came, when something came from it, when something was written by the caller's time, and since when its
@@ -122,6 +124,7 @@ impl Peer {
             frame: [0; 8],
             owed: 0,
             is_cut: false,
+            is_greeted: false,
             told: 0,
             came: now.millis(),
             heard: now.millis(),
@@ -580,12 +583,17 @@ impl Peer {
         true
     }
 
+    /// Returns whether an empty frame may come before the answers that wait: after the open, and between two frames.
+    fn may_be_told(&self) -> bool {
+        self.is_greeted && !self.is_cut && self.owed == 0
+    }
+
     /// Returns the empty frame to send after the hub was asked for one. If answers wait of which nothing was sent, it
     /// comes before them.
     fn frame_by(&self, beat: Result<[u8; 8], HubFault>) -> Option<[u8; 8]> {
         match beat {
             Ok(frame) => Some(frame),
-            Err(HubFault::Unsent) if !self.is_cut && self.owed == 0 => Some(EMPTY_FRAME),
+            Err(HubFault::Unsent) if self.may_be_told() => Some(EMPTY_FRAME),
             Err(_) => None,
         }
     }
@@ -617,8 +625,14 @@ impl Peer {
         }
         let count = self.stream.write(front)?;
         hub.sent(key, count);
-        self.is_cut = hub.waits(key);
+        self.note_sent(hub, key);
         Ok(Some(count))
+    }
+
+    /// Notes what was sent of the answers. Once all were, and its open has come, so was the open that answers it.
+    fn note_sent<K: Keeper + Drop>(&mut self, hub: &Hub<K>, key: usize) {
+        self.is_cut = hub.waits(key);
+        self.is_greeted = self.is_greeted || !self.is_cut && self.is_open(hub);
     }
 
     /// Writes once of what is left of an empty frame.

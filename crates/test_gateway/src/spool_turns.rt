@@ -147,13 +147,16 @@ fn waits_for_room_in(
     let _ = heard(host.alloc(), &mut other)?;
     is_full.set(true);
     send(&mut peer, STREAM.get(ATTACHED..FIRST).unwrap_or(&[]))?;
+    let mut late = scene.peer(host, &with_time_out()?)?;
     assert!(rt; scene.turns(40, 1_000).is_ok());
+    assert!(rt; heard(host.alloc(), &mut late)?.is_empty()); // nothing comes before the header
     assert_eq!(rt; scene.gateway.held_up(), Some(HeldUp::Records));
-    assert_eq!(rt; (answered(host, &mut peer)?, scene.gateway.open()), (0, 2));
+    assert_eq!(rt; (answered(host, &mut peer)?, scene.gateway.open()), (0, 3));
     assert!(rt; times(&heard(host.alloc(), &mut other)?, EMPTY) >= 10);
     is_full.set(false);
     assert!(rt; scene.turns(4, 250).is_ok());
     assert_eq!(rt; scene.gateway.held_up(), None);
+    assert!(rt; heard(host.alloc(), &mut late)?.starts_with(b"AMQP"));
     assert_eq!(rt;
         (answered(host, &mut peer)?, records_in(host, path)?),
         (1, 1)
