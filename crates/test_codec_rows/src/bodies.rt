@@ -88,11 +88,20 @@ fn frame_of(
 pub fn write(alloc: Global, words: &str) -> Result<String, Miss> {
     let (channel, words) = cut(words, ' ')?;
     let (room, words) = cut(words, ' ')?;
+    let mut out = vec![in alloc; BLANK; parsed(room)?]?;
+    let len = write_read(alloc, parsed(channel)?, words, &mut out)?;
+    shown(alloc, len, &out)
+}
+
+/// Writes what a body says into a room. Returns how many bytes it has.
+fn write_read(alloc: Global, channel: u16, words: &str, out: &mut [u8]) -> Result<usize, Miss> {
     let body = bytes_of(alloc, words)?;
     let (performative, _) = body_of(&body).ok().ok_or("no such frame")?;
-    let mut out = vec![in alloc; BLANK; parsed(room)?]?;
-    let len = put(parsed(channel)?, &performative, &[], &mut out).ok_or("no such frame")?;
-    let room = words_of(alloc, &out)?;
+    put(channel, &performative, &[], out).ok_or(Miss::Unread("no such frame"))
+}
+
+fn shown(alloc: Global, len: usize, room: &[u8]) -> Result<String, Miss> {
+    let room = words_of(alloc, room)?;
     Ok(format!(in alloc; "{len} {room}")?)
 }
 

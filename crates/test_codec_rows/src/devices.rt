@@ -101,20 +101,20 @@ impl Marked {
                 let count = self.device.read(&mut self.room);
                 told(alloc, count)
             }
-            "write" => {
+            "write" | "put" | "put-all" => {
                 let bytes = vec![in alloc; 0u8; parsed(words)?]?;
-                told(alloc, self.device.write(&bytes))
-            }
-            "put" => {
-                let bytes = vec![in alloc; 0u8; parsed(words)?]?;
-                told(alloc, self.device.put(&bytes).ok_or(failure()))
-            }
-            "put-all" => {
-                let bytes = vec![in alloc; 0u8; parsed(words)?]?;
-                told_done(alloc, self.device.put_all(&bytes))
+                self.take(alloc, name, &bytes)
             }
             "flush" => told_done(alloc, self.device.flush().is_ok()),
             _ => Err(Miss::Unread("no such call")),
+        }
+    }
+
+    fn take(&mut self, alloc: Global, name: &str, bytes: &[u8]) -> Result<String, Miss> {
+        match name {
+            "write" => told(alloc, self.device.write(bytes)),
+            "put" => told(alloc, self.device.put(bytes).ok_or(failure())),
+            _ => told_done(alloc, self.device.put_all(bytes)),
         }
     }
 

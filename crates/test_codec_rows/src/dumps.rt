@@ -26,16 +26,21 @@ pub fn value(alloc: Global, words: &str) -> Result<String, Miss> {
         .ok()
         .ok_or("too long")?
         .saturating_add(8);
-    let mut frame = Vec::from_slice(alloc, &size.to_be_bytes())?;
-    frame.extend_from_slice(&[2, 0, 0, 0])?;
-    frame.extend_from_slice(&body)?;
-    let line = lines_behind(alloc, &frame)?;
+    let line = framed(alloc, size, &body)?;
     let front = format!(in alloc; "8 size={size} channel=0 value ")?;
     let text = line.strip_prefix(front.as_str());
     match text.and_then(|text| text.strip_suffix(" payload=0")) {
         Some(text) => Ok(String::from_str(alloc, text)?),
         None => Ok(line),
     }
+}
+
+/// Returns the line of a frame of this size and body.
+fn framed(alloc: Global, size: u32, body: &[u8]) -> Result<String, Miss> {
+    let mut frame = Vec::from_slice(alloc, &size.to_be_bytes())?;
+    frame.extend_from_slice(&[2, 0, 0, 0])?;
+    frame.extend_from_slice(body)?;
+    lines_behind(alloc, &frame)
 }
 
 fn lines_behind(alloc: Global, bytes: &[u8]) -> Result<String, Miss> {

@@ -110,6 +110,12 @@ pub fn placed(alloc: Global, place: &str, inner: Value) -> Result<Value, Miss> {
         "entry" => Ok(Value::Map(vec![in alloc; (Value::Null, inner)]?)),
         "descriptor" => described(alloc, inner, Value::Null),
         "described" => described(alloc, Value::Null, inner),
+        _ => placed_in_array(alloc, place, inner),
+    }
+}
+
+fn placed_in_array(alloc: Global, place: &str, inner: Value) -> Result<Value, Miss> {
+    match place {
         "array-descriptor" => Ok(Value::Array {
             descriptors: vec![in alloc; inner]?,
             kind: Kind::Null,

@@ -21,7 +21,9 @@ use crate::devices::Marked;
 use crate::stream::Stream;
 use crate::values::Limited;
 use crate::words::parsed;
-use std::alloc::Global;
+use std::alloc::{AllocGlobal, Global};
+use std::io::Print;
+use std::rt::Files;
 use std::{env, fs};
 use test_heap::TestHeap;
 use test_row_files::words::name_of;
@@ -67,10 +69,7 @@ impl Subject for Codec<'_> {
 impl Codec<'_> {
     fn answer(&mut self, alloc: Global, name: &str, words: &str) -> Result<String, Miss> {
         match name {
-            "splitter" => {
-                self.state = State::Stream(Stream::new(self.heap, parsed(words)?)?);
-                Ok(String::from_str(alloc, "()")?)
-            }
+            "splitter" => self.split(alloc, words),
             "push" | "fill" | "each" | "drop" | "finish" => match &mut self.state {
                 State::Stream(stream) => stream.call(alloc, name, words),
                 _ => Err(Miss::Unread("no splitter")),
@@ -89,6 +88,11 @@ impl Codec<'_> {
             | "address" => of_frames(alloc, name, words),
             _ => of_values(alloc, name, words),
         }
+    }
+
+    fn split(&mut self, alloc: Global, words: &str) -> Result<String, Miss> {
+        self.state = State::Stream(Stream::new(self.heap, parsed(words)?)?);
+        Ok(String::from_str(alloc, "()")?)
     }
 
     fn on_device(&mut self, alloc: Global, words: &str) -> Result<String, Miss> {
@@ -155,10 +159,28 @@ fn main(rt: HostRuntime) -> Result<(), Miss> {
         state: State::Nothing,
     };
     for name in env::args(&rt)?.skip(1) {
-        let text = fs::read_to_string(&rt, name.as_str())?;
-        let file = RowFile::read(rt.alloc(), text.as_str())?;
-        let report = file.run(rt.alloc(), &heap, &mut codec)?;
-        rt.print(report.as_str())?;
+        run(&rt, name.as_str(), &heap, &mut codec)?;
     }
     Ok(())
+}
+
+fn run<R: Files + Print + AllocGlobal>(
+    rt: &R,
+    name: &str,
+    heap: Heap<'_>,
+    codec: &mut Codec<'_>,
+) -> Result<(), Miss> {
+    let text = fs::read_to_string(rt, name)?;
+    let report = report_of(rt.alloc(), text.as_str(), heap, codec)?;
+    rt.print(report.as_str())?;
+    Ok(())
+}
+
+fn report_of(
+    alloc: Global,
+    text: &str,
+    heap: Heap<'_>,
+    codec: &mut Codec<'_>,
+) -> Result<String, Miss> {
+    RowFile::read(alloc, text)?.run(alloc, heap, codec)
 }

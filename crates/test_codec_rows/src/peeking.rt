@@ -29,10 +29,22 @@ fn put_into(case: &Peek<'_>, out: &mut [u8]) -> Option<usize> {
 pub fn put(alloc: Global, words: &str) -> Result<String, Miss> {
     let (name, rest) = words.split_once(' ').unwrap_or((words, ""));
     match name {
+        "symbol" | "binary" | "described" => put_bytes(alloc, name, &bytes_of(alloc, rest)?),
+        _ => put_plain(alloc, name, rest),
+    }
+}
+
+fn put_bytes(alloc: Global, name: &str, bytes: &[u8]) -> Result<String, Miss> {
+    match name {
+        "symbol" => put_case(alloc, &Peek::Symbol(bytes)),
+        "binary" => put_case(alloc, &Peek::Binary(bytes)),
+        _ => put_described(alloc, bytes),
+    }
+}
+
+fn put_plain(alloc: Global, name: &str, rest: &str) -> Result<String, Miss> {
+    match name {
         "string" => put_case(alloc, &Peek::String(rest)),
-        "symbol" => put_case(alloc, &Peek::Symbol(&bytes_of(alloc, rest)?)),
-        "binary" => put_case(alloc, &Peek::Binary(&bytes_of(alloc, rest)?)),
-        "described" => put_described(alloc, &bytes_of(alloc, rest)?),
         "null" => put_case(alloc, &Peek::Null),
         "boolean" => put_case(alloc, &Peek::Boolean(rest == "true")),
         "list" => put_case(alloc, &Peek::List(0, &[])),
