@@ -5,8 +5,9 @@
     abi.py --record    writes abi.txt anew, unless the soname's number has to be raised first
     abi.py --plant     tries that each kind of change is found
 
-It reads text alone: the exports and structs in crates/wuleshomia/src, what its numbers stand for in specs/Codes.antt, calls.c,
-wuleshomia.h, _native.py and _endpoint.py. It needs no compiler, no proof and no library.
+It reads text alone: the exports and structs in crates/wuleshomia/src, what its numbers stand for in specs/Codes.antt and Spools.antt,
+the sizes and the kinds of targets of a spool in the crates that have them, calls.c, wuleshomia.h, _native.py, _endpoint.py and _spool.py.
+It needs no compiler, no proof and no library.
 
 A call that may get NULL is exported as wuleshomia_NAME, and calls.c has wule_NAME over it.
 """
@@ -19,6 +20,7 @@ from pathlib import Path
 
 HERE = Path(__file__).resolve().parent
 CRATE = HERE.parent / "crates" / "wuleshomia"
+FORMAT = [f"amqp_spool/src/{name}.rt" for name in ("head", "batch_head", "end", "floor", "position")] + ["amqp_spool_records/src/target.rt"]
 PYTHON = HERE.parent / "python" / "src" / "wuleshomia"
 
 STRUCTS = {  # in Rattle: in C, in Python
@@ -31,11 +33,18 @@ STRUCTS = {  # in Rattle: in C, in Python
     "AddressReport": ("wule_address", "Address"),
     "ServeRule": ("wule_rule", "Rule"),
     "StepReport": ("wule_step", "Step"),
+    "Part": ("wule_part", "Part"),
+    "SpoolHead": ("wule_spool_head", "SpoolHead"),
+    "SpoolBatch": ("wule_spool_batch", "SpoolBatch"),
+    "SpoolEntry": ("wule_spool_entry", "SpoolEntry"),
+    "SpoolEnd": ("wule_spool_end", "SpoolEnd"),
+    "SpoolFloor": ("wule_spool_floor", "SpoolFloor"),
+    "SpoolPosition": ("wule_spool_position", "SpoolPosition"),
 }
-WORDS = {"u32": "uint32_t", "u64": "uint64_t", "usize": "size_t", "*mut u8": "void *", "[u8; 32]": "uint8_t[32]", "[u8; 256]": "uint8_t[256]"}
+WORDS = {"u32": "uint32_t", "u64": "uint64_t", "usize": "size_t", "*mut u8": "void *", "[u8; 16]": "uint8_t[16]", "[u8; 32]": "uint8_t[32]", "[u8; 256]": "uint8_t[256]"}
 PYTHON_WORDS = {
-    "void": "None", "uint32_t": "u32", "uint64_t": "c_uint64", "size_t": "c_size_t", "void *": "c_void_p", "uint8_t[32]": "c_uint8 * 32",
-    "uint8_t[256]": "c_uint8 * 256", "uint32_t *": "POINTER(u32)", "uint64_t *": "POINTER(c_uint64)", "size_t *": "POINTER(c_size_t)",
+    "void": "None", "uint32_t": "u32", "uint64_t": "c_uint64", "size_t": "c_size_t", "void *": "c_void_p", "uint8_t[16]": "c_uint8 * 16",
+    "uint8_t[32]": "c_uint8 * 32", "uint8_t[256]": "c_uint8 * 256", "uint32_t *": "POINTER(u32)", "uint64_t *": "POINTER(c_uint64)", "size_t *": "POINTER(c_size_t)",
     "const uint8_t *": "c_void_p", "uint8_t *": "c_void_p", "const char *": "c_char_p",
 }
 INNER = "wuleshomia_"  # begins the names of the exports that calls.c hands on to
@@ -56,7 +65,10 @@ ENUMS = [
     ("outcome_at", "wule_fed_outcome", "WULE_", None, 5),
     ("receipt_at", "wule_receipt", "WULE_RECEIPT_", "Receipt", 4),
     ("address_at", "wule_address_kind", "WULE_ADDRESS_", "AddressKind", 4),
+    ("entry_at", "wule_spool_kind", "WULE_SPOOL_", "_Kind", 2),
 ]
+# Enums whose numbers are those of a spool's format: their prefix in C, the enum in Python.
+FORMAT_ENUMS = {"wule_spool_size": ("WULE_SPOOL_", "_Size"), "wule_spool_target": ("WULE_SPOOL_", "TargetKind")}
 RENAMED = {
     ("fault_at", "Dead"): "CONNECTION_OVER",
     ("open_fault_at", "Settings"): "BAD_SETTINGS",
@@ -82,10 +94,12 @@ class Sources:
     def __init__(self) -> None:
         self.exports = "\n".join(path.read_text() for path in sorted((CRATE / "src").glob("*.rt")) if path.name != "tests.rt")
         self.calls = (HERE / "calls.c").read_text()
-        self.codes = (CRATE / "specs" / "Codes.antt").read_text()
+        self.codes = "\n".join((CRATE / "specs" / name).read_text() for name in ("Codes.antt", "Spools.antt"))
+        record = (CRATE.parent / "amqp_records/src/record.rt").read_text().replace("const HEAD:", "const RECORD_HEAD:")
+        self.format = "\n".join([*((CRATE.parent / name).read_text() for name in FORMAT), record])
         self.header = (HERE / "wuleshomia.h").read_text()
         self.native = (PYTHON / "_native.py").read_text()
-        self.endpoint = (PYTHON / "_endpoint.py").read_text()
+        self.endpoint = "\n".join((PYTHON / name).read_text() for name in ("_endpoint.py", "_spool.py"))
         self.makefile = (HERE / "Makefile").read_text()
         self.recorded = (HERE / "abi.txt").read_text() if (HERE / "abi.txt").exists() else ""
 
@@ -151,6 +165,14 @@ def name_of(definition: str, what: str) -> str:
     what = re.sub(r"^Some ", "", what.strip()).strip("()") if definition == "settlement_at" else what.strip()
     what = re.sub(r"^\w+\.", "", what)
     return RENAMED.get((definition, what)) or upper(what.split(" ")[0])
+
+
+def numbers_of_format(text: str) -> dict[str, dict[str, int]]:
+    """The numbers that crates below have for the enums of a spool's format."""
+    sizes = {name: int(number) for name, number in re.findall(r"^pub const (\w+): usize = (\d+);", text, re.M)}
+    arms = re.findall(r"^ +(\d+|_) => Target::(\w+)", text, re.M)
+    targets = {upper(name): number for number, (_, name) in enumerate(arms)}
+    return {"wule_spool_size": sizes, "wule_spool_target": targets}
 
 
 # ---- the header
@@ -286,10 +308,14 @@ def compared(s: Sources) -> list[str]:
             same(f"{c_name} {name}", number, enums[c_name].get(prefix + name), "specs and header")
             if python_name:
                 same(f"{c_name} {name}", number, python_numbers[python_name].get(name), "specs and Python")
+    for c_name, numbers in numbers_of_format(s.format).items():
+        prefix, python_name = FORMAT_ENUMS[c_name]
+        same(c_name, {prefix + name: number for name, number in numbers.items()}, enums[c_name], "the format and the header")
+        same(c_name, numbers, python_numbers[python_name], "the format and Python")
     constants = {f"WULE_{name}": int(number) for name, number in re.findall(r"pub const (\w+): u32 = (\d+);", s.exports) if name != "VERSION"}
     for name, number in constants.items():
         same(name, number, enums["wule_code"].get(name), "constant and header")
-    for c_name in enums:
+    for c_name in enums.keys() - FORMAT_ENUMS.keys():
         known = {p + n for d, c, p, _, last in ENUMS if c == c_name for n in numbers_of_specs(s.codes, d, last)}
         named = known | ({*constants, *IN_C} if c_name == "wule_code" else set())
         same(c_name, sorted(named), sorted(enums[c_name]), "names in specs and crate, and in the header")
@@ -350,6 +376,8 @@ PLANTS = [
     ("a type in calls.c", "calls", "size_t wuleshomia_records(wule_endpoint *e, uint8_t *room, size_t len);", "uint32_t wuleshomia_records(wule_endpoint *e, uint8_t *room, size_t len);"),
     ("another code in calls.c", "calls", "wuleshomia_link(e, channel, handle, link, name, len) : WULE_NULL;", "wuleshomia_link(e, channel, handle, link, name, len) : WULE_NO_LINK;"),
     ("a number in the specs", "codes", "if nat_eq n 1 then Some settlement.Rejected", "if nat_eq n 1 then Some settlement.Released"),
+    ("a number of a spool's format", "format", "pub const BATCH_HEAD: usize = 32;", "pub const BATCH_HEAD: usize = 40;"),
+    ("a kind of entry in the specs", "codes", "if nat_eq r.kind 1 then Introduction", "if nat_eq r.kind 3 then Introduction"),
     ("a type in Python", "native", '"wule_held": (c_uint64,', '"wule_held": (u32,'),
     ("a field in Python", "native", '("tag_len", u32),', '("tag_size", u32),'),
     ("a number in Python", "endpoint", "    MODIFIED_FAILED = 4", "    MODIFIED_FAILED = 5"),

@@ -17,6 +17,15 @@ uint32_t wuleshomia_link_target(wule_endpoint *e, uint32_t channel, uint32_t han
 uint32_t wuleshomia_link_address(wule_endpoint *e, uint32_t channel, uint32_t handle, wule_address *address, uint8_t *room, size_t len);
 uint32_t wuleshomia_serve_step(wule_endpoint *e, const wule_rule *rule, const uint8_t *bytes, size_t len, wule_step *step);
 size_t wuleshomia_records(wule_endpoint *e, uint8_t *room, size_t len);
+uint32_t wuleshomia_spool_read_head(const uint8_t *bytes, size_t len, wule_spool_head *head);
+uint64_t wuleshomia_spool_batch_size(const uint8_t *bytes, size_t len);
+uint32_t wuleshomia_spool_read_batch(const wule_spool_head *head, uint64_t number, const uint8_t *bytes, size_t len,
+                                     wule_spool_batch *batch);
+uint32_t wuleshomia_spool_read_entry(const uint8_t *bytes, size_t len, wule_spool_entry *entry);
+uint32_t wuleshomia_spool_read_end(const uint8_t *bytes, size_t len, wule_spool_end *end);
+uint32_t wuleshomia_spool_read_floor(const uint8_t *bytes, size_t len, wule_spool_floor *floor);
+uint32_t wuleshomia_spool_read_position(const uint8_t *bytes, size_t len, wule_spool_position *position);
+size_t wuleshomia_spool_write_position(const wule_spool_position *position, uint8_t *room, size_t len);
 
 /* An address for no bytes and for no rows: the length 0 is handed on with it, so that nothing is read or written there. */
 static uint8_t no_bytes;
@@ -83,3 +92,36 @@ uint32_t wule_serve_step(wule_endpoint *e, const wule_rule *rule, const uint8_t 
 }
 
 size_t wule_records(wule_endpoint *e, uint8_t *room, size_t len) { return has_room(&room, len) ? wuleshomia_records(e, room, len) : 0; }
+
+uint32_t wule_spool_read_head(const uint8_t *bytes, size_t len, wule_spool_head *head) {
+    return has_bytes(&bytes, len) ? wuleshomia_spool_read_head(bytes, len, head) : WULE_NULL;
+}
+
+uint64_t wule_spool_batch_size(const uint8_t *bytes, size_t len) {
+    return has_bytes(&bytes, len) ? wuleshomia_spool_batch_size(bytes, len) : 0;
+}
+
+uint32_t wule_spool_read_batch(const wule_spool_head *head, uint64_t number, const uint8_t *bytes, size_t len,
+                               wule_spool_batch *batch) {
+    return has_bytes(&bytes, len) ? wuleshomia_spool_read_batch(head, number, bytes, len, batch) : WULE_NULL;
+}
+
+uint32_t wule_spool_read_entry(const uint8_t *bytes, size_t len, wule_spool_entry *entry) {
+    return has_bytes(&bytes, len) ? wuleshomia_spool_read_entry(bytes, len, entry) : WULE_NULL;
+}
+
+uint32_t wule_spool_read_end(const uint8_t *bytes, size_t len, wule_spool_end *end) {
+    return has_bytes(&bytes, len) ? wuleshomia_spool_read_end(bytes, len, end) : WULE_NULL;
+}
+
+uint32_t wule_spool_read_floor(const uint8_t *bytes, size_t len, wule_spool_floor *floor) {
+    return has_bytes(&bytes, len) ? wuleshomia_spool_read_floor(bytes, len, floor) : WULE_NULL;
+}
+
+uint32_t wule_spool_read_position(const uint8_t *bytes, size_t len, wule_spool_position *position) {
+    return has_bytes(&bytes, len) ? wuleshomia_spool_read_position(bytes, len, position) : WULE_NULL;
+}
+
+size_t wule_spool_write_position(const wule_spool_position *position, uint8_t *room, size_t len) {
+    return has_room(&room, len) ? wuleshomia_spool_write_position(position, room, len) : 0;
+}

@@ -25,6 +25,7 @@ BUILD = Path(sys.argv[1]).resolve() if len(sys.argv) > 1 else HERE / "build"
 PYTHON = ROOT / "python"
 RECEIVE = ROOT / "crates" / "example_receive"
 SHOP = RECEIVE / "data" / "shop.amqp"
+SPOOLS = ROOT / "crates" / "test_spool_records" / "data" / "spools.rows"
 STREAMS = sorted((ROOT / "crates" / "test_layer_rows" / "data").glob("*.amqp"))
 SECONDS = 300
 ENDS = ("", "Failed", "Closed", "Inside", "Between")  # as tests/receive.c prints them
@@ -155,6 +156,25 @@ def _() -> str:
     done = subprocess.run([sys.executable, PYTHON / "tests/misuse.py", SHOP], env=ENVIRONMENT, capture_output=True, timeout=SECONDS)
     assert done.returncode == 0, done.stderr[-2000:].decode()
     return done.stderr.decode().strip().splitlines()[-3]
+
+
+@test("Python reads spools as rows of a model say, follows them, and acknowledges")
+def _() -> str:
+    done = subprocess.run([sys.executable, PYTHON / "tests/spools.py", SPOOLS], env=ENVIRONMENT, capture_output=True, timeout=SECONDS)
+    assert done.returncode == 0, done.stderr[-2000:].decode()
+    return done.stderr.decode().strip().splitlines()[-3]
+
+
+@test("the reader of a segment in the header reads what counts, and no more")
+def _() -> None:
+    segment = bytes.fromhex(re.search(r"^@BYTES_AC = (\w+)$", SPOOLS.read_text(), re.M)[1])
+    bodies = ["005375a003736978", "005375a005736576656e", "005377a00568656c6c6f", "005375a000", "005377a108614756736247383d"]
+    lines = [f"{number} {body}\n" for number, body in enumerate(bodies, 8)]
+    with tempfile.TemporaryDirectory() as folder:
+        path = Path(folder) / "segment"
+        path.write_bytes(segment + bytes(40))
+        for counted, status, count in ((471, 0, 5), (316, 0, 3), (80, 0, 0), (79, 1, 0), (470, 1, 3), (472, 1, 5)):
+            assert output_of(BUILD / "programs", "read", path, counted, status=status).decode() == "".join(lines[:count]), counted
 
 
 @test("the calls take at most 16 KiB of stack")

@@ -30,7 +30,7 @@ def programs(header: str) -> list[str]:
 def main() -> int:
     found = programs(HEADER.read_text())
     print("\n\n".join(found))
-    return 0 if len(found) == 2 else 1
+    return 0 if len(found) == 3 else 1
 
 
 if __name__ == "__main__":

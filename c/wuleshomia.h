@@ -138,7 +138,8 @@ typedef enum wule_code {
     WULE_UNSENT = 28,          /* bytes for the peer or records wait to be moved out */
     WULE_ANSWER_LOST = 29,     /* memory for an answer was refused: it is lost, and so is the connection */
     WULE_RECORD_LOST = 30,     /* the same of a record */
-    WULE_NULL = 31             /* a pointer is NULL, but its length is not 0: nothing was done */
+    WULE_NULL = 31,            /* a pointer is NULL, but its length is not 0: nothing was done */
+    WULE_NOT_WHOLE = 32        /* the bytes are no whole head, batch, entry, end, floor or position of a spool */
 } wule_code;
 
 /* What bytes came to. */
@@ -213,6 +214,30 @@ typedef enum wule_receipt {
     WULE_RECEIPT_TOLD = 3,    /* id, len: it was recorded, and its sender is told what became of it */
     WULE_RECEIPT_UNTOLD = 4   /* id, len, refusal: it was recorded, but its sender could not be told */
 } wule_receipt;
+
+/* How many bytes there are of each part of a spool that always has as many. */
+typedef enum wule_spool_size {
+    WULE_SPOOL_HEAD = 80,       /* the head of a segment */
+    WULE_SPOOL_BATCH_HEAD = 32, /* the head of a batch */
+    WULE_SPOOL_END = 56,
+    WULE_SPOOL_FLOOR = 40,
+    WULE_SPOOL_POSITION = 71,
+    WULE_SPOOL_RECORD_HEAD = 18 /* what a record has before its message */
+} wule_spool_size;
+
+/* What an entry of a batch is. */
+typedef enum wule_spool_kind {
+    WULE_SPOOL_INTRODUCTION = 1, /* who sends on a link */
+    WULE_SPOOL_RECORD = 2        /* a message */
+} wule_spool_kind;
+
+/* What the target of a link is, in a spool. */
+typedef enum wule_spool_target {
+    WULE_SPOOL_ADDRESS = 0, /* its address */
+    WULE_SPOOL_DYNAMIC = 1, /* none: the sender asks for a node to be made */
+    WULE_SPOOL_NONE = 2,    /* there is no target, or it has no address */
+    WULE_SPOOL_OTHER = 3    /* anything else: the target itself, encoded */
+} wule_spool_target;
 
 /* ------------------------------------------------------------------------------------------------------------------- Structs */
 
@@ -314,6 +339,71 @@ typedef struct wule_step {
     uint32_t refused; /* and how many windows and links were refused what they lacked */
     uint32_t reserved;
 } wule_step;
+
+/* Some of the bytes that a call was handed: `len` bytes, from the one at `at` on. They are within those. */
+typedef struct wule_part {
+    uint64_t at;
+    uint64_t len;
+} wule_part;
+
+/* The head of a segment of a spool. */
+typedef struct wule_spool_head {
+    uint8_t spool[16];  /* the id of the spool */
+    uint8_t secret[16]; /* what the sums of the segment are made with */
+    uint64_t first;     /* the number of its first record */
+    uint64_t before;    /* that of the segment before it */
+    uint64_t counted;   /* how many bytes of that one count */
+    uint64_t life;      /* how often the spool was started */
+    uint64_t sum;       /* of all this; `mark` of a wule_spool_end has it */
+} wule_spool_head;
+
+/* A batch, which is what one sync made durable. */
+typedef struct wule_spool_batch {
+    uint64_t len;      /* how many bytes it has, with its head */
+    uint64_t first;    /* the number of its first record */
+    uint64_t arrived;  /* when its records arrived, in milliseconds since 1970 */
+    uint32_t count;    /* how many records it has, at least 1 */
+    uint32_t reserved;
+} wule_spool_batch;
+
+/* An entry of a batch. The fields after `link` are of the one kind or of the other, and 0 in the other. */
+typedef struct wule_spool_entry {
+    uint64_t len;         /* how many bytes it has */
+    uint32_t kind;        /* a wule_spool_kind */
+    uint32_t link;        /* the number of the link; one that was closed is given again, by another introduction */
+    uint64_t connection;  /* an introduction: the number of the connection, */
+    wule_part peer;       /* the address of the peer, at most 58 bytes, */
+    wule_part container;  /* its container-id, */
+    wule_part name;       /* the link's name, */
+    wule_part user;       /* the user, empty if none is known, at most 255 bytes each, */
+    uint32_t target_kind; /* a wule_spool_target, */
+    uint32_t reserved;
+    wule_part target;     /* and the address or the target, at most 1024 bytes */
+    wule_part tag;        /* a record: the delivery-tag, at most 32 bytes, */
+    wule_part record;     /* and the record as wule_serve_step() tells it: 18 bytes and the message */
+} wule_spool_entry;
+
+/* The file `end`: how far a spool may be read. */
+typedef struct wule_spool_end {
+    uint8_t spool[16];
+    uint64_t first; /* the number of the first record of the newest segment */
+    uint64_t mark;  /* the sum of that segment's head: of two segments that had the name, the one that is meant */
+    uint64_t place; /* how many of its bytes may be read */
+    uint64_t next;  /* the number of the next record */
+} wule_spool_end;
+
+/* The file `floor`. */
+typedef struct wule_spool_floor {
+    uint8_t spool[16];
+    uint64_t number;  /* up to this number segments may be missing */
+    uint64_t dropped; /* the last number that was dropped unread; 0 if none was */
+} wule_spool_floor;
+
+/* The file NAME.at: the position of a consumer. */
+typedef struct wule_spool_position {
+    uint8_t spool[16];
+    uint64_t number; /* up to this number it has acknowledged */
+} wule_spool_position;
 
 /* ------------------------------------------------------------------------------------------------------- Setting up, freeing */
 
@@ -482,6 +572,62 @@ uint32_t wule_serve_step(wule_endpoint *e, const wule_rule *rule, const uint8_t 
 /* Moves records of the last step out, at most `len` bytes, and returns how many: 0 if none wait, and if there is no endpoint. */
 size_t wule_records(wule_endpoint *e, uint8_t *room, size_t len) WULE_CHECKED;
 
+/* -------------------------------------------------------------------------------------------------------------- Reading a spool */
+
+/* `amqp gateway --spool DIR` keeps records in the files of DIR; docs/SPOOL.md has their format, and what a reader beside it does.
+ * The host reads the files. These calls read their bytes: they have no endpoint and no state, take no memory, and keep nothing.
+ * Each returns WULE_OK; else what it fills in is as it was: WULE_NOT_WHOLE, WULE_NULL. Bytes that were changed by chance are taken
+ * for whole ones once in 2^64 times.
+ *
+ * A whole reader of what counts of a segment:
+ *
+ *     void keep(uint64_t number, const uint8_t *message, size_t len);        // yours
+ *
+ *     // Goes through the first `counted` bytes of a segment. 0 after all records; -1 where it is damaged.
+ *     static int read_segment(const uint8_t *segment, size_t counted) {
+ *         wule_spool_head head;
+ *         wule_spool_batch batch;
+ *         wule_spool_entry entry;
+ *         if (wule_spool_read_head(segment, counted, &head) != WULE_OK) return -1;
+ *         uint64_t number = head.first;
+ *         for (size_t at = WULE_SPOOL_HEAD; at < counted; at += (size_t)batch.len) {
+ *             if (wule_spool_read_batch(&head, number, segment + at, counted - at, &batch) != WULE_OK) return -1;
+ *             const uint8_t *next = segment + at + WULE_SPOOL_BATCH_HEAD, *end = segment + at + batch.len;
+ *             for (; next < end; next += entry.len) {
+ *                 if (wule_spool_read_entry(next, (size_t)(end - next), &entry) != WULE_OK) return -1;
+ *                 if (entry.kind != WULE_SPOOL_RECORD) continue;             // who sends on entry.link from now on
+ *                 const uint8_t *message = next + entry.record.at + WULE_SPOOL_RECORD_HEAD;
+ *                 keep(number++, message, (size_t)entry.record.len - WULE_SPOOL_RECORD_HEAD);
+ *             }
+ *             if (number != batch.first + batch.count) return -1;
+ *         }
+ *         return 0;
+ *     }
+ */
+
+/* The head of a segment with which these bytes begin. */
+uint32_t wule_spool_read_head(const uint8_t *bytes, size_t len, wule_spool_head *head) WULE_CHECKED;
+
+/* How many bytes a batch has, with its head, by the first WULE_SPOOL_BATCH_HEAD of them: so many are read before the batch is. They
+ * are not checked. 0 if there are fewer bytes. */
+uint64_t wule_spool_batch_size(const uint8_t *bytes, size_t len);
+
+/* The batch with which these bytes begin, in a segment with this head, if it is whole and its first record has this number. Its
+ * entries are the bytes after its head. */
+uint32_t wule_spool_read_batch(const wule_spool_head *head, uint64_t number, const uint8_t *bytes, size_t len,
+                               wule_spool_batch *batch) WULE_CHECKED;
+
+/* The entry with which these bytes begin. */
+uint32_t wule_spool_read_entry(const uint8_t *bytes, size_t len, wule_spool_entry *entry) WULE_CHECKED;
+
+/* What all bytes of `end`, of `floor` and of a position say. `end` is written over in place: if it is not whole, read it again. */
+uint32_t wule_spool_read_end(const uint8_t *bytes, size_t len, wule_spool_end *end) WULE_CHECKED;
+uint32_t wule_spool_read_floor(const uint8_t *bytes, size_t len, wule_spool_floor *floor) WULE_CHECKED;
+uint32_t wule_spool_read_position(const uint8_t *bytes, size_t len, wule_spool_position *position) WULE_CHECKED;
+
+/* Writes the bytes of a position, and returns how many: WULE_SPOOL_POSITION, or 0 with nothing written if there is less room. */
+size_t wule_spool_write_position(const wule_spool_position *position, uint8_t *room, size_t len) WULE_CHECKED;
+
 /* -------------------------------------------------------------------------------------------------------------------- In C alone */
 
 /* A code in words; "" for what is none. */
@@ -512,6 +658,7 @@ WULE_MAYBE_UNUSED static inline const char *wule_code_text(uint32_t code) {
     case WULE_ANSWER_LOST: return "memory for an answer was refused, which is lost";
     case WULE_RECORD_LOST: return "memory for a record was refused, which is lost";
     case WULE_NULL: return "a pointer is NULL, but its length is not 0";
+    case WULE_NOT_WHOLE: return "the bytes are no whole head, batch, entry, end, floor or position of a spool";
     default: return "";
     }
 }

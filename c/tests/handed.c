@@ -35,6 +35,15 @@ uint32_t wuleshomia_link_target(wule_endpoint *e, uint32_t channel, uint32_t han
 uint32_t wuleshomia_link_address(wule_endpoint *e, uint32_t channel, uint32_t handle, wule_address *address, uint8_t *room, size_t len);
 uint32_t wuleshomia_serve_step(wule_endpoint *e, const wule_rule *rule, const uint8_t *bytes, size_t len, wule_step *step);
 size_t wuleshomia_records(wule_endpoint *e, uint8_t *room, size_t len);
+uint32_t wuleshomia_spool_read_head(const uint8_t *bytes, size_t len, wule_spool_head *head);
+uint64_t wuleshomia_spool_batch_size(const uint8_t *bytes, size_t len);
+uint32_t wuleshomia_spool_read_batch(const wule_spool_head *head, uint64_t number, const uint8_t *bytes, size_t len,
+                                     wule_spool_batch *batch);
+uint32_t wuleshomia_spool_read_entry(const uint8_t *bytes, size_t len, wule_spool_entry *entry);
+uint32_t wuleshomia_spool_read_end(const uint8_t *bytes, size_t len, wule_spool_end *end);
+uint32_t wuleshomia_spool_read_floor(const uint8_t *bytes, size_t len, wule_spool_floor *floor);
+uint32_t wuleshomia_spool_read_position(const uint8_t *bytes, size_t len, wule_spool_position *position);
+size_t wuleshomia_spool_write_position(const wule_spool_position *position, uint8_t *room, size_t len);
 
 uint32_t wuleshomia_open(wule_endpoint *e, const wule_settings *settings, const char *container_id, size_t id_len,
                          const wule_limit *limits, size_t limit_count, size_t *row) {
@@ -67,12 +76,35 @@ uint32_t wuleshomia_serve_step(wule_endpoint *e, const wule_rule *rule, const ui
     return keep(e, bytes, rule, step, e, len, 5, 0);
 }
 size_t wuleshomia_records(wule_endpoint *e, uint8_t *room, size_t len) { return keep(e, room, e, e, e, len, 6, 0); }
+uint32_t wuleshomia_spool_read_head(const uint8_t *bytes, size_t len, wule_spool_head *head) {
+    return keep(head, bytes, "head", head, head, len, 7, 0);
+}
+uint64_t wuleshomia_spool_batch_size(const uint8_t *bytes, size_t len) { return keep(bytes, bytes, "size", bytes, bytes, len, 8, 0); }
+uint32_t wuleshomia_spool_read_batch(const wule_spool_head *head, uint64_t number, const uint8_t *bytes, size_t len,
+                                     wule_spool_batch *batch) {
+    return keep(batch, bytes, "batch", head, head, len, (size_t)number, 9);
+}
+uint32_t wuleshomia_spool_read_entry(const uint8_t *bytes, size_t len, wule_spool_entry *entry) {
+    return keep(entry, bytes, "entry", entry, entry, len, 10, 0);
+}
+uint32_t wuleshomia_spool_read_end(const uint8_t *bytes, size_t len, wule_spool_end *end) {
+    return keep(end, bytes, "end", end, end, len, 11, 0);
+}
+uint32_t wuleshomia_spool_read_floor(const uint8_t *bytes, size_t len, wule_spool_floor *floor) {
+    return keep(floor, bytes, "floor", floor, floor, len, 12, 0);
+}
+uint32_t wuleshomia_spool_read_position(const uint8_t *bytes, size_t len, wule_spool_position *position) {
+    return keep(position, bytes, "position", position, position, len, 13, 0);
+}
+size_t wuleshomia_spool_write_position(const wule_spool_position *position, uint8_t *room, size_t len) {
+    return keep(position, room, "written", position, position, len, 14, 0);
+}
 
-/* Whether one call was handed on since, with this endpoint, and with these bytes, or with some address for no bytes. */
-static int handed(const wule_endpoint *e, const void *bytes, size_t len) {
+/* Whether one call was handed on since, with this endpoint or this report, and with these bytes, or with some address for no bytes. */
+static int handed(const void *first, const void *bytes, size_t len) {
     int once = calls == 1;
     calls = 0;
-    return once && pointers[0] == e && (bytes ? pointers[1] == bytes : pointers[1] != NULL) && numbers[0] == len;
+    return once && pointers[0] == first && (bytes ? pointers[1] == bytes : pointers[1] != NULL) && numbers[0] == len;
 }
 
 static int not_handed(void) {
@@ -87,6 +119,15 @@ static int not_handed(void) {
         for (n_ = 1; n_ != 0; n_ <<= 1) IS((call) == (lacking) && not_handed()); \
     } while (0)
 
+/* A call that reads bytes into a report, with `room` and with NULL and the length n_. */
+#define READS(call, call_of_null, report, name)                                                \
+    do {                                                                                       \
+        size_t n_ = 0;                                                                         \
+        IS((call) == 77 && handed((report), room, 9) && strcmp(pointers[2], (name)) == 0);      \
+        IS((call_of_null) == 77 && handed((report), NULL, 0) && strcmp(pointers[2], (name)) == 0); \
+        for (n_ = 1; n_ != 0; n_ <<= 1) IS((call_of_null) == WULE_NULL && not_handed());        \
+    } while (0)
+
 int main(void) {
     wule_endpoint e = WULE_ENDPOINT_INIT;
     wule_settings settings = WULE_SETTINGS_INIT;
@@ -97,6 +138,12 @@ int main(void) {
     wule_link_state link;
     wule_address address;
     wule_step step;
+    static wule_spool_head segment, head;
+    static wule_spool_batch batch;
+    static wule_spool_entry entry;
+    static wule_spool_end end;
+    static wule_spool_floor floor;
+    static wule_spool_position position;
     uint8_t room[9];
     uint64_t inside = 0;
     size_t row = 0;
@@ -155,6 +202,23 @@ int main(void) {
     IS(wule_records(&e, room, 9) == 77 && handed(&e, room, 9) && numbers[1] == 6);
     IS(wule_records(&e, NULL, 0) == 77 && handed(&e, NULL, 0));
     EACH_LENGTH(wule_records(&e, NULL, n_), 0);
+
+    READS(wule_spool_read_head(room, 9, &head), wule_spool_read_head(NULL, n_, &head), &head, "head");
+    READS(wule_spool_read_batch(&segment, 7, room, 9, &batch) == 77 && pointers[3] == &segment && numbers[1] == 7 ? 77u : 0u,
+          wule_spool_read_batch(&segment, 7, NULL, n_, &batch), &batch, "batch");
+    READS(wule_spool_read_entry(room, 9, &entry), wule_spool_read_entry(NULL, n_, &entry), &entry, "entry");
+    READS(wule_spool_read_end(room, 9, &end), wule_spool_read_end(NULL, n_, &end), &end, "end");
+    READS(wule_spool_read_floor(room, 9, &floor), wule_spool_read_floor(NULL, n_, &floor), &floor, "floor");
+    READS(wule_spool_read_position(room, 9, &position), wule_spool_read_position(NULL, n_, &position), &position, "position");
+
+    IS(wule_spool_batch_size(room, 9) == 77 && handed(room, room, 9) && strcmp(pointers[2], "size") == 0);
+    IS(wule_spool_batch_size(NULL, 0) == 77 && calls == 1 && pointers[1] != NULL && numbers[0] == 0);
+    calls = 0;
+    EACH_LENGTH(wule_spool_batch_size(NULL, n_), 0);
+
+    IS(wule_spool_write_position(&position, room, 9) == 77 && handed(&position, room, 9) && strcmp(pointers[2], "written") == 0);
+    IS(wule_spool_write_position(&position, NULL, 0) == 77 && handed(&position, NULL, 0));
+    EACH_LENGTH(wule_spool_write_position(&position, NULL, n_), 0);
 
     printf("handed: %s\n", failures ? "failed" : "ok");
     return failures != 0;

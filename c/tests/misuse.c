@@ -1,5 +1,5 @@
-/* Each call on a handle that holds no endpoint, settings and limits that are refused, credit beside unsettled deliveries, and a whole
- * session, by calls and by steps, in which each request for memory is refused in turn.   misuse FILE
+/* Each call on a handle that holds no endpoint, settings and limits that are refused, credit beside unsettled deliveries, bytes of a spool
+ * that are cut or changed, and a whole session, by calls and by steps, in which each request for memory is refused in turn.   misuse FILE
  * It is linked with --wrap=malloc,--wrap=realloc,--wrap=free, and run under valgrind and AddressSanitizer too. */
 #include "wuleshomia.h"
 #include <stdio.h>
@@ -267,6 +267,170 @@ static void targets_tell(void) {
     target_tells("\0\x53\x29\xc0\4\1\xa3\1q", 9, WULE_ADDRESS_OTHER, "....", 0);
 }
 
+/* ---- spools: bytes that a model in Python wrote, in hex; see crates/test_spool_records/data/spools.rows */
+
+static const char segment_hex[] =
+    "616d71707370310a000102030405060708090a0b0c0d0e0f10171e252c333a41484f565d646b727900000000000000010000000000000000"
+    "000000000000000000000000000000036955cbc9ed543605000000590000000100000000000000010000018bcfe5680174df3db04f780898"
+    "010000000100000000000000010e31302e302e302e373a35303731340673686f702d370b6f72646572732d6c696e6b000000066f72646572"
+    "73020000000100000000000000000000000000000000000008005375a0036f6e65";
+static const char end_hex[] =
+    "000102030405060708090a0b0c0d0e0f0000000000000008b7f88efdbf11693100000000000001d7000000000000000de3d5ebba2bbb62c3";
+static const char floor_hex[] =
+    "000102030405060708090a0b0c0d0e0f000000000000000500000000000000003afd8bf62192a7bb";
+static const char position_text[] = "000102030405060708090a0bfcfdfeff 00000000000000010203 249151b3040c1ce6\n";
+
+static size_t of_hex(const char *hex, uint8_t *bytes) {
+    size_t n = 0;
+    unsigned byte;
+    for (; sscanf(hex + 2 * n, "%2x", &byte) == 1; n++) bytes[n] = (uint8_t)byte;
+    return n;
+}
+
+/* A copy that has not a byte more, so that one that is read after it is seen. */
+static uint8_t *copied(const uint8_t *bytes, size_t len) {
+    uint8_t *copy = malloc(len > 0 ? len : 1);
+    if (!copy) exit(2);
+    memcpy(copy, bytes, len);
+    return copy;
+}
+
+static wule_spool_head segment_head;
+static union {
+    wule_spool_head head;
+    wule_spool_batch batch;
+    wule_spool_entry entry;
+    wule_spool_end end;
+    wule_spool_floor floor;
+    wule_spool_position position;
+} told;
+
+static uint32_t read_head(const uint8_t *bytes, size_t len) { return wule_spool_read_head(bytes, len, &told.head); }
+static uint32_t read_batch(const uint8_t *bytes, size_t len) { return wule_spool_read_batch(&segment_head, 1, bytes, len, &told.batch); }
+static uint32_t read_entry(const uint8_t *bytes, size_t len) { return wule_spool_read_entry(bytes, len, &told.entry); }
+static uint32_t read_end(const uint8_t *bytes, size_t len) { return wule_spool_read_end(bytes, len, &told.end); }
+static uint32_t read_floor(const uint8_t *bytes, size_t len) { return wule_spool_read_floor(bytes, len, &told.floor); }
+static uint32_t read_position(const uint8_t *bytes, size_t len) { return wule_spool_read_position(bytes, len, &told.position); }
+
+static int is_untouched(void) {
+    const uint8_t *at = (const uint8_t *)&told;
+    size_t n = sizeof told;
+    while (n > 0 && *at == 0xee) at++, n--;
+    return n == 0;
+}
+
+/* It reads these bytes, but not with any bit changed, and not the front of any other length; of some it may be followed by more. */
+static void reads_whole(uint32_t (*read)(const uint8_t *, size_t), const uint8_t *bytes, size_t len, int may_go_on) {
+    size_t bit, n;
+    for (n = 0; n < len; n++) {
+        uint8_t *front = copied(bytes, n);
+        memset(&told, 0xee, sizeof told);
+        IS(read(front, n), WULE_NOT_WHOLE);
+        IS(is_untouched(), 1);
+        free(front);
+    }
+    for (bit = 0; bit < 8 * len; bit++) {
+        uint8_t *other = copied(bytes, len);
+        other[bit / 8] ^= (uint8_t)(1u << bit % 8);
+        IS(read(other, len), WULE_NOT_WHOLE);
+        IS(is_untouched(), 1);
+        free(other);
+    }
+    {
+        uint8_t longer[512] = {0};
+        memcpy(longer, bytes, len);
+        IS(read(longer, len + 1), may_go_on ? WULE_OK : WULE_NOT_WHOLE);
+    }
+    memset(&told, 0xee, sizeof told);
+    IS(read(bytes, len), WULE_OK);
+}
+
+static int is_within(wule_part part, size_t len) { return part.at <= len && part.len <= len - part.at; }
+
+static int is_part(const uint8_t *bytes, wule_part part, const char *text) {
+    return part.len == strlen(text) && memcmp(bytes + part.at, text, (size_t)part.len) == 0;
+}
+
+/* Whatever the bytes are, the parts of an entry are within them. */
+static void parts_are_within(const uint8_t *bytes, size_t len) {
+    size_t bit, n;
+    for (n = 0; n <= len; n++)
+        for (bit = 0; bit < 8 * n; bit++) {
+            uint8_t *other = copied(bytes, n);
+            const wule_spool_entry *e = &told.entry;
+            other[bit / 8] ^= (uint8_t)(1u << bit % 8);
+            if (wule_spool_read_entry(other, n, &told.entry) == WULE_OK) {
+                IS(e->len <= n && is_within(e->peer, n) && is_within(e->container, n) && is_within(e->name, n), 1);
+                IS(is_within(e->user, n) && is_within(e->target, n) && is_within(e->tag, n) && is_within(e->record, n), 1);
+            }
+            free(other);
+        }
+}
+
+static void read_a_segment(void) {
+    static const wule_part nothing = {0, 0};
+    uint8_t bytes[256], *body;
+    size_t len = of_hex(segment_hex, bytes), first, i;
+    IS(len, 201);
+    reads_whole(read_head, bytes, WULE_SPOOL_HEAD, 1);
+    segment_head = told.head;
+    for (i = 0; i < 16; i++) IS(segment_head.spool[i], i);
+    IS(memcmp(segment_head.secret, bytes + 24, 16), 0);
+    IS(segment_head.first == 1 && segment_head.before == 0 && segment_head.counted == 0 && segment_head.life == 3, 1);
+    IS(segment_head.sum, 0x6955cbc9ed543605u);
+    IS(wule_spool_batch_size(bytes + 80, 31), 0);
+    IS(wule_spool_batch_size(bytes + 80, 32), 121);
+    reads_whole(read_batch, bytes + 80, 121, 1);
+    IS(told.batch.len == 121 && told.batch.first == 1 && told.batch.arrived == 1700000000001u, 1);
+    IS(told.batch.count == 1 && told.batch.reserved == 0, 1);
+    IS(wule_spool_read_batch(&segment_head, 2, bytes + 80, 121, &told.batch), WULE_NOT_WHOLE);
+    segment_head.secret[0] ^= 1;
+    IS(wule_spool_read_batch(&segment_head, 1, bytes + 80, 121, &told.batch), WULE_NOT_WHOLE);
+    body = bytes + 112, len -= 112;
+    IS(read_entry(body, len), WULE_OK);
+    first = (size_t)told.entry.len;
+    IS(told.entry.kind == WULE_SPOOL_INTRODUCTION && told.entry.link == 1 && told.entry.connection == 1, 1);
+    IS(is_part(body, told.entry.peer, "10.0.0.7:50714") && is_part(body, told.entry.container, "shop-7"), 1);
+    IS(is_part(body, told.entry.name, "orders-link") && is_part(body, told.entry.user, ""), 1);
+    IS(is_part(body, told.entry.target, "orders"), 1);
+    IS(told.entry.target_kind == WULE_SPOOL_ADDRESS && told.entry.reserved == 0, 1);
+    IS(memcmp(&told.entry.tag, &nothing, sizeof nothing) == 0 && memcmp(&told.entry.record, &nothing, sizeof nothing) == 0, 1);
+    for (i = 0; i < first; i++) IS(read_entry(body, i), WULE_NOT_WHOLE);
+    parts_are_within(body, first);
+    body += first, len -= first;
+    IS(read_entry(body, len), WULE_OK);
+    IS(told.entry.len, len);
+    IS(told.entry.kind == WULE_SPOOL_RECORD && told.entry.link == 1 && told.entry.connection == 0 && told.entry.target_kind == 0, 1);
+    IS(told.entry.tag.len, 0);
+    IS(told.entry.record.at + told.entry.record.len, len);
+    IS(memcmp(body + told.entry.record.at + WULE_SPOOL_RECORD_HEAD, "\0Su\xa0\3one", 8), 0);
+    IS(memcmp(&told.entry.peer, &nothing, sizeof nothing) == 0 && memcmp(&told.entry.target, &nothing, sizeof nothing) == 0, 1);
+    for (i = 0; i < len; i++) IS(read_entry(body, i), WULE_NOT_WHOLE);
+    parts_are_within(body, len);
+    IS(read_entry(body + len, 0), WULE_NOT_WHOLE);
+}
+
+static void read_the_small_files(void) {
+    uint8_t bytes[64], room[72];
+    size_t i;
+    IS(of_hex(end_hex, bytes), WULE_SPOOL_END);
+    reads_whole(read_end, bytes, WULE_SPOOL_END, 0);
+    IS(memcmp(told.end.spool, bytes, 16), 0);
+    IS(told.end.first == 8 && told.end.mark == 0xb7f88efdbf116931u && told.end.place == 471 && told.end.next == 13, 1);
+    IS(of_hex(floor_hex, bytes), WULE_SPOOL_FLOOR);
+    reads_whole(read_floor, bytes, WULE_SPOOL_FLOOR, 0);
+    IS(memcmp(told.floor.spool, bytes, 16), 0);
+    IS(told.floor.number == 5 && told.floor.dropped == 0, 1);
+    reads_whole(read_position, (const uint8_t *)position_text, WULE_SPOOL_POSITION, 0);
+    IS(told.position.spool[11] == 0x0b && told.position.spool[12] == 0xfc && told.position.number == 10203, 1);
+    for (i = 0; i < sizeof room; i++) {
+        memset(room, '#', sizeof room);
+        IS(wule_spool_write_position(&told.position, room, i), i < WULE_SPOOL_POSITION ? 0 : WULE_SPOOL_POSITION);
+        IS(memcmp(room, i < WULE_SPOOL_POSITION ? "#######" : position_text, 7) == 0 && room[WULE_SPOOL_POSITION] == '#', 1);
+    }
+    IS(memcmp(room, position_text, WULE_SPOOL_POSITION), 0);
+}
+
 /* ---- a session in which one request for memory is refused */
 
 static uint8_t file[1 << 20];
@@ -372,6 +536,8 @@ int main(int argc, char **argv) {
     ask_wildly();
     top_up_beside_unsettled();
     targets_tell();
+    read_a_segment();
+    read_the_small_files();
     IS(blocks, 0);
     calls = refuse_each(by_calls, by_calls());
     steps = refuse_each(by_steps, by_steps());

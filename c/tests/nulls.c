@@ -13,7 +13,8 @@
 #define EACH(X) \
     X(version) X(open) X(free) X(feed) X(output) X(has_output) X(close) X(heartbeat) X(finish) X(is_over) X(grant) X(widen) X(drain) \
     X(settle) X(settle_range) X(detach) X(top_up) X(take) X(message_read) X(message_drop) X(held) X(window) X(link) X(link_source) \
-    X(link_target) X(link_address) X(first_lacking) X(serve_step) X(records)
+    X(link_target) X(link_address) X(first_lacking) X(serve_step) X(records) X(spool_read_head) X(spool_batch_size) X(spool_read_batch) \
+    X(spool_read_entry) X(spool_read_end) X(spool_read_floor) X(spool_read_position) X(spool_write_position)
 
 #define POINTER(name) __typeof__(wule_##name) *name;
 static struct { EACH(POINTER) } call;
@@ -79,6 +80,39 @@ static void refuse(wule_endpoint *e) {
     IS(memcmp(e, &before, sizeof before), 0);
     IS(call.held(e), held);
     IS(call.has_output(e), waits);
+}
+
+/* The same of the calls on a spool; and NULL is no bytes, which are not whole. */
+static void refuse_spools(void) {
+    static const wule_spool_head segment;
+    static const wule_spool_position at;
+    wule_spool_head head;
+    wule_spool_batch batch;
+    wule_spool_entry entry;
+    wule_spool_end end;
+    wule_spool_floor floor;
+    wule_spool_position position;
+    size_t i;
+    memset(&head, 0xee, sizeof head);
+    memset(&batch, 0xee, sizeof batch);
+    memset(&entry, 0xee, sizeof entry);
+    memset(&end, 0xee, sizeof end);
+    memset(&floor, 0xee, sizeof floor);
+    memset(&position, 0xee, sizeof position);
+    for (i = 0; i <= LENGTHS; i++) {
+        size_t n = i < LENGTHS ? lengths[i] : 0;
+        uint32_t code = n > 0 ? WULE_NULL : WULE_NOT_WHOLE;
+        IS(call.spool_read_head(NULL, n, &head), code);
+        IS(call.spool_batch_size(NULL, n), 0);
+        IS(call.spool_read_batch(&segment, 1, NULL, n, &batch), code);
+        IS(call.spool_read_entry(NULL, n, &entry), code);
+        IS(call.spool_read_end(NULL, n, &end), code);
+        IS(call.spool_read_floor(NULL, n, &floor), code);
+        IS(call.spool_read_position(NULL, n, &position), code);
+        IS(call.spool_write_position(&at, NULL, n), 0);
+    }
+    IS(IS_UNTOUCHED(head) && IS_UNTOUCHED(batch) && IS_UNTOUCHED(entry), 1);
+    IS(IS_UNTOUCHED(end) && IS_UNTOUCHED(floor) && IS_UNTOUCHED(position), 1);
 }
 
 static void on_none(void) {
@@ -212,6 +246,7 @@ int main(int argc, char **argv) {
     EACH(TAKE)
 #endif
     on_none();
+    refuse_spools();
     by_calls();
     by_steps();
     printf("nulls: %s\n", failures ? "failed" : "ok");

@@ -2,6 +2,8 @@
  * memory, and then with each request for memory refused in turn, alone and with all after it, unless `whole` is said.
  *     programs receive FILE MESSAGES ANSWERS [whole]
  *     programs serve FILE RECORDS ANSWERS [whole]
+ * Or the reader of a segment, over the first COUNTED bytes of a file: prints each number, and its message in hex.
+ *     programs read FILE COUNTED
  * It is linked with --wrap=malloc,--wrap=realloc,--wrap=free. A run that hangs is ended by SIGALRM. */
 #define _GNU_SOURCE
 #include "programs.h"
@@ -65,6 +67,13 @@ static const char *name_of_handed_up, *name_of_answers;
 static void give_up(const char *why) {
     perror(why);
     exit(2);
+}
+
+void keep(uint64_t number, const uint8_t *message, size_t len) {
+    size_t i;
+    printf("%llu ", (unsigned long long)number);
+    for (i = 0; i < len; i++) printf("%02x", message[i]);
+    putchar('\n');
 }
 
 void process(const uint8_t *message, size_t len) {
@@ -140,6 +149,10 @@ int main(int argc, char **argv) {
     int serves, failures = 0;
     long refused = 0;
     uint32_t end;
+    if (argc == 4 && strcmp(argv[1], "read") == 0) {
+        stream = read_file(argv[2]);
+        return read_segment(stream.at, (size_t)atol(argv[3])) != 0;
+    }
     if (argc < 5) return 2;
     serves = strcmp(argv[1], "serve") == 0;
     stream = read_file(argv[2]);

@@ -50,6 +50,25 @@ static void by_steps(void) {
     wule_free(&e);
 }
 
+/* Sums are made of bytes that are not whole too. */
+static void by_spools(void) {
+    static const uint8_t introduction[20] = {1};
+    static uint8_t bytes[256];
+    static wule_spool_head head;
+    static wule_spool_batch batch;
+    static wule_spool_entry entry;
+    static wule_spool_end end;
+    static wule_spool_floor lowest;
+    static wule_spool_position position;
+    if (wule_spool_read_head(bytes, sizeof bytes, &head) != WULE_NOT_WHOLE) exit(2);
+    if (wule_spool_read_batch(&head, 0, bytes, sizeof bytes, &batch) != WULE_NOT_WHOLE) exit(2);
+    if (wule_spool_read_entry(introduction, sizeof introduction, &entry) != WULE_OK) exit(2);
+    if (wule_spool_read_end(bytes, WULE_SPOOL_END, &end) != WULE_NOT_WHOLE) exit(2);
+    if (wule_spool_read_floor(bytes, WULE_SPOOL_FLOOR, &lowest) != WULE_NOT_WHOLE) exit(2);
+    if (wule_spool_write_position(&position, bytes, sizeof bytes) != WULE_SPOOL_POSITION) exit(2);
+    if (wule_spool_read_position(bytes, WULE_SPOOL_POSITION, &position) != WULE_OK) exit(2);
+}
+
 static void by_none(void) {}
 
 static void *run(void *session) {
@@ -72,7 +91,7 @@ static size_t used_by(void (*session)(void)) {
 }
 
 int main(int argc, char **argv) {
-    size_t own, calls, steps;
+    size_t own, calls, steps, spools;
     FILE *in = argc > 1 ? fopen(argv[1], "rb") : NULL;
     if (!in) return 2;
     size = fread(file, 1, sizeof file, in);
@@ -80,6 +99,8 @@ int main(int argc, char **argv) {
     own = used_by(by_none);
     calls = used_by(by_calls);
     steps = used_by(by_steps);
-    printf("stack: calls %lu bytes, steps %lu, of which the thread's own are %lu\n", (unsigned long)calls, (unsigned long)steps, (unsigned long)own);
-    return calls > 16384 || steps > 16384;
+    spools = used_by(by_spools);
+    printf("stack: calls %lu bytes, steps %lu, spools %lu, of which the thread's own are %lu\n", (unsigned long)calls, (unsigned long)steps,
+           (unsigned long)spools, (unsigned long)own);
+    return calls > 16384 || steps > 16384 || spools > 16384;
 }

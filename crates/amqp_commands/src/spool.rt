@@ -156,7 +156,10 @@ impl<S: Sink + Drop> Shelf for Outlet<S> {
     }
 }
 
-impl<C: Clock + RandomSource + Drop, R: Files + Drop> Shelf for SpoolKeeper<C, Dir<R>> {
+impl<C: Clock + RandomSource + Drop, R: Files + Drop> Shelf for SpoolKeeper<C, Dir<R>>
+where
+    R::File: Exclusive,
+{
     fn stock(&self) -> Option<Stock> {
         let journal = self.spool().journal();
         Some(Stock {

@@ -42,3 +42,5 @@ pub mod Spooling
 pub mod Preparing
 pub mod Lives
 pub mod Running
+pub mod NameKept
+pub mod Consuming

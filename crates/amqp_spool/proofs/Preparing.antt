@@ -112,3 +112,7 @@ module _ {F : Type 0} (history : F → History) (s : Spool F) (j : Journal F) (s
 
   pub not_ready : (e : JournalFault) → (e ≢ fault.Failed → j.failed ≡ false) → Has history told waiting s → IsDone history told waiting (Err e) (record s { journal = j })
   not_ready e alive has = record { done = tt; refused = λ not. has_ready (alive (λ failed. not (ap (λ (x : JournalFault). Err x) failed))) has }
+
+-- What is so of each state between two calls that leave the history.
+pub since_between : (P : State → Type 0) (a b c d : History) → b ≡ a → d ≡ c → Since P b c → Since P a d
+since_between P a b c d first last since = subst (λ (x : History). Since P x d) first (subst (λ (y : History). Since P b y) (sym last) since)

@@ -52,7 +52,7 @@ module _ {F : Type 0} (history : F → History) (told : Puts) where
   }
 
   -- It was tended, or not.
-  pub ran_tended : (waiting : Puts) (r : Result (Unit {0}) JournalFault) (old new : Spool F) → Since (KeepsTold told) (history old.journal.folder) (history new.journal.folder) → ((r ≡ Err fault.Failed → ⊥) → Has history told waiting new)
+  pub ran_tended : {A : Type 0} (waiting : Puts) (r : Result A JournalFault) (old new : Spool F) → Since (KeepsTold told) (history old.journal.folder) (history new.journal.folder) → ((r ≡ Err fault.Failed → ⊥) → Has history told waiting new)
       → (r ≡ Err fault.Failed → new.journal.failed ≡ true) → HasRun history told old new
   ran_tended waiting r old new kept has fails = record {
     kept = since_it (history old.journal.folder) (history new.journal.folder) kept;

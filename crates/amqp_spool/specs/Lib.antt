@@ -26,3 +26,5 @@ pub mod Waitings
 pub mod PutFaults
 pub mod NamesRead
 pub mod NamesLaws
+pub mod ConsumerNames
+pub mod Consumers

@@ -28,6 +28,8 @@ pub enum Call<'a> {
     },
     /// [`Spool::tend`].
     Tend(u64),
+    /// [`Spool::free`].
+    Free,
 }
 
 /// Makes these calls, whatever they answer. At each moment of it the folder keeps what was told before, and what was
@@ -62,6 +64,9 @@ fn make<F: Folder + Drop>(spool: &mut Spool<F>, call: &Call)
         }
         Call::Tend(passed) => {
             let _ = spool.tend(passed);
+        }
+        Call::Free => {
+            let _ = spool.free();
         }
     }
 }

@@ -10,6 +10,7 @@ ghost use Rattle.amqp_spool.specs.declared.dir.OpenError.TheVariants.{NoMemory, 
 ghost use Rattle.std.specs.IoError.{error_kind};
 
 use crate::batch_head::BATCH_HEAD;
+use crate::consumers::{self, ConsumerFault, Standing};
 use crate::dir_files::{DirFiles, Exclusive, Refusal};
 use crate::dir_names::FileName;
 use crate::end::{END, End};
@@ -125,6 +126,8 @@ impl Error for OpenError {}
 /// - [`Dir::set_reserve`]: ask for the length of `reserve`. If it is the right one sync it, and else make it, or cut it
 ///   to no bytes; write it; sync it. If that fails remove it.
 /// - [`Dir::give_up_reserve`]: remove `reserve`.
+/// - `passed`: open `consumers.lock`, if it is there, and lock it; read the names; of each position ask for its length and
+///   read it. `let_go` closes the lock.
 ///
 /// So a name is durable before a call returns `Ok`, and what has the name of a segment or of the floor is whole.
 ///
@@ -153,6 +156,8 @@ pub struct Dir<R: Files + Drop> {
     is_reserved: bool,
     // why a call was last full or failed, until it is taken
     reason: Cell<Option<Refusal>>,
+    // the lock of the consumers, while none may be added
+    consumers: Option<R::File>,
     // locked while it is open; the last that is closed
     lock: R::File,
 }
@@ -198,6 +203,7 @@ where
             reserve: None,
             is_reserved: false,
             reason: Cell::new(None),
+            consumers: None,
             lock,
         })
     }
@@ -417,6 +423,22 @@ impl<R: Files + Drop> Dir<R> {
         self.reason.take()
     }
 
+    /// Returns where each consumer stands, in no order.
+    ///
+    /// # Errors
+    ///
+    /// As [`standings`](consumers::standings).
+    pub fn standings(&self) -> Result<Vec<Standing>, ConsumerFault> {
+        consumers::standings(&self.files, &self.floor.spool)
+    }
+
+    /// Keeps why consumers could not be looked at, if the system has refused it.
+    fn note(&self, fault: ConsumerFault) {
+        if let ConsumerFault::Refused(refusal) = fault {
+            self.reason.set(Some(refusal));
+        }
+    }
+
     /// Makes the reserve. If it is there with so many bytes it is synced.
     fn make_reserve(&self, bytes: u64) -> io::Result<()> {
         match self.files.len(FileName::Reserve) {
@@ -574,8 +596,14 @@ impl<R: Files + Drop> Dir<R> {
     }
 }
 
-impl<R: Files + Drop> Folder for Dir<R> {
+impl<R: Files + Drop> Folder for Dir<R>
+where
+    R::File: Exclusive,
+{
     ghost history = { λ _. None };
+
+    // They are other processes.
+    ghost positions = { λ _. None };
 
     fn names(&self, alloc: Global) -> Result<Vec<Named>, AllocError>
         ensures names { IfOk result (λ names. Now (HasNames names.items) None) }
@@ -752,5 +780,32 @@ impl<R: Files + Drop> Folder for Dir<R> {
             Ok(()) => Ok(()),
             Err(refusal) => Err(self.fail_by(refusal)),
         }
+    }
+
+    /// Takes `consumers.lock`, if there is one, and reads all positions. One that can't be read counts as 0. If another has
+    /// the lock, or the system refuses to read, it returns `None`.
+    fn passed(&mut self) -> Option<u64>
+        ensures same { (self.new.segments ≡ self.old.segments) × (self.new.floor ≡ self.old.floor) × (self.new.newest ≡ self.old.newest) × (self.new.failed ≡ self.old.failed) }
+    {
+        let lock = self.files.open_there(FileName::Consumers).ok()?;
+        if !matches!(lock.hold(), Ok(true)) {
+            return None;
+        }
+        match consumers::least(&self.files, &self.floor.spool) {
+            Ok(passed) => {
+                self.consumers = passed.map(|_| lock);
+                passed
+            }
+            Err(fault) => {
+                self.note(fault);
+                None
+            }
+        }
+    }
+
+    fn let_go(&mut self)
+        ensures same { (self.new.segments ≡ self.old.segments) × (self.new.floor ≡ self.old.floor) × (self.new.newest ≡ self.old.newest) × (self.new.failed ≡ self.old.failed) }
+    {
+        self.consumers = None;
     }
 }

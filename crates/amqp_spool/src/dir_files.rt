@@ -3,7 +3,8 @@ ghost use Rattle.amqp_spool.specs.FileNames.{file_name};
 ghost use Rattle.std.specs.Prelude.{◌≡◌, ◌≤◌, ◌++◌, length, codes, string_bytes, IfOk, IfSome};
 ghost use Rattle.std.specs.Vec.{vec_len};
 
-use crate::dir_names::{FileName, first_in};
+use crate::consumer_name::ConsumerName;
+use crate::dir_names::{FileName, consumer_in, first_in};
 use std::alloc::{AllocError, Global};
 use std::fmt::{self, Formatter};
 use std::fs::{self, DirBuilder, File, Files, OpenFile, OpenOptions, TryLockError};
@@ -77,16 +78,15 @@ impl<R: Files + Drop> DirFiles<R> {
 
     /// Makes a file with these bytes, in place of what it had, and syncs it.
     pub(crate) fn make(&self, name: FileName, bytes: &[u8]) -> io::Result<R::File> {
-        let mut file = self.open_anew(name)?;
-        file.write_all(bytes)?;
-        file.sync_all()?;
-        Ok(file)
+        let path = self.path_of(name)?;
+        self.make_at(path.as_str(), bytes)
     }
 
     /// Makes a file of so many zeros, in place of what it had, and syncs it.
     pub(crate) fn fill(&self, name: FileName, len: u64) -> io::Result<()> {
         let zeros = [0; PIECE];
-        let mut file = self.open_anew(name)?;
+        let path = self.path_of(name)?;
+        let mut file = self.open_anew(path.as_str())?;
         for _ in 0..len / PIECE as u64 {
             file.write_all(&zeros)?;
         }
@@ -111,36 +111,28 @@ impl<R: Files + Drop> DirFiles<R> {
 
     /// Opens a file to write over what it has. If it isn't there it is made, with the mode 0600.
     pub(crate) fn open_over(&self, name: FileName) -> io::Result<R::File> {
-        let mut options = OpenOptions::new();
-        options.write(true).create(true).mode(FILE_MODE);
-        self.open(name, &options)
+        let path = self.path_of(name)?;
+        self.open_over_at(path.as_str())
     }
 
     /// Opens a file to read it.
     pub fn open_read(&self, name: FileName) -> io::Result<R::File> {
-        let mut options = OpenOptions::new();
-        options.read(true);
-        self.open(name, &options)
+        let path = self.path_of(name)?;
+        self.open_read_at(path.as_str())
     }
 
     /// Reads bytes of a file, from a place on. Fails if it has fewer.
     pub fn read(&self, name: FileName, at: u64, out: &mut [u8]) -> io::Result<()>
         ensures { length out.new ≡ length out.old }
     {
-        let mut file = self.open_read(name)?;
-        file.seek(SeekFrom::Start(at))?;
-        file.read_exact(out)
+        let path = self.path_of(name)?;
+        self.read_at(path.as_str(), at, out)
     }
 
     /// Returns how many bytes a file has. Returns `None` if it is no file.
     pub fn len(&self, name: FileName) -> io::Result<Option<u64>> {
         let path = self.path_of(name)?;
-        let metadata = self.rt.metadata(path.as_str())?;
-        if metadata.is_file() {
-            Ok(Some(metadata.len()))
-        } else {
-            Ok(None)
-        }
+        self.len_at(path.as_str())
     }
 
     /// Gives a file another name, in place of the file that had it, and makes that durable.
@@ -166,11 +158,7 @@ impl<R: Files + Drop> DirFiles<R> {
     /// Removes a file. Returns whether it was there.
     pub(crate) fn remove(&self, name: FileName) -> io::Result<bool> {
         let path = self.path_of(name)?;
-        match self.rt.remove_file(path.as_str()) {
-            Ok(()) => Ok(true),
-            Err(reason) if reason.kind() == io::ErrorKind::NotFound => Ok(false),
-            Err(reason) => Err(reason),
-        }
+        self.remove_at(path.as_str())
     }
 
     /// Makes durable what a file has, or which names a directory has.
@@ -201,28 +189,38 @@ impl<R: Files + Drop> DirFiles<R> {
         Ok(Some(firsts))
     }
 
+    /// Returns the consumers that have positions, in no order. Returns `None` if there are more than `most`.
+    pub(crate) fn consumers(&self, most: usize) -> io::Result<Option<Vec<ConsumerName>>>
+        ensures { IfOk result (λ o. IfSome o (λ names. vec_len names ≤ most)) }
+    {
+        let rt = (&self.rt, self.alloc);
+        let mut names = Vec::new(self.alloc);
+        for entry in fs::read_dir(&rt, self.path.as_str())? {
+            let name = match entry {
+                Ok(entry) => consumer_in(entry.file_name()),
+                Err(reason) if reason.kind() == io::ErrorKind::InvalidFilename => None,
+                Err(reason) => return Err(reason),
+            };
+            if let Some(name) = name {
+                if names.len() >= most {
+                    return Ok(None);
+                }
+                names.push(name)?;
+            }
+        }
+        Ok(Some(names))
+    }
+
     fn move_over(&self, from: FileName, to: FileName) -> io::Result<()> {
         let from = self.path_of(from)?;
         let to = self.path_of(to)?;
-        self.rt.rename(from.as_str(), to.as_str())
+        self.rename_at(from.as_str(), to.as_str())
     }
 
     fn cut_and_remove(&self, name: FileName) -> io::Result<()> {
         self.open_there(name)?.set_len(0)?;
         self.remove(name)?;
         Ok(())
-    }
-
-    /// Opens a file to write what it has from its begin on. What it had is gone. If it isn't there it is made, with the
-    /// mode 0600.
-    fn open_anew(&self, name: FileName) -> io::Result<R::File> {
-        let mut options = OpenOptions::new();
-        options
-            .write(true)
-            .create(true)
-            .truncate(true)
-            .mode(FILE_MODE);
-        self.open(name, &options)
     }
 
     fn open(&self, name: FileName, options: &OpenOptions) -> io::Result<R::File> {
@@ -235,5 +233,80 @@ impl<R: Files + Drop> DirFiles<R> {
     {
         let alloc = self.alloc;
         format!(in alloc; "{}/{name}", self.path.as_str())
+    }
+
+    /// Returns the path of a consumer's file, whose name ends so.
+    pub(crate) fn path_for(&self, name: &ConsumerName, ending: &str) -> Result<String, AllocError>
+        ensures { IfOk result (λ path. string_bytes path ≡ string_bytes self.now.path ++ codes "/" ++ name.now ++ ending.now) }
+    {
+        let alloc = self.alloc;
+        format!(in alloc; "{}/{}{ending}", self.path.as_str(), name.as_str())
+    }
+
+    /// Makes the file at this path with these bytes, in place of what it had, and syncs it.
+    pub(crate) fn make_at(&self, path: &str, bytes: &[u8]) -> io::Result<R::File> {
+        let mut file = self.open_anew(path)?;
+        file.write_all(bytes)?;
+        file.sync_all()?;
+        Ok(file)
+    }
+
+    /// Opens the file at this path to write over what it has. If it isn't there it is made, with the mode 0600.
+    pub(crate) fn open_over_at(&self, path: &str) -> io::Result<R::File> {
+        let mut options = OpenOptions::new();
+        options.write(true).create(true).mode(FILE_MODE);
+        options.open(&self.rt, path)
+    }
+
+    /// Opens the file at this path to write what it has from its begin on. What it had is gone. If it isn't there it is
+    /// made, with the mode 0600.
+    fn open_anew(&self, path: &str) -> io::Result<R::File> {
+        let mut options = OpenOptions::new();
+        options
+            .write(true)
+            .create(true)
+            .truncate(true)
+            .mode(FILE_MODE);
+        options.open(&self.rt, path)
+    }
+
+    /// Opens the file at this path to read it.
+    fn open_read_at(&self, path: &str) -> io::Result<R::File> {
+        let mut options = OpenOptions::new();
+        options.read(true);
+        options.open(&self.rt, path)
+    }
+
+    /// Reads bytes of the file at this path, from a place on. Fails if it has fewer.
+    pub(crate) fn read_at(&self, path: &str, at: u64, out: &mut [u8]) -> io::Result<()>
+        ensures { length out.new ≡ length out.old }
+    {
+        let mut file = self.open_read_at(path)?;
+        file.seek(SeekFrom::Start(at))?;
+        file.read_exact(out)
+    }
+
+    /// Returns how many bytes the file at this path has. Returns `None` if it is no file.
+    pub(crate) fn len_at(&self, path: &str) -> io::Result<Option<u64>> {
+        let metadata = self.rt.metadata(path)?;
+        if metadata.is_file() {
+            Ok(Some(metadata.len()))
+        } else {
+            Ok(None)
+        }
+    }
+
+    /// Removes the file at this path. Returns whether it was there.
+    pub(crate) fn remove_at(&self, path: &str) -> io::Result<bool> {
+        match self.rt.remove_file(path) {
+            Ok(()) => Ok(true),
+            Err(reason) if reason.kind() == io::ErrorKind::NotFound => Ok(false),
+            Err(reason) => Err(reason),
+        }
+    }
+
+    /// Gives the file at this path another name, in place of the file that had it.
+    pub(crate) fn rename_at(&self, from: &str, to: &str) -> io::Result<()> {
+        self.rt.rename(from, to)
     }
 }

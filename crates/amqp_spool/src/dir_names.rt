@@ -1,13 +1,16 @@
 //! The names of the files in the directory of a spool.
-ghost use Rattle.std.specs.Prelude.{◌≡◌, ℕ, ◌<◌, ◌^◌, Some, IfSome};
-ghost use Rattle.amqp_spool.specs.FileNames.{segment_name};
+ghost use Rattle.std.specs.Prelude.{◌≡◌, ℕ, ◌<◌, ◌^◌, List, Some, IfSome};
+ghost use Rattle.amqp_spool.specs.FileNames.{segment_name, position_name};
+ghost use Rattle.amqp_spool.specs.Positions.{IsName};
 
+use crate::consumer_name::ConsumerName;
 use std::fmt::{self, Formatter};
 
 /// How many digits the name of a segment has.
 const DIGITS: usize = 20;
 
-/// A file in the directory of a spool, or a directory, seen from there. It is displayed as its name.
+/// A file in the directory of a spool, or a directory, seen from there. It is displayed as its name; one of a consumer as
+/// the end of its name, after a star.
 #[derive(Clone, Copy, Debug, PartialEq, Eq)]
 pub enum FileName {
     /// `.`, the directory itself.
@@ -28,6 +31,14 @@ pub enum FileName {
     End,
     /// `reserve`, which is given up if the disk is full.
     Reserve,
+    /// `consumers.lock`, which is held by whoever adds or removes a consumer, or removes segments.
+    Consumers,
+    /// `*.at`, the position of some consumer.
+    Position,
+    /// `*.at.tmp`, a position that is being made.
+    PositionTmp,
+    /// `*.at.lock`, which is held by the one who moves a position.
+    PositionLock,
 }
 
 impl fmt::Display for FileName {
@@ -46,6 +57,10 @@ impl fmt::Display for FileName {
             FileName::Floor => f.write_str("floor"),
             FileName::End => f.write_str("end"),
             FileName::Reserve => f.write_str("reserve"),
+            FileName::Consumers => f.write_str("consumers.lock"),
+            FileName::Position => f.write_str("*.at"),
+            FileName::PositionTmp => f.write_str("*.at.tmp"),
+            FileName::PositionLock => f.write_str("*.at.lock"),
         }
     }
 }
@@ -60,4 +75,12 @@ pub(crate) fn first_in(name: &str) -> Option<u64>
         return None;
     }
     digits.parse::<u64>().ok()
+}
+
+/// Returns the consumer whose position has this name. Returns `None` if no consumer's has it.
+pub(crate) fn consumer_in(name: &str) -> Option<ConsumerName>
+    ensures is { IfSome result (λ consumer. name.now ≡ position_name consumer) }
+    ensures found { (consumer : List ℕ) → IsName consumer → name.now ≡ position_name consumer → result ≡ Some consumer }
+{
+    ConsumerName::of(name.strip_suffix(".at")?)
 }

@@ -15,7 +15,7 @@ pub struct End {
     pub spool: [u8; 16],
     /// The number of the first record of the newest segment.
     pub first: u64,
-    /// The sum of that segment's head: which file of that name it is.
+    /// The sum of that segment's head: which segment of that name it is.
     pub mark: u64,
     /// How many of its bytes may be read.
     pub place: u64,

@@ -1,6 +1,7 @@
 //! A folder of segments, as a spool sees it.
 ghost use Rattle.amqp_spool.specs.Folders.{History, Goes, GoesBy, Now, MayWrite, IsAppended, IsSynced, IsAdded, IsRaised, IsRemoved, making};
-ghost use Rattle.std.specs.Prelude.{◌≡◌, length, IfOk, OnOk};
+ghost use Rattle.amqp_spool.specs.Consumers.{HavePassed};
+ghost use Rattle.std.specs.Prelude.{◌≡◌, ℕ, List, Option, Some, length, IfOk, IfSome, OnOk};
 ghost use Rattle.amqp_spool.specs.Reads.{HasNames, IsRead};
 
 use crate::end::End;
@@ -20,6 +21,9 @@ pub enum FolderFault {
 pub trait Folder {
     // Each state that it has had, the newest first, if that is known.
     ghost history: { Self → History };
+
+    // Up to which number each of its consumers has acknowledged, if that is known.
+    ghost positions: { Self → Option (List ℕ) };
 
     /// Returns the segments, the newest first, each with how many bytes it has.
     fn names(&self, alloc: Global) -> Result<Vec<Named>, AllocError>
@@ -67,4 +71,18 @@ pub trait Folder {
     /// Removes the oldest segment, durably.
     fn remove_oldest(&mut self) -> Result<(), FolderFault>
         ensures { Goes (IsRemoved result) (history self.old) (history self.new) };
+
+    /// Returns up to which number all consumers have acknowledged. Until [`Folder::let_go`] they may acknowledge more,
+    /// and none is added. Returns `None` if there are none, or if it can't be known now.
+    fn passed(&mut self) -> Option<u64>
+        ensures same { history self.new ≡ history self.old }
+        ensures passed { IfSome result (λ n. (ps : List ℕ) → positions self.old ≡ Some ps → HavePassed n ps) }
+    {
+        None
+    }
+
+    /// Lets consumers be added again.
+    fn let_go(&mut self)
+        ensures { history self.new ≡ history self.old }
+    {}
 }

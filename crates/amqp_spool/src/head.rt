@@ -65,7 +65,7 @@ impl Head {
         }
     }
 
-    /// Returns the sum in the head. Two segments of one name have not the same.
+    /// Returns the sum in the head. Two segments of one name have the same only if a start has copied one.
     pub fn sum(&self) -> u64
         ensures { result ≡ sum_of self.now.secret (head_front self.now) }
     {

@@ -1,9 +1,10 @@
 //! Batches on the disk: the segments of a folder, one batch after the other.
-ghost use Rattle.std.specs.Prelude.{◌≡◌, ◌≢◌, ◌++◌, ◌≤◌, ◌<◌, ◌+◌, ◌^◌, ◌⊎◌, ℕ, true, false, List, ◌∷◌, [], length, Ok, Err, OnOk, OnErr, IfOk, IfErr};
+ghost use Rattle.std.specs.Prelude.{◌≡◌, ◌≢◌, ◌++◌, ◌≤◌, ◌<◌, ◌+◌, ◌^◌, ◌⊎◌, ℕ, true, false, List, ◌∷◌, [], length, Ok, Err, Some, OnOk, OnErr, IfOk, IfErr, IfSome};
 ghost use Rattle.std.specs.Vec.{vec_len, vec_capacity};
 ghost use Rattle.amqp_spool.specs.Batches.{Batch, Follows};
 ghost use Rattle.amqp_spool.specs.Chapters.{Chapter, GoesAfter, Holds, IsAt, IsPut, IsBegun, chapter_text, next_of};
 ghost use Rattle.amqp_spool.specs.Counting.{HasRaised, OldestIsNeeded, AllAreNeeded, AreInOrder, AreFrontOf, IsFreed};
+ghost use Rattle.amqp_spool.specs.Consumers.{HavePassed};
 ghost use Rattle.amqp_spool.specs.Ends.{end_of};
 ghost use Rattle.amqp_spool.specs.Folders.{Now, Since, IsUnasked};
 ghost use Rattle.amqp_spool.specs.declared.journal.JournalFault.TheVariants.{NoMemory};
@@ -301,6 +302,24 @@ impl<F: Folder + Drop> Journal<F> {
     {
         let end = self.end();
         self.folder.publish(&end)
+    }
+
+    /// Returns up to which number all consumers have acknowledged, and lets none be added until [`Journal::let_go`].
+    /// Nothing else changes.
+    pub fn passed(&mut self) -> Option<u64>
+        ensures same { self.new ≡ record self.old { folder = self.new.folder } }
+        ensures history { F.history self.new.folder ≡ F.history self.old.folder }
+        ensures passed { IfSome result (λ n. (ps : List ℕ) → F.positions self.old.folder ≡ Some ps → HavePassed n ps) }
+    {
+        self.folder.passed()
+    }
+
+    /// Lets consumers be added again. Nothing else changes.
+    pub fn let_go(&mut self)
+        ensures same { self.new ≡ record self.old { folder = self.new.folder } }
+        ensures history { F.history self.new.folder ≡ F.history self.old.folder }
+    {
+        self.folder.let_go();
     }
 
     /// Returns the head of the next segment, with this secret.

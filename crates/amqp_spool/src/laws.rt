@@ -7,6 +7,7 @@ ghost use Rattle.amqp_spool.specs.Folders.{Now};
 ghost use Rattle.amqp_spool.specs.Sayings.{Puts};
 ghost use Rattle.amqp_spool.specs.Spools.{Has, KeepsTold};
 ghost use Rattle.amqp_spool.specs.SpoolLaws.{AreRead, TheToldAreRead, EachLifeFindsTheTold, EachLossIsFound, EachNumberHasItsSegment};
+ghost use Rattle.amqp_spool.specs.Consumers.{NoConsumerMisses};
 ghost use Rattle.amqp_spool.specs.PositionLaws.{DigitsAreOfTheNumber, OnePositionOfAText};
 
 use crate::folder::Folder;
@@ -82,6 +83,11 @@ pub fn readers_get_named()
 /// What is read to its end is the body of a batch.
 pub fn what_is_read_is_a_body()
     ensures { WhatIsReadIsABody }
+{}
+
+/// However consumers come, go and acknowledge beside the gateway, each finds all that it has not acknowledged.
+pub fn no_consumer_misses()
+    ensures { NoConsumerMisses }
 {}
 
 /// The decimal digits of a number are as many as asked for, and have its value.

@@ -4,6 +4,8 @@
 mod alone;
 mod batch_head;
 mod calls;
+mod consumer_name;
+pub mod consumers;
 mod dir;
 mod dir_files;
 mod dir_names;
@@ -26,6 +28,7 @@ mod waiting;
 
 pub use batch_head::{BATCH_HEAD, BatchHead};
 pub use calls::{Call, run};
+pub use consumer_name::ConsumerName;
 pub use dir::{Dir, MOST_SEGMENTS, OpenError, reserve_for};
 pub use dir_files::{DirFiles, Exclusive, Refusal};
 pub use dir_names::FileName;

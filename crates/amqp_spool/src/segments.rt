@@ -1,5 +1,5 @@
 //! The segments of a spool, as it counts them.
-ghost use Rattle.std.specs.Prelude.{◌≡◌, ◌≢◌, ◌<◌, ◌≤◌, ◌+◌, ◌^◌, ◌∷◌, ◌++◌, List, [], Some, None, IfSome, OnOk};
+ghost use Rattle.std.specs.Prelude.{◌≡◌, ◌≢◌, ◌<◌, ◌≤◌, ◌+◌, ◌-◌, ◌^◌, ◌∷◌, ◌++◌, min, length, List, [], Some, None, IfSome, OnOk};
 ghost use Rattle.std.specs.Vec.{vec_len, vec_capacity};
 ghost use Rattle.amqp_spool.specs.declared.segments.Named.{Named};
 ghost use Rattle.amqp_spool.specs.Counting.{total, grown, put, freed, IsNewestAt};
@@ -75,6 +75,22 @@ impl Segments {
         match self.list.pop() {
             Some(oldest) => oldest.bytes,
             None => 0,
+        }
+    }
+
+    /// Returns `passed`, or less, so that at most `most` of them are passed.
+    pub fn few(&self, passed: u64, most: usize) -> u64
+        ensures low { result ≤ passed }
+        ensures all { vec_len self.now.list ≤ most → result ≡ passed }
+        ensures some { (front back : List Named) (stays : Named) → self.now.list.items ≡ front ++ stays ∷ back → length back ≡ most → result ≡ min passed (stays.first - 1) }
+    {
+        let count = self.list.len();
+        if count <= most {
+            return passed;
+        }
+        match self.list.get(count - 1 - most) {
+            Some(stays) => passed.min(stays.first.saturating_sub(1)),
+            None => passed,
         }
     }
 

@@ -1,9 +1,10 @@
 //! A spool: records that wait for the disk, and those that are on it.
-ghost use Rattle.std.specs.Prelude.{◌≡◌, ◌≢◌, ◌++◌, ◌≤◌, ◌<◌, ◌+◌, ◌^◌, ◌⊎◌, ℕ, true, false, List, ◌∷◌, [], ◌↔◌, length, Some, Err, OnOk, OnErr, IfOk, IfErr, IsTrue};
+ghost use Rattle.std.specs.Prelude.{◌≡◌, ◌≢◌, ◌++◌, ◌≤◌, ◌<◌, ◌+◌, ◌^◌, ◌⊎◌, ℕ, true, false, List, ◌∷◌, [], ◌↔◌, length, Some, Err, OnOk, OnErr, IfOk, IfErr, IfSome, IsTrue};
 ghost use Rattle.amqp_spool.specs.Batches.{Batch};
 ghost use Rattle.amqp_spool.specs.Chapters.{IsReadable};
 ghost use Rattle.amqp_spool.specs.Entries.{Introduced, Recorded};
 ghost use Rattle.amqp_spool.specs.EntryReading.{introduced_in};
+ghost use Rattle.amqp_spool.specs.Consumers.{HavePassed, PassAtMost};
 ghost use Rattle.amqp_spool.specs.Counting.{OldestIsNeeded, AllAreNeeded, AreInOrder, AreFrontOf};
 ghost use Rattle.amqp_spool.specs.Folders.{Segment, State, Now, Since, IsUnasked};
 ghost use Rattle.amqp_spool.specs.Journals.{head_after, GoesEither, IsSettled, IsTended, HaveBounds, LeavesMost, HasFloor, HaveLimits, Stands, IsEmpty};
@@ -22,6 +23,9 @@ use std::alloc::Global;
 
 /// How many bytes the heads of a segment and of a batch have.
 const SEGMENT_FRONT: u64 = 112;
+
+/// How many segments are removed at once, at most.
+const MOST_FREED: usize = 8;
 
 /// A spool.
 #[derive(Drop)]
@@ -260,6 +264,68 @@ impl<F: Folder + Drop> Spool<F> {
         ensures all { OnOk result (AreInOrder self.old.journal.segments.list.items → AllAreNeeded passed self.new.journal.segments.list.items) }
     {
         self.journal.tend(passed)
+    }
+
+    /// Removes segments that every consumer has passed, as [`Spool::tend`] does, at most eight of them; no consumer is added
+    /// meanwhile. Returns up to which number it removed. Returns `None` if there are no consumers, or if it can't be known
+    /// now what they have passed, and nothing is removed then.
+    ///
+    /// # Errors
+    ///
+    /// As [`Spool::tend`].
+    pub fn free(&mut self) -> Result<Option<u64>, JournalFault>
+        requires { IsSound F.history self.old }
+        ensures sound { IsSound F.history self.new }
+        ensures limits { HaveLimits self.old.journal self.new.journal }
+        ensures bound { Since (LeavesMost (self.old.journal.limit + self.old.journal.segment)) (F.history self.old.journal.folder) (F.history self.new.journal.folder) }
+        ensures kept { (told waiting : Puts) → Has F.history told waiting self.old → Since (KeepsTold told) (F.history self.old.journal.folder) (F.history self.new.journal.folder) }
+        ensures floor { (n : ℕ) (ps : List ℕ) → F.positions self.old.journal.folder ≡ Some ps → PassAtMost n ps → Now (HasFloor n) (F.history self.old.journal.folder) → Since (HasFloor n) (F.history self.old.journal.folder) (F.history self.new.journal.folder) }
+        ensures passed { IfOk result (λ o. IfSome o (λ n. (ps : List ℕ) → F.positions self.old.journal.folder ≡ Some ps → HavePassed n ps)) }
+        ensures freed { IfOk result (λ o. IfSome o (λ n. OldestIsNeeded n self.new.journal.segments.list.items)) }
+        ensures failed { self.old.journal.failed ≡ true → (result ≡ Err JournalFault.Failed) × (self.new ≡ self.old) }
+        ensures links { self.new.links ≡ self.old.links }
+        ensures waiting { self.new.waiting ≡ self.old.waiting }
+        ensures fails { result ≡ Err JournalFault.Failed → self.new.journal.failed ≡ true }
+        ensures has { (told waiting : Puts) → Has F.history told waiting self.old → result ≢ Err JournalFault.Failed → Has F.history told waiting self.new }
+        ensures faults { IfErr result (λ fault. (fault ≡ JournalFault.Full) ⊎ (fault ≡ JournalFault.Failed)) }
+    {
+        if self.journal.failed {
+            return Err(JournalFault::Failed);
+        }
+        let Some(passed) = self.passed() else {
+            return Ok(None);
+        };
+        let passed = self.journal.segments.few(passed, MOST_FREED);
+        let tended = self.tend(passed);
+        self.let_go();
+        match tended {
+            Ok(()) => Ok(Some(passed)),
+            Err(fault) => Err(fault),
+        }
+    }
+
+    /// Returns up to which number all consumers have acknowledged, and lets none be added until [`Spool::let_go`].
+    fn passed(&mut self) -> Option<u64>
+        requires sound { IsSound F.history self.old }
+        requires alive { self.old.journal.failed ≡ false }
+        ensures sound { IsSound F.history self.new }
+        ensures history { F.history self.new.journal.folder ≡ F.history self.old.journal.folder }
+        ensures same { self.new ≡ record self.old { journal = record self.old.journal { folder = self.new.journal.folder } } }
+        ensures has { (told waiting : Puts) → Has F.history told waiting self.old → Has F.history told waiting self.new }
+        ensures passed { IfSome result (λ n. (ps : List ℕ) → F.positions self.old.journal.folder ≡ Some ps → HavePassed n ps) }
+    {
+        self.journal.passed()
+    }
+
+    /// Lets consumers be added again.
+    fn let_go(&mut self)
+        requires { IsSound F.history self.old }
+        ensures sound { IsSound F.history self.new }
+        ensures history { F.history self.new.journal.folder ≡ F.history self.old.journal.folder }
+        ensures same { self.new ≡ record self.old { journal = record self.old.journal { folder = self.new.journal.folder } } }
+        ensures has { (told waiting : Puts) → Has F.history told waiting self.old → Has F.history told waiting self.new }
+    {
+        self.journal.let_go();
     }
 
     /// Returns whether there is room for so many bytes more: in the batch that waits, and then for the batch on the

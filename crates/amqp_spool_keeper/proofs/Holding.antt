@@ -1,5 +1,5 @@
 -- What a spool has, whichever numbers its links have.
-use Rattle.std.proofs.Common.{◌≡◌, ◌≢◌, ◌⊎◌, inl, inr, refl, sym, ap, subst, ◌∙◌, ℕ, zero, suc, ◌+◌, List, [], ◌∷◌, ◌++◌, Option, Some, None, Result, Ok, Err}
+use Rattle.std.proofs.Common.{◌≡◌, ◌≢◌, ◌⊎◌, inl, inr, refl, sym, ap, subst, ◌∙◌, ℕ, zero, suc, ◌+◌, List, [], ◌∷◌, ◌++◌, append_assoc, Option, Some, None, Result, Ok, Err}
 use Rattle.std.specs.Prelude.{OnOk, OnErr}
 use Rattle.std.proofs.lemmas.Bool.{cases_eq}
 use Rattle.amqp_endpoint.specs.Steps.{EndpointState}
@@ -9,12 +9,12 @@ use Rattle.amqp_hub.specs.declared.keeper.Progress.TheVariants as progress
 use Rattle.amqp_spool.specs.declared.journal.Journal.{Journal}
 use Rattle.amqp_spool.specs.declared.spool.Spool.{Spool}
 use Rattle.amqp_spool.specs.Entries.{Entry, Introduced}
-use Rattle.amqp_spool.specs.Folders.{History, State, Since}
-use Rattle.amqp_spool.specs.Journals.{HaveLimits, LeavesMost}
+use Rattle.amqp_spool.specs.Folders.{History, State, All, Now, Since}
+use Rattle.amqp_spool.specs.Journals.{HaveLimits, LeavesMost, HasFloor}
 use Rattle.amqp_spool.specs.Sayings.{Puts}
 use Rattle.amqp_spool.specs.Spools.{Has, KeepsTold}
 use Rattle.amqp_spool.specs.Waitings.{LinkState, LinksState, WaitingState, Waits, link_at, IsOpened, IsClosed}
-use Rattle.amqp_spool_keeper.specs.Keeping.{KeeperState, with_link, given, state_of, AreAlike, Holds, sent_by, Accepts, IsSafe, IsTold, WaitsOn}
+use Rattle.amqp_spool_keeper.specs.Keeping.{KeeperState, with_link, given, state_of, AreAlike, Holds, sent_by, Accepts, IsSafe, IsTold, WaitsOn, OnlyPassedGo}
 use Rattle.amqp_spool_keeper.specs.Senders.{sender_of}
 
 -- Numbers. -------------------------------------------------------------------------------------------------------------
@@ -166,3 +166,47 @@ ok_then (Err e) f p = tt
 pub err_then : {A E P Q : Type 0} (r : Result A E) → (P → Q) → OnErr r P → OnErr r Q
 err_then (Ok x) f p = tt
 err_then (Err e) f p = f p
+
+-- One call after another. ---------------------------------------------------------------------------------------------
+
+all_more : (P : State → Type 0) (xs ys : List State) → All P xs → All P ys → All P (xs ++ ys)
+all_more P [] ys a b = b
+all_more P (x ∷ xs) ys a b = (a.0, all_more P xs ys a.1 b)
+
+since_since : (P : State → Type 0) (h k l : History) → Since P h k → Since P k l → Since P h l
+since_since P (Some past) k l a b =
+    let c = subst (λ (x : History). Since P x l) a.1 b in
+    (c.0 ++ a.0, c.1 ∙ ap (λ (x : List State). Some x) (sym (append_assoc c.0 a.0 past)), all_more P c.0 a.0 c.2 a.2)
+since_since P None k l a b = subst (λ (x : History). Since P x l) a b
+
+since_now : (P : State → Type 0) (h k : History) → Now P h → Since P h k → Now P k
+since_now P (Some past) k now (([]), is, all) = subst (λ (x : History). Now P x) (sym is) now
+since_now P (Some past) k now ((s ∷ more), is, all) = subst (λ (x : History). Now P x) (sym is) all.0
+since_now P None k now since = subst (λ (x : History). Now P x) (sym since) tt
+
+module _ {F : Type 0} (history : F → History) (a b c : KeeperState F) where
+  -- What waited waits on after the first.
+  pub safe_safe : IsSafe history a b → WaitsOn history a b → IsSafe history b c → IsSafe history a c
+  safe_safe x waits y = record {
+    kept = λ told waiting held. since_since (KeepsTold told) (history a.journal.folder) (history b.journal.folder) (history c.journal.folder) (x.kept told waiting held) (y.kept told waiting (waits told waiting held));
+    bound = since_since (LeavesMost (a.journal.limit + a.journal.segment)) (history a.journal.folder) (history b.journal.folder) (history c.journal.folder) x.bound
+        (subst (λ (n : ℕ). Since (LeavesMost n) (history b.journal.folder) (history c.journal.folder)) (rw (x.limits.limit, x.limits.segment) refl) y.bound);
+    limits = record { limit = y.limits.limit ∙ x.limits.limit; segment = y.limits.segment ∙ x.limits.segment; life = y.limits.life ∙ x.limits.life };
+    room = y.room ∙ x.room;
+  }
+
+  -- The second leaves the floor.
+  pub only_passed : (positions : F → Option (List ℕ)) → OnlyPassedGo history positions a b → ((n : ℕ) → Now (HasFloor n) (history b.journal.folder) → Since (HasFloor n) (history b.journal.folder) (history c.journal.folder)) → OnlyPassedGo history positions a c
+  only_passed positions x still = λ n ps known passes low.
+      let first = x n ps known passes low in
+      since_since (HasFloor n) (history a.journal.folder) (history b.journal.folder) (history c.journal.folder) first (still n (since_now (HasFloor n) (history a.journal.folder) (history b.journal.folder) low first))
+
+-- Nothing was asked of the disk before.
+pub passed_after : {F : Type 0} (history : F → History) (positions : F → Option (List ℕ)) (a b c : KeeperState F) → b.journal ≡ a.journal → OnlyPassedGo history positions b c → OnlyPassedGo history positions a c
+passed_after history positions a b c same x = λ n ps known passes low.
+    subst (λ (j : Journal _). Since (HasFloor n) (history j.folder) (history c.journal.folder)) same
+    (x n ps (ap (λ (j : Journal _). positions j.folder) same ∙ known) passes (subst (λ (j : Journal _). Now (HasFloor n) (history j.folder)) (sym same) low))
+
+-- Nothing was asked.
+pub passed_still : {F : Type 0} (history : F → History) (positions : F → Option (List ℕ)) (k : KeeperState F) → OnlyPassedGo history positions k k
+passed_still history positions k = λ n ps known passes low. since_none (HasFloor n) (history k.journal.folder)

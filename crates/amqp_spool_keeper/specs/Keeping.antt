@@ -7,8 +7,9 @@ use Rattle.amqp_hub.specs.declared.keeper.Progress.TheVariants as progress
 use Rattle.amqp_spool.specs.declared.journal.Journal.{Journal}
 use Rattle.amqp_spool.specs.declared.spool.Spool.{Spool}
 use Rattle.amqp_spool.specs.Entries.{Introduced, Recorded}
-use Rattle.amqp_spool.specs.Folders.{History, Since}
-use Rattle.amqp_spool.specs.Journals.{HaveLimits, LeavesMost}
+use Rattle.amqp_spool.specs.Consumers.{PassAtMost}
+use Rattle.amqp_spool.specs.Folders.{History, Now, Since}
+use Rattle.amqp_spool.specs.Journals.{HaveLimits, LeavesMost, HasFloor}
 use Rattle.amqp_spool.specs.Sayings.{Puts}
 use Rattle.amqp_spool.specs.Spools.{Has, KeepsTold}
 use Rattle.amqp_spool.specs.Waitings.{LinkState, LinksState, WaitingState, link_at, batch_len, numbered}
@@ -81,9 +82,15 @@ IsTold history old new = (told waiting : Puts) → Holds history told waiting ol
 abbrev pub WaitsOn : {F : Type 0} → (F → History) → KeeperState F → KeeperState F → Type 0
 WaitsOn history old new = (told waiting : Puts) → Holds history told waiting old → Holds history told waiting new
 
--- It was asked to take all for good. At the end all that waited was told, and nothing waits. Else it waits on, unless the folder has failed.
-pub record Settles {F : Type 0} (history : F → History) (old : KeeperState F) (p : Progress) (new : KeeperState F) : Type 0 where
+-- If the consumers' positions are known, nothing may be missing at any moment of a call but what was before, and what all of them had passed.
+abbrev pub OnlyPassedGo : {F : Type 0} → (F → History) → (F → Option (List ℕ)) → KeeperState F → KeeperState F → Type 0
+OnlyPassedGo history positions old new =
+    (n : ℕ) (ps : List ℕ) → positions old.journal.folder ≡ Some ps → PassAtMost n ps → Now (HasFloor n) (history old.journal.folder) → Since (HasFloor n) (history old.journal.folder) (history new.journal.folder)
+
+-- It was asked to take all for good. At the end all that waited was told, and nothing waits. Else it waits on, unless the folder has failed. Segments may have gone that all consumers had passed.
+pub record Settles {F : Type 0} (history : F → History) (positions : F → Option (List ℕ)) (old : KeeperState F) (p : Progress) (new : KeeperState F) : Type 0 where
   pub safe : IsSafe history old new
+  pub floor : OnlyPassedGo history positions old new
   pub told : p ≡ progress.Out → IsTold history old new
   pub waits : p ≡ progress.Stuck → WaitsOn history old new
   pub out : p ≡ progress.Out → is_settled new ≡ true

@@ -21,5 +21,5 @@ accepts_more history k l origin e bytes x = (record { grown = refl; still = refl
 pub room_is_made : {F : Type 0} (history : F → History) (k l : KeeperState F) (p : Progress) → MakesRoom history k p l → HasCome p unknown unknown unknown unknown (is_roomy l) l.journal.failed
 room_is_made history k l p x = record { same = refl; grows = ([], refl); out = x.out; failed = x.failed }
 
-pub settling_takes : {F : Type 0} (history : F → History) (k l : KeeperState F) (p : Progress) → Settles history k p l → HasCome p unknown unknown unknown unknown (is_settled l) l.journal.failed
-settling_takes history k l p x = record { same = refl; grows = ([], refl); out = x.out; failed = x.failed }
+pub settling_takes : {F : Type 0} (history : F → History) (positions : F → Option (List ℕ)) (k l : KeeperState F) (p : Progress) → Settles history positions k p l → HasCome p unknown unknown unknown unknown (is_settled l) l.journal.failed
+settling_takes history positions k l p x = record { same = refl; grows = ([], refl); out = x.out; failed = x.failed }

@@ -5,7 +5,7 @@ use Rattle.amqp_endpoint.specs.Takings.{link_at}
 use Rattle.amqp_endpoint.specs.declared.introduction.Introduction.{Introduction}
 use Rattle.amqp_perform.specs.Addresses.{Node, Named, Made, Nameless, NoNode, OtherNode, target_node}
 use Rattle.amqp_session.specs.declared.slot.Slot.{Slot}
-use Rattle.amqp_session.specs.declared.slot.Slot.TheVariants.{Free, Live, Waits}
+use Rattle.amqp_session.specs.declared.slot.Slot.TheVariants.{Live}
 use Rattle.amqp_session.specs.Sessions.{LiveLink}
 use Rattle.amqp_hub.specs.declared.keeper.Origin.{Origin}
 use Rattle.amqp_spool.specs.Entries.{Introduced}

@@ -1,13 +1,14 @@
 //! The keeper.
 
-ghost use Rattle.std.specs.Prelude.{◌≡◌, ◌≢◌, ◌↔◌, ◌≤◌, ◌++◌, ◌∷◌, [], ℕ, true, OnOk, OnErr, IfOk, IfSome};
+ghost use Rattle.std.specs.Prelude.{◌≡◌, ◌≢◌, ◌↔◌, ◌≤◌, ◌++◌, ◌∷◌, [], ℕ, true, false, OnOk, OnErr, IfOk, IfSome};
 ghost use Rattle.amqp_spool.specs.EntryReading.{introduced_in};
-ghost use Rattle.amqp_spool.specs.Journals.{HaveLimits};
+ghost use Rattle.amqp_spool.specs.Folders.{Now, Since};
+ghost use Rattle.amqp_spool.specs.Journals.{HaveLimits, HasFloor};
 ghost use Rattle.amqp_spool.specs.Sayings.{Puts};
 ghost use Rattle.amqp_spool.specs.Spools.{IsSound, Has};
 ghost use Rattle.amqp_spool.specs.Waitings.{IsFrom, numbered};
 ghost use Rattle.amqp_hub.specs.declared.keeper.Progress.TheVariants as Progress;
-ghost use Rattle.amqp_spool_keeper.specs.Keeping.{state_of, is_settled, sent_by, AreAlike, IsSafe, IsTold, WaitsOn};
+ghost use Rattle.amqp_spool_keeper.specs.Keeping.{state_of, is_settled, sent_by, AreAlike, IsSafe, IsTold, WaitsOn, OnlyPassedGo};
 
 use crate::people::People;
 use crate::sender::sender_of;
@@ -20,7 +21,8 @@ use std::marker::Model;
 use std::random::RandomSource;
 use std::time::{Clock, Instant};
 
-/// How long a disk that refused a batch is left alone, in milliseconds.
+/// How long a disk that refused a batch is left alone, and how long it takes at least from one look at the consumers to
+/// the next, in milliseconds.
 const PAUSE: u128 = 250;
 
 /// A spool that keeps the records of a hub's connections.
@@ -39,6 +41,8 @@ pub struct SpoolKeeper<R: Drop, F: Folder + Drop> {
     arrived: u64,
     /// When a batch was refused last, unless one was taken since.
     refused: Option<Instant>,
+    /// When it was last looked what the consumers have passed.
+    looked: Option<Instant>,
     /// Whether readers have not heard how far they may read.
     is_unpublished: bool,
 }
@@ -70,6 +74,7 @@ impl<R: Drop, F: Folder + Drop> SpoolKeeper<R, F> {
             text: Vec::new(alloc),
             arrived: 0,
             refused: None,
+            looked: None,
             is_unpublished: true,
         }
     }
@@ -209,7 +214,7 @@ impl<R: Clock + RandomSource + Drop, F: Folder + Drop> Keeper for SpoolKeeper<R,
 
     ghost makes_room = { MakesRoom F.history };
 
-    ghost settles = { Settles F.history };
+    ghost settles = { Settles F.history F.positions };
 
     ghost settled_is_taken = { nothing_known };
 
@@ -217,7 +222,7 @@ impl<R: Clock + RandomSource + Drop, F: Folder + Drop> Keeper for SpoolKeeper<R,
 
     ghost room_is_made = { room_is_made F.history };
 
-    ghost settling_takes = { settling_takes F.history };
+    ghost settling_takes = { settling_takes F.history F.positions };
 
     /// Notes the first 58 bytes of the address. If memory is refused its records come from nowhere.
     fn met(&self, number: u64, from: &str) -> Result<(), AllocError> {
@@ -269,8 +274,13 @@ impl<R: Clock + RandomSource + Drop, F: Folder + Drop> Keeper for SpoolKeeper<R,
         }
     }
 
+    /// It also removes segments that all consumers of the spool have passed.
     fn settle(&mut self) -> Progress {
         self.close_left();
+        self.free();
+        if self.spool.has_failed() {
+            return Progress::Failed;
+        }
         self.write_out()
     }
 
@@ -287,6 +297,7 @@ impl<R: Clock + RandomSource + Drop, F: Folder + Drop> SpoolKeeper<R, F> {
     /// Makes durable what waits, as far as it can, and says to readers how far they may read.
     fn write_out(&mut self) -> Progress
         ensures safe { IsSafe F.history self.old self.new }
+        ensures floor { (n : ℕ) → Now (HasFloor n) (F.history self.old.journal.folder) → Since (HasFloor n) (F.history self.old.journal.folder) (F.history self.new.journal.folder) }
         ensures told { result ≡ Progress.Out → IsTold F.history self.old self.new }
         ensures waits { result ≡ Progress.Stuck → WaitsOn F.history self.old self.new }
         ensures out { result ≡ Progress.Out → is_settled self.new ≡ true }
@@ -302,6 +313,7 @@ impl<R: Clock + RandomSource + Drop, F: Folder + Drop> SpoolKeeper<R, F> {
     /// Makes durable what waits, unless a disk that refused a batch is left alone, or the system gives no secret.
     fn write_batch(&mut self) -> Progress
         ensures safe { IsSafe F.history self.old self.new }
+        ensures floor { (n : ℕ) → Now (HasFloor n) (F.history self.old.journal.folder) → Since (HasFloor n) (F.history self.old.journal.folder) (F.history self.new.journal.folder) }
         ensures told { result ≡ Progress.Out → IsTold F.history self.old self.new }
         ensures waits { result ≡ Progress.Stuck → WaitsOn F.history self.old self.new }
         ensures out { result ≡ Progress.Out → is_settled self.new ≡ true }
@@ -312,7 +324,7 @@ impl<R: Clock + RandomSource + Drop, F: Folder + Drop> SpoolKeeper<R, F> {
         }
         let waits = !self.spool.is_settled();
         let mut secret = [0; 16];
-        if waits && (self.is_refused() || self.rt.fill_bytes(&mut secret).is_err()) {
+        if waits && (self.was_now(self.refused) || self.rt.fill_bytes(&mut secret).is_err()) {
             return Progress::Stuck;
         }
         self.look_at_clock();
@@ -341,14 +353,27 @@ impl<R: Clock + RandomSource + Drop, F: Folder + Drop> SpoolKeeper<R, F> {
         }
     }
 
-    /// Returns whether the last batch was refused not long ago.
-    fn is_refused(&self) -> bool {
-        match self.refused {
+    /// Returns whether this moment was not long ago.
+    fn was_now(&self, moment: Option<Instant>) -> bool {
+        match moment {
             Some(at) => at
                 .elapsed(&self.rt)
                 .is_ok_and(|age| age.as_millis() < PAUSE),
             None => false,
         }
+    }
+
+    /// Removes segments that all consumers have passed, unless it looked for some not long ago. The newest one stays.
+    fn free(&mut self)
+        ensures safe { IsSafe F.history self.old self.new }
+        ensures waits { self.new.journal.failed ≡ false → WaitsOn F.history self.old self.new }
+        ensures floor { OnlyPassedGo F.history F.positions self.old self.new }
+    {
+        if self.spool.has_failed() || self.spool.journal().len() < 2 || self.was_now(self.looked) {
+            return;
+        }
+        self.looked = Instant::now(&self.rt).ok();
+        let _ = self.spool.free();
     }
 
     /// Closes the links of connections that have left.

@@ -3,3 +3,4 @@ pub mod Extents
 pub mod Damages
 pub mod Stops
 pub mod Listings
+pub mod Tellings

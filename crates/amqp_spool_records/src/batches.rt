@@ -1,6 +1,7 @@
 //! The batches of a segment, one after the other.
 
-ghost use Rattle.std.specs.Prelude.{◌≡◌, ◌-◌, ◌+◌, length};
+ghost use Rattle.std.specs.Prelude.{◌≡◌, ◌≤◌, ◌<◌, ◌-◌, ◌+◌, ◌^◌, length, OnOk};
+ghost use Rattle.amqp_spool_records.specs.Tellings.{MayComeFrom};
 ghost use Rattle.amqp_spool_records.specs.Stops.{may_have, stop_at, end_at};
 
 use crate::extents::Extent;
@@ -35,11 +36,11 @@ pub enum Stop {
 }
 
 impl At {
-    /// Returns the place of the first batch of a segment with this head, of whose bytes so many may count.
-    pub fn first(head: &Head, len: u64) -> At {
+    /// Returns the place of the first batch of a segment with this head, of which nothing counts yet.
+    pub fn first(head: &Head) -> At {
         At {
             place: HEAD as u64,
-            left: len.saturating_sub(HEAD as u64),
+            left: 0,
             number: head.first,
         }
     }
@@ -57,22 +58,26 @@ impl At {
     }
 }
 
-/// Reads the batches of a segment whose head was read, and tells the visitor each record from the number `due` on. `due`
-/// is the number after the last that was told then. `bytes` is room for a batch.
+/// Reads the batches of a segment from a place on, and tells the visitor each record from the number `due` on. `due` is
+/// the number after the last that was told then, and `at` the place after the last batch that was read whole. `bytes`
+/// is room for a batch.
 pub fn read_batches<F: Read + Drop, V: Visitor>(
     file: &mut F,
     head: &Head,
-    first: At,
+    at: &mut At,
     extent: &Extent,
     names: &mut Names,
     bytes: &mut Vec<u8>,
     due: &mut u64,
     visitor: &mut V,
-) -> Result<Stop, SpoolFault> {
-    let mut at = first;
+) -> Result<Stop, SpoolFault>
+    requires { MayComeFrom (V.may_come visitor.old) due.old }
+    ensures rises { due.old ≤ due.new }
+    ensures may { MayComeFrom (V.may_come visitor.new) due.new }
+{
     'batches: while at.left > 0 && may_have(extent, at.number) {
-        let Some(batch) = read_batch(file, head, at, bytes)? else {
-            return Ok(stop_at(extent, at));
+        let Some(batch) = read_batch(file, head, *at, bytes)? else {
+            return Ok(stop_at(extent, *at));
         };
         let body = bytes.get(BATCH_HEAD..).unwrap_or(&[]);
         let told = tell_batch(head, &batch, body, names, due, visitor)?;
@@ -80,9 +85,9 @@ pub fn read_batches<F: Read + Drop, V: Visitor>(
             let place = at.place;
             return Ok(Stop::Broken { place, number });
         }
-        at = at.after(&batch);
+        *at = at.after(&batch);
     }
-    Ok(end_at(extent, at))
+    Ok(end_at(extent, *at))
 }
 
 /// Returns whether a segment may have the record of this number. One whose bytes are counted ends where they do.
@@ -158,7 +163,7 @@ fn fill<F: Read + Drop>(file: &mut F, left: u64, bytes: &mut Vec<u8>) -> io::Res
 }
 
 /// Fills `out` from a file. Returns `false` if that ends before.
-fn is_read<F: Read + Drop>(file: &mut F, out: &mut [u8]) -> io::Result<bool>
+pub fn is_read<F: Read + Drop>(file: &mut F, out: &mut [u8]) -> io::Result<bool>
     ensures { length out.new ≡ length out.old }
 {
     match file.read_exact(out) {
@@ -196,10 +201,14 @@ fn tell_batch<V: Visitor>(
     names: &mut Names,
     due: &mut u64,
     visitor: &mut V,
-) -> Result<Option<u64>, SpoolFault> {
+) -> Result<Option<u64>, SpoolFault>
+    requires { MayComeFrom (V.may_come visitor.old) due.old }
+    ensures rises { due.old ≤ due.new }
+    ensures may { MayComeFrom (V.may_come visitor.new) due.new }
+{
     let mut entries = Entries::new(body);
     let next = batch.first.saturating_add(batch.count as u64);
-    for number in batch.first..next {
+    'records: for number in batch.first..next {
         let Some(sent) = next_record(names, &mut entries)? else {
             return Ok(Some(number));
         };
@@ -209,20 +218,34 @@ fn tell_batch<V: Visitor>(
         if sent.record.len() < RECORD_HEAD {
             return Ok(Some(number));
         }
-        if number >= *due {
-            let found = Found {
-                spool: head.spool,
-                number,
-                time: batch.arrived,
-                life: head.life,
-                from,
-                sent,
-            };
-            visitor.record(&found)?;
-            *due = after(number);
-        }
+        let found = Found {
+            spool: head.spool,
+            number,
+            time: batch.arrived,
+            life: head.life,
+            from,
+            sent,
+        };
+        tell_due(&found, due, visitor)?;
     }
     Ok(None)
+}
+
+/// Tells the visitor a record if its number is due, or above the one that is. The number after it is due then.
+fn tell_due<V: Visitor>(found: &Found<'_>, due: &mut u64, visitor: &mut V) -> Result<(), SpoolFault>
+    requires whole { RECORD_HEAD ≤ length found.now.sent.«record».now }
+    requires small { found.now.number < 2 ^ 64 - 1 }
+    requires may { MayComeFrom (V.may_come visitor.old) due.old }
+    ensures rises { due.old ≤ due.new }
+    ensures may { MayComeFrom (V.may_come visitor.new) due.new }
+    ensures below { found.now.number < due.old → (due.new ≡ due.old) × (visitor.new ≡ visitor.old) }
+    ensures told { due.old ≤ found.now.number → OnOk result (due.new ≡ found.now.number + 1) }
+{
+    if found.number >= *due {
+        visitor.record(found)?;
+        *due = after(found.number);
+    }
+    Ok(())
 }
 
 /// Reads the next record of a body, and takes the introductions before it. Returns `None` if there is none.

@@ -35,7 +35,7 @@ pub fn check_spool<R: Files + Drop, W: Write + Drop, E: Write + Drop>(
         out,
         told,
     };
-    walk(&files, alloc, None, &mut checker)?;
+    walk(files, alloc, None, &mut checker)?;
     checker.end()
 }
 

@@ -21,6 +21,9 @@ pub enum SpoolFault {
     /// The directory has more segments than a gateway makes.
     #[error("TooManySegments")]
     TooManySegments,
+    /// The directory has another spool than the one that is followed: its numbers stand for other records.
+    #[error("OtherSpool")]
+    OtherSpool,
     /// What was printed could not be written.
     #[error("Write")]
     Write,

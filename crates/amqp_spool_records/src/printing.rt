@@ -66,25 +66,14 @@ pub fn print_spool<R: Files + Drop, W: Write + Drop, E: Write + Drop>(
     told: E,
 ) -> Result<u64, SpoolFault> {
     let files = DirFiles::new(rt, alloc, dir)?;
-    let page = Page::with_capacity(alloc, ROOM)?;
-    let scratch = Scratch::new(alloc, ROOM)?;
-    let mut printer = Printer {
-        alloc,
-        wanted,
-        page,
-        scratch,
-        line: Vec::new(alloc),
-        damaged: 0,
-        out,
-        told,
-    };
-    walk(&files, alloc, wanted.after, &mut printer)?;
-    Ok(printer.damaged)
+    let mut printer = Printer::new(alloc, wanted, out, told)?;
+    walk(files, alloc, wanted.after, &mut printer)?;
+    Ok(printer.damaged())
 }
 
-/// One that prints what it is told of.
+/// A visitor that prints what it is told of, as [`print_spool`] does.
 #[derive(Drop)]
-struct Printer<'a, W, E> {
+pub struct Printer<'a, W, E> {
     alloc: Global,
     wanted: Wanted<'a>,
     /// Where the text before a record is made.
@@ -98,7 +87,48 @@ struct Printer<'a, W, E> {
     told: E,
 }
 
-impl<W: Write + Drop, E: Write + Drop> Printer<'_, W, E> {
+impl<'a, W: Write + Drop, E: Write + Drop> Printer<'a, W, E> {
+    /// Returns one that prints records, and numbers that are missing, to `out`, and damage to `told`. Which records it
+    /// is told of is for the one who goes through the spool to say: `wanted.after` is not looked at.
+    ///
+    /// # Errors
+    ///
+    /// `NoMemory` if memory is refused.
+    pub fn new(
+        alloc: Global,
+        wanted: Wanted<'a>,
+        out: W,
+        told: E,
+    ) -> Result<Printer<'a, W, E>, SpoolFault> {
+        let page = Page::with_capacity(alloc, ROOM)?;
+        let scratch = Scratch::new(alloc, ROOM)?;
+        Ok(Printer {
+            alloc,
+            wanted,
+            page,
+            scratch,
+            line: Vec::new(alloc),
+            damaged: 0,
+            out,
+            told,
+        })
+    }
+
+    /// Returns how often it was told of damage.
+    pub fn damaged(&self) -> u64 {
+        self.damaged
+    }
+
+    /// Flushes `out` and `told`.
+    ///
+    /// # Errors
+    ///
+    /// `Write` if one of them refuses it.
+    pub fn flush(&mut self) -> Result<(), SpoolFault> {
+        self.out.flush().map_err(|_| SpoolFault::Write)?;
+        self.told.flush().map_err(|_| SpoolFault::Write)
+    }
+
     /// Prints a record for people.
     fn put_text(&mut self, found: &Found<'_>) -> Result<(), SpoolFault>
         requires { HEAD ≤ length found.now.sent.«record».now }

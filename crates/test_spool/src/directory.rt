@@ -5,7 +5,7 @@ use crate::files;
 use crate::host::{Asked, Host};
 use crate::texts::{end_in, put_end};
 use crate::words::{Hex, Words, bytes_in, long, part, sixteen, word_of};
-use amqp_spool::{Dir, Folder, FolderFault, OpenError};
+use amqp_spool::{Dir, Exclusive, Folder, FolderFault, OpenError};
 use std::alloc::Global;
 use std::fs::{File, Files};
 use std::rc::Rc;
@@ -152,7 +152,10 @@ fn call<R: Files + Drop>(
     name: &str,
     words: &str,
     out: &mut String,
-) -> Result<(), Miss> {
+) -> Result<(), Miss>
+where
+    R::File: Exclusive,
+{
     match name {
         "names" => put_names(alloc, dir, out),
         "spool" => Ok(write!(out, "{}", Hex(&dir.spool()))?),
@@ -166,7 +169,10 @@ fn call<R: Files + Drop>(
 }
 
 /// Puts the segments, the newest first, each as FIRST:BYTES.
-fn put_names<R: Files + Drop>(alloc: Global, dir: &Dir<R>, out: &mut String) -> Result<(), Miss> {
+fn put_names<R: Files + Drop>(alloc: Global, dir: &Dir<R>, out: &mut String) -> Result<(), Miss>
+where
+    R::File: Exclusive,
+{
     for named in dir.names(alloc)?.iter() {
         let (first, bytes) = (named.first, named.bytes);
         part(out, " ")?;
@@ -176,7 +182,10 @@ fn put_names<R: Files + Drop>(alloc: Global, dir: &Dir<R>, out: &mut String) -> 
 }
 
 /// Puts why a call was last refused.
-fn put_reason<R: Files + Drop>(dir: &mut Dir<R>, out: &mut String) -> Result<(), Miss> {
+fn put_reason<R: Files + Drop>(dir: &mut Dir<R>, out: &mut String) -> Result<(), Miss>
+where
+    R::File: Exclusive,
+{
     match dir.take_reason() {
         Some(reason) => write!(out, "{reason}")?,
         None => out.push_str("None")?,
@@ -189,7 +198,10 @@ fn put_read<R: Files + Drop>(
     dir: &Dir<R>,
     mut words: Words<'_>,
     out: &mut String,
-) -> Result<(), Miss> {
+) -> Result<(), Miss>
+where
+    R::File: Exclusive,
+{
     let index = words.number()? as usize;
     let place = words.long()?;
     let len = words.number()? as usize;
@@ -209,7 +221,10 @@ fn change<R: Files + Drop>(
     dir: &mut Dir<R>,
     name: &str,
     words: &str,
-) -> Result<Result<(), FolderFault>, Miss> {
+) -> Result<Result<(), FolderFault>, Miss>
+where
+    R::File: Exclusive,
+{
     match name {
         "append" => Ok(dir.append(&bytes_in(alloc, words)?)),
         "add" => add(alloc, dir, Words::of(words)),
@@ -231,7 +246,10 @@ fn add<R: Files + Drop>(
     alloc: Global,
     dir: &mut Dir<R>,
     mut words: Words<'_>,
-) -> Result<Result<(), FolderFault>, Miss> {
+) -> Result<Result<(), FolderFault>, Miss>
+where
+    R::File: Exclusive,
+{
     let first = words.long()?;
     let hex = words.word()?;
     words.end()?;

@@ -4,7 +4,7 @@ ghost use Rattle.std.specs.Prelude.{None};
 
 use crate::host::Host;
 use crate::words::Words;
-use amqp_spool::{Dir, Folder, FolderFault, Named};
+use amqp_spool::{Dir, End, Folder, FolderFault, Named};
 use std::alloc::{AllocError, Global};
 use std::cell::Cell;
 use test_row_files::Miss;
@@ -216,6 +216,8 @@ pub struct Failing<'a> {
 impl Folder for Failing<'_> {
     ghost history = { λ _. None };
 
+    ghost positions = { λ _. None };
+
     fn names(&self, alloc: Global) -> Result<Vec<Named>, AllocError> {
         self.dir.names(alloc)
     }
@@ -266,5 +268,17 @@ impl Folder for Failing<'_> {
         let fault = self.plan.begin(Call::RemoveOldest)?;
         self.dir.remove_oldest()?;
         told(fault)
+    }
+
+    fn publish(&mut self, end: &End) -> Result<(), FolderFault> {
+        self.dir.publish(end)
+    }
+
+    fn passed(&mut self) -> Option<u64> {
+        self.dir.passed()
+    }
+
+    fn let_go(&mut self) {
+        self.dir.let_go();
     }
 }

@@ -55,6 +55,7 @@ impl Told {
                 }
                 self.note_settled(answer)
             }
+            ("ack", words) if was_asked => self.note_passed(words),
             ("tend", passed) => {
                 if was_asked && answer != "Full" {
                     self.passed = self.passed.max(long(passed)?);
@@ -85,6 +86,13 @@ impl Told {
         let message = words.word()?;
         let tag = words.word_or(TAG);
         writeln!(self.waiting, "{from} {tag} {message}")?;
+        Ok(())
+    }
+
+    /// Notes that a consumer has acknowledged, or may have: NAME NUMBER.
+    fn note_passed(&mut self, words: &str) -> Result<(), Miss> {
+        let (_, number) = name_of(words);
+        self.passed = self.passed.max(long(number)?);
         Ok(())
     }
 

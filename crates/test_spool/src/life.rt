@@ -79,6 +79,15 @@ impl<F: Folder + Drop> Life<F> {
         self.spool.tend(passed)
     }
 
+    pub fn free(&mut self) -> Result<Option<u64>, JournalFault> {
+        self.spool.free()
+    }
+
+    /// Says how far it may be read. Returns whether it could.
+    pub fn publish(&mut self) -> bool {
+        self.spool.publish().is_ok()
+    }
+
     pub fn has_room(&self, len: u32) -> bool {
         self.spool.has_room(len)
     }

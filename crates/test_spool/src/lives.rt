@@ -2,6 +2,7 @@
 
 ghost use Rattle.amqp_spool.specs.Spools.{IsNew};
 
+use crate::consuming;
 use crate::disk::{self, PATH};
 use crate::folder::{Failing, Plan};
 use crate::host::{Asked, Host, reason_of};
@@ -9,6 +10,7 @@ use crate::kept::{CONTAINER, PEER, TAG, TARGET, Told};
 use crate::life::{Life, name_of as fault_of, refusal_of};
 use crate::segment::Form;
 use crate::words::{Words, long, part, word_of};
+use amqp_spool::consumers::Consumer;
 use amqp_spool::{Call, Dir, Folder, Introduction, JournalFault, OpenError, OpenFault, Spool};
 use std::alloc::{AllocError, Global};
 use std::io::ErrorKind;
@@ -19,7 +21,7 @@ use test_row_files::{Miss, Subject};
 /// How many calls of the system the steps of a script make at most.
 const MOST_CALLS: u32 = 10_000;
 
-const ID: [u8; 16] = *b"0123456789abcdef";
+pub const ID: [u8; 16] = *b"0123456789abcdef";
 
 /// When records arrive.
 const ARRIVED: u64 = 1_700_000_000_000;
@@ -43,6 +45,8 @@ pub struct Lives<'a> {
     asked: Rc<Asked>,
     limits: Limits,
     life: Option<Life<Failing<'a>>>,
+    /// A consumer whose lock is held.
+    held: Option<Consumer<Host<HostRuntime>>>,
     /// How many secrets were given.
     secrets: u8,
     /// Steps, parted by commas.
@@ -79,6 +83,7 @@ impl<'a> Lives<'a> {
                 batch: 0,
             },
             life: None,
+            held: None,
             secrets: 0,
             script: String::new(rt.alloc()),
         }
@@ -87,6 +92,7 @@ impl<'a> Lives<'a> {
     /// Removes all that there was.
     fn forget(&mut self) {
         self.life = None;
+        self.held = None;
         disk::remove(self.rt);
     }
 
@@ -249,8 +255,35 @@ impl<'a> Lives<'a> {
             ("cut" | "damage" | "lose", _) => spoil(self.rt, words, out),
             ("read", "") => disk::put_read(self.rt, Form::Brief, out),
             ("entries", first) => disk::put_entries_of(self.rt, long(first)?, out),
+            ("add" | "remove" | "ack" | "hold" | "position" | "positions" | "crowd", _) => {
+                self.consume(words, out)
+            }
+            ("let_go", "") => {
+                self.held = None;
+                done(out)
+            }
+            ("spoil", words) => {
+                consuming::spoil(self.rt, words)?;
+                done(out)
+            }
             (name, words) => self.live(name, words, out),
         }
+    }
+
+    /// Returns the system.
+    fn host(&self) -> Result<Host<HostRuntime>, Miss> {
+        Ok(Host {
+            rt: *self.rt,
+            alloc: self.rt.alloc(),
+            asked: self.asked.clone()?,
+        })
+    }
+
+    /// Makes a call on the consumers.
+    fn consume(&mut self, words: &str, out: &mut String) -> Result<(), Miss> {
+        let host = self.host()?;
+        let (name, words) = name_of(words);
+        consuming::call(self.rt.alloc(), host, &mut self.held, name, words, out)
     }
 
     fn limit(&mut self, mut words: Words<'_>, out: &mut String) -> Result<(), Miss> {
@@ -273,13 +306,8 @@ impl<'a> Lives<'a> {
     fn open(&mut self, out: &mut String) -> Result<(), Miss> {
         self.life = None;
         self.plan.open();
-        let alloc = self.rt.alloc();
-        let host = Host {
-            rt: *self.rt,
-            alloc,
-            asked: self.asked.clone()?,
-        };
-        match Dir::open(host, alloc, PATH, ID) {
+        let host = self.host()?;
+        match Dir::open(host, self.rt.alloc(), PATH, ID) {
             Ok(dir) => out.push_str(self.begin_life(dir))?,
             Err(OpenError::NoMemory) => out.push_str("Err(NoMemory)")?,
             Err(reason) => write!(out, "{reason}")?,
@@ -376,6 +404,7 @@ fn call<F: Folder + Drop>(
     match name {
         "link" => open_link(life, words, out),
         "held" => Ok(write!(out, "{}", life.held())?),
+        "free" => put_freed(life.free(), out),
         "run" => run(alloc, life, words, out),
         _ => Ok(out.push_str(word(alloc, life, name, words, secret)?)?),
     }
@@ -402,6 +431,7 @@ fn word<F: Folder + Drop>(
             refusal => Ok(refusal),
         },
         "tend" => Ok(settled(life.tend(long(words)?))),
+        "publish" => Ok(word_of(life.publish())),
         "has_room" => Ok(word_of(life.has_room(number(words)?))),
         "may_grant" => Ok(word_of(life.may_grant(long(words)?))),
         "is_open" => Ok(word_of(life.is_open(number(words)?))),
@@ -496,8 +526,18 @@ fn call_in(step: &str) -> Result<Call<'_>, Miss> {
             secret: [0; 16],
         }),
         ("tend", passed) => Ok(Call::Tend(long(passed)?)),
+        ("free", "") => Ok(Call::Free),
         _ => Err(Miss::Unread("no such call")),
     }
+}
+
+fn put_freed(answer: Result<Option<u64>, JournalFault>, out: &mut String) -> Result<(), Miss> {
+    match answer {
+        Ok(Some(number)) => write!(out, "{number}")?,
+        Ok(None) => out.push_str("none")?,
+        Err(fault) => out.push_str(fault_of(fault))?,
+    }
+    Ok(())
 }
 
 fn settled(answer: Result<(), JournalFault>) -> &'static str {

@@ -32,7 +32,14 @@
 //! each other call of the system, and may be refused as they. `each REASON` makes the steps of `script` as often as they
 //! ask the system something, and each time the next of its calls is refused for this reason. It answers how often that
 //! was, if each time all that was told is read in the next life: its number, who sent it, its tag and the message. What
-//! a `tend` has passed may be gone, if that asked the system something, and did not say that there is no room for it.
+//! a `tend` has passed may be gone, if that asked the system something, and did not say that there is no room for it; so
+//! may what an `ack` has passed, if that asked something.
+//!
+//! `add NAME` answers after which number a consumer begins, `remove NAME` removes it, `ack NAME N` moves its position, and
+//! `hold NAME` takes its lock until `let_go`, and answers its number. `position NAME` is read without the lock, and
+//! `positions` are all, by their names. `free` answers up to which number it removed segments, or `none`, and `publish`
+//! whether it could say how far may be read. `crowd COUNT` adds as many consumers, and `spoil NAME TEXT` puts a line in
+//! place of a position.
 //!
 //! The rows of `directory` have the directory alone, over a system that makes each sync. `open ID` opens it and `close`
 //! closes it; `also PATH` opens another one besides. `names`, `spool`, `floor`, `read INDEX PLACE LEN`, `append BYTES`,
@@ -42,6 +49,7 @@
 //! NAME` opens a file as a reader, and `held` answers how many bytes that one has.
 #![tactic(auto)]
 
+mod consuming;
 mod directory;
 mod disk;
 mod files;

@@ -4,3 +4,4 @@ pub mod Losses
 pub mod Programs
 pub mod ReadLemmas
 pub mod UnboxedRows
+pub mod SpoolPlaces

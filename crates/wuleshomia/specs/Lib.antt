@@ -4,3 +4,4 @@ pub mod Codes
 pub mod Exports
 pub mod Serving
 pub mod Programs
+pub mod Spools

@@ -39,6 +39,8 @@ pub const ANSWER_LOST: u32 = 29;
 
 pub const RECORD_LOST: u32 = 30;
 
+pub const NOT_WHOLE: u32 = 32;
+
 /// Why no endpoint was set up.
 #[derive(Clone, Copy, Debug, PartialEq, Eq)]
 pub enum OpenFault {

@@ -105,3 +105,87 @@ pub struct StepReport {
     pub refused: u32,
     pub reserved: u32,
 }
+
+/// Some of the bytes that a call was handed: `len` of them, from the one at `at` on.
+#[repr(C)]
+#[derive(Clone, Copy)]
+pub struct Part {
+    pub at: u64,
+    pub len: u64,
+}
+
+/// The head of a segment of a spool; see `amqp_spool::Head`.
+#[repr(C)]
+#[derive(Clone, Copy)]
+pub struct SpoolHead {
+    pub spool: [u8; 16],
+    pub secret: [u8; 16],
+    pub first: u64,
+    pub before: u64,
+    pub counted: u64,
+    pub life: u64,
+    /// The sum of all this.
+    pub sum: u64,
+}
+
+/// A batch of a spool; see `amqp_spool::BatchHead`.
+#[repr(C)]
+#[derive(Clone, Copy)]
+pub struct SpoolBatch {
+    /// How many bytes it has, with its head.
+    pub len: u64,
+    pub first: u64,
+    pub arrived: u64,
+    pub count: u32,
+    pub reserved: u32,
+}
+
+/// An entry of a batch; see `amqp_spool::Entry`. The fields after `link` are of an introduction up to `target`, and of a
+/// record from `tag` on; in the other kind they are 0.
+#[repr(C)]
+#[derive(Clone, Copy)]
+pub struct SpoolEntry {
+    /// How many bytes it has.
+    pub len: u64,
+    /// 1 is an introduction, 2 a record.
+    pub kind: u32,
+    pub link: u32,
+    pub connection: u64,
+    pub peer: Part,
+    pub container: Part,
+    pub name: Part,
+    pub user: Part,
+    pub target_kind: u32,
+    pub reserved: u32,
+    pub target: Part,
+    pub tag: Part,
+    pub record: Part,
+}
+
+/// How far a spool may be read; see `amqp_spool::End`.
+#[repr(C)]
+#[derive(Clone, Copy)]
+pub struct SpoolEnd {
+    pub spool: [u8; 16],
+    pub first: u64,
+    pub mark: u64,
+    pub place: u64,
+    pub next: u64,
+}
+
+/// Up to which number the segments of a spool may be missing; see `amqp_spool::Floor`.
+#[repr(C)]
+#[derive(Clone, Copy)]
+pub struct SpoolFloor {
+    pub spool: [u8; 16],
+    pub number: u64,
+    pub dropped: u64,
+}
+
+/// Up to which number a consumer has acknowledged the records of a spool; see `amqp_spool::Position`.
+#[repr(C)]
+#[derive(Clone, Copy)]
+pub struct SpoolPosition {
+    pub spool: [u8; 16],
+    pub number: u64,
+}

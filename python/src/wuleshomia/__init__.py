@@ -16,6 +16,8 @@ yours::
 
 :class:`ReceiverProtocol` does this for asyncio, with three functions of yours.
 
+A :class:`Spool` has the records that `amqp gateway --spool` keeps, for a program beside it.
+
 What a peer can make an endpoint hold is bounded, and that is proved; ``wuleshomia.h`` says how far. This package itself is
 tested, and not proved.
 """
@@ -53,6 +55,17 @@ from ._endpoint import (
     Unfinished,
 )
 from ._asyncio import ReceiverProtocol
+from ._spool import (
+    Gap,
+    Locked,
+    NoConsumer,
+    OtherSpool,
+    Spool,
+    SpoolDamaged,
+    SpoolError,
+    SpoolRecord,
+    TargetKind,
+)
 
 __all__ = [
     "Aborted",
@@ -70,10 +83,14 @@ __all__ = [
     "Endpoint",
     "Event",
     "Failed",
+    "Gap",
     "Limit",
     "Link",
+    "Locked",
     "Message",
+    "NoConsumer",
     "Opened",
+    "OtherSpool",
     "Outcome",
     "Ready",
     "Receipt",
@@ -81,8 +98,13 @@ __all__ = [
     "Record",
     "Scope",
     "Settled",
+    "Spool",
+    "SpoolDamaged",
+    "SpoolError",
+    "SpoolRecord",
     "StarvedError",
     "Step",
+    "TargetKind",
     "Unfinished",
 ]
 

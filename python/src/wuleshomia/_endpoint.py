@@ -50,6 +50,7 @@ class Code(IntEnum):
     ANSWER_LOST = 29
     RECORD_LOST = 30
     NULL = 31
+    NOT_WHOLE = 32
 
 
 _TEXTS = {
@@ -77,6 +78,7 @@ _TEXTS = {
     Code.ANSWER_LOST: "memory for an answer was refused, which is lost",
     Code.RECORD_LOST: "memory for a record was refused, which is lost",
     Code.NULL: "a pointer is NULL, but its length is not 0",
+    Code.NOT_WHOLE: "the bytes are no whole head, batch, entry, end, floor or position of a spool",
 }
 
 

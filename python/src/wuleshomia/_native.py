@@ -93,6 +93,68 @@ class Step(Structure):
     ]
 
 
+class Part(Structure):
+    _fields_ = [("at", c_uint64), ("len", c_uint64)]
+
+
+class SpoolHead(Structure):
+    _fields_ = [
+        ("spool", c_uint8 * 16),
+        ("secret", c_uint8 * 16),
+        ("first", c_uint64),
+        ("before", c_uint64),
+        ("counted", c_uint64),
+        ("life", c_uint64),
+        ("sum", c_uint64),
+    ]
+
+
+class SpoolBatch(Structure):
+    _fields_ = [
+        ("len", c_uint64),
+        ("first", c_uint64),
+        ("arrived", c_uint64),
+        ("count", u32),
+        ("reserved", u32),
+    ]
+
+
+class SpoolEntry(Structure):
+    _fields_ = [
+        ("len", c_uint64),
+        ("kind", u32),
+        ("link", u32),
+        ("connection", c_uint64),
+        ("peer", Part),
+        ("container", Part),
+        ("name", Part),
+        ("user", Part),
+        ("target_kind", u32),
+        ("reserved", u32),
+        ("target", Part),
+        ("tag", Part),
+        ("record", Part),
+    ]
+
+
+class SpoolEnd(Structure):
+    _fields_ = [
+        ("spool", c_uint8 * 16),
+        ("first", c_uint64),
+        ("mark", c_uint64),
+        ("place", c_uint64),
+        ("next", c_uint64),
+    ]
+
+
+class SpoolFloor(Structure):
+    _fields_ = [("spool", c_uint8 * 16), ("number", c_uint64), ("dropped", c_uint64)]
+
+
+class SpoolPosition(Structure):
+    _fields_ = [("spool", c_uint8 * 16), ("number", c_uint64)]
+
+
 #: Each function: what it returns, and what it takes. A piece of bytes is its address and its length.
 FUNCTIONS = {
     "wule_version": (u32, []),
@@ -124,6 +186,14 @@ FUNCTIONS = {
     "wule_first_lacking": (u32, [POINTER(Handle), u32, u32, u32, POINTER(u32)]),
     "wule_serve_step": (u32, [POINTER(Handle), POINTER(Rule), c_void_p, c_size_t, POINTER(Step)]),
     "wule_records": (c_size_t, [POINTER(Handle), c_void_p, c_size_t]),
+    "wule_spool_read_head": (u32, [c_void_p, c_size_t, POINTER(SpoolHead)]),
+    "wule_spool_batch_size": (c_uint64, [c_void_p, c_size_t]),
+    "wule_spool_read_batch": (u32, [POINTER(SpoolHead), c_uint64, c_void_p, c_size_t, POINTER(SpoolBatch)]),
+    "wule_spool_read_entry": (u32, [c_void_p, c_size_t, POINTER(SpoolEntry)]),
+    "wule_spool_read_end": (u32, [c_void_p, c_size_t, POINTER(SpoolEnd)]),
+    "wule_spool_read_floor": (u32, [c_void_p, c_size_t, POINTER(SpoolFloor)]),
+    "wule_spool_read_position": (u32, [c_void_p, c_size_t, POINTER(SpoolPosition)]),
+    "wule_spool_write_position": (c_size_t, [POINTER(SpoolPosition), c_void_p, c_size_t]),
 }
 
 #: The version that these declarations are of.

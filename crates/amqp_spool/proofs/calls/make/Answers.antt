@@ -21,3 +21,8 @@ pub returns-in-Tend-clause-ran : goal.returns-in-Tend-clause-ran
 returns-in-Tend-clause-ran g c = λ told waiting has.
     let e = c.tend.ensures in
     ran_tended g.F.Folder.history told waiting c.tend.result c.args.spool.now c.tend.new.self (e.kept told waiting has) (λ not. e.has told waiting has not) (λ failed. e.fails failed)
+
+pub returns-in-Free-clause-ran : goal.returns-in-Free-clause-ran
+returns-in-Free-clause-ran g c = λ told waiting has.
+    let e = c.free.ensures in
+    ran_tended g.F.Folder.history told waiting c.free.result c.args.spool.now c.free.new.self (e.kept told waiting has) (λ not. e.has told waiting has not) (λ failed. e.fails failed)

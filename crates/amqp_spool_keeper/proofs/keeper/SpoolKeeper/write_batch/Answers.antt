@@ -1,6 +1,6 @@
-use Rattle.std.proofs.Common.{◌≡◌, ◌≢◌, arith, subst, sym, ◌∙◌}
+use Rattle.std.proofs.Common.{◌≡◌, subst, sym, ◌∙◌}
 use Rattle.std.proofs.lemmas.Bool.{false≢true}
-use Rattle.amqp_spool_keeper.specs.Keeping.{KeeperState, state_of, IsSafe, IsTold, WaitsOn}
+use Rattle.amqp_spool_keeper.specs.Keeping.{state_of, IsSafe, IsTold, WaitsOn}
 use Rattle.amqp_spool_keeper.proofs.Holding.{safe_of, is_told, waits_on}
 use Rattle.amqp_spool_keeper.proofs.keeper.SpoolKeeper.write_batch.Goals as goal
 

@@ -1,7 +1,7 @@
 use Rattle.std.proofs.Common.{◌++◌, [], refl, ap, subst, sym}
 use Rattle.amqp_spool.specs.declared.spool.Spool.{Spool}
 use Rattle.amqp_spool.specs.Journals.{HaveLimits}
-use Rattle.amqp_spool_keeper.specs.Keeping.{KeeperState, state_of, Holds, IsSafe}
+use Rattle.amqp_spool_keeper.specs.Keeping.{state_of, Holds, IsSafe}
 use Rattle.amqp_spool_keeper.proofs.Holding.{safe_then, waits_on}
 use Rattle.amqp_spool_keeper.proofs.keeper.SpoolKeeper.write_out.Goals as goal
 
