@@ -5,7 +5,7 @@ use Rattle.std.proofs.lemmas.Grind.{common_steps}
 use Rattle.amqp_spool.specs.declared.folder.FolderFault.{FolderFault}
 use Rattle.amqp_spool.specs.declared.folder.FolderFault.TheVariants as fault
 use Rattle.amqp_spool.specs.declared.segments.Named.{Named}
-use Rattle.amqp_spool.specs.Counting.{total, grown, but, put, freed, AreCounted, HasCounts}
+use Rattle.amqp_spool.specs.Counting.{total, grown, but, put, freed, AreCounted, HasCounts, IsExactly}
 use Rattle.amqp_spool.specs.Folders.{MayWrite, Segment, State, content, lengths, with_newest, making, whole_segment, but_named, IsAppended, IsSynced, IsAdded, IsRaised, IsRemoved}
 use Rattle.amqp_spool.specs.Journals.{HasMost, IsWell}
 
@@ -27,6 +27,18 @@ lengths_most (n ∷ ns) [] are = absurd are
 
 pub counts_most : (ns : List Named) (used most : ℕ) (t : State) → HasCounts ns used most t → HasMost used most t
 counts_most ns used most t has = (omega (arith, lengths_most ns t.segments has.are, has.all), has.spare)
+
+-- Exactly. -------------------------------------------------------------------------------------------------------------
+
+pub exactly_grown : (bytes used : ℕ) (ns now : List Named) → now ≡ grown bytes ns → IsExactly used ns → IsExactly (used + bytes) now
+exactly_grown bytes used [] now is e = absurd (omega (arith, e.some))
+exactly_grown bytes used (n ∷ ns) now is e = record {
+  is = omega (arith, e.is, ap total is, total_one n ns, total_one (record n { bytes = n.bytes + bytes }) ns);
+  some = omega (arith, ap (λ (l : List Named). length l) is);
+}
+
+pub exactly_put : (n : Named) (used : ℕ) (ns now : List Named) → now ≡ put n ns → used ≡ n.bytes + total (but n.first ns) → IsExactly used now
+exactly_put n used ns now is e = record { is = omega (arith, e, ap total is, total_one n (but n.first ns)); some = omega (arith, ap (λ (l : List Named). length l) is) }
 
 -- They are counted through each call. ---------------------------------------------------------------------------------
 

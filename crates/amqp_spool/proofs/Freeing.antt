@@ -1,13 +1,17 @@
 -- Which segments may go.
-use Rattle.std.proofs.Common.{◌≡◌, ◌⊎◌, inl, inr, ℕ, ◌+◌, ◌≤◌, ◌<◌, max, arith, List, [], ◌∷◌, ◌++◌, length, length-append, append_assoc, append-nil, refl, sym, ap, ◌∙◌, subst, Option, Some, None, Result, Ok, Err, OnOk}
+use Rattle.std.proofs.Common.{◌≡◌, ◌⊎◌, inl, inr, ℕ, ◌+◌, ◌≤◌, ◌<◌, max, arith, Bool, false, List, [], ◌∷◌, ◌++◌, length, length-append, append_assoc, append-nil, refl, sym, ap, ◌∙◌, subst, Option, Some, None, Result, Ok, Err, OnOk}
 use Rattle.std.specs.List.{All}
 use Rattle.std.specs.Option.{unwrap_or}
 use Rattle.std.proofs.lemmas.List.Elements.{All-push, All-weaker, All-head, All-tail}
 use Rattle.amqp_spool.specs.declared.journal.Journal.{Journal}
 use Rattle.amqp_spool.specs.declared.journal.JournalFault.{JournalFault}
+use Rattle.amqp_spool.specs.declared.journal.JournalFault.TheVariants as fault
 use Rattle.amqp_spool.specs.declared.segments.Named.{Named}
 use Rattle.amqp_spool.specs.declared.segments.Segments.{Segments}
-use Rattle.amqp_spool.specs.Counting.{HasFirst, IsNewestAt, HasRaised, OldestIsNeeded, AllAreNeeded, AreInOrder, AreFrontOf, IsFreed}
+use Rattle.amqp_spool.specs.Counting.{HasFirst, IsNewestAt, HasRaised, OldestIsNeeded, AllAreNeeded, AreAllPassed, OneIsLeft, IsExactly, AreInOrder, AreFrontOf, IsFreed}
+use Rattle.amqp_spool.specs.Journals.{IsCounted}
+use Rattle.amqp_spool.specs.Folders.{History}
+use Rattle.amqp_spool.proofs.Counted.{last_two, total_one}
 
 -- One is found after another, from the newest on.
 has_more : (first : ℕ) (ns : List Named) (n : Named) → HasFirst first ns → HasFirst first (ns ++ n ∷ [])
@@ -100,6 +104,15 @@ same_last [] (o ∷ other) a b x y is = absurd (omega (arith, ap (λ (l : List N
 same_last (f ∷ front) [] a b x y is = absurd (omega (arith, ap (λ (l : List Named). length l) is, length-append front (a ∷ b ∷ [])))
 same_last (f ∷ front) (o ∷ other) a b x y is = same_last front other a b x y (ap tail_of is)
 
+-- If all are passed the newest alone is left.
+pub one_left : (passed used : ℕ) (old new : List Named) → AreAllPassed passed old → AreFrontOf new old → OldestIsNeeded passed new → IsExactly used new → OneIsLeft used new
+one_left passed used old [] all left needed e = absurd (omega (arith, e.some))
+one_left passed used old (n ∷ []) all left needed e = record { newest = n; alone = refl; counted = omega (arith, e.is, total_one n []) }
+one_left passed used old (n ∷ m ∷ rest) all left needed e =
+    let two = last_two (n ∷ m ∷ rest) (omega arith) in
+    let whole : old ≡ two.0 ++ two.1 ∷ (two.2 ∷ left.0) = left.1 ∙ ap (λ (l : List Named). l ++ left.0) two.3 ∙ append_assoc two.0 (two.1 ∷ two.2 ∷ []) left.0 in
+    absurd (omega (arith, needed two.0 two.1 two.2 two.3, of_each (λ (k : Named). k.first ≤ passed + 1) two.0 two.1 (two.2 ∷ left.0) (subst (λ (l : List Named). AreAllPassed passed l) whole all)))
+
 -- One more is gone.
 whole_of : (floor : ℕ) (middle new : List Named) (f : IsFreed floor middle new) → middle ≡ new ++ f.oldest ∷ []
 whole_of floor middle new f = f.was ∙ sym (append_assoc f.front (f.newer ∷ []) (f.oldest ∷ [])) ∙ ap (λ (l : List Named). l ++ f.oldest ∷ []) (sym f.is)
@@ -132,3 +145,13 @@ module _ {F : Type 0} (passed : ℕ) (a c : Journal F) where
       → OnOk r (AreInOrder a.segments.list.items → AllAreNeeded passed c.segments.list.items)
   tended_all (Ok x) left needed = λ order. all_needed passed c.segments.list.items (order_left a.segments.list.items c.segments.list.items left order) needed
   tended_all (Err f) left needed = tt
+
+module _ {F : Type 0} (history : F → History) (passed : ℕ) (a c : Journal F) where
+  pub tended_one : (r : Result (Unit {0}) JournalFault) → OnOk r (AreFrontOf c.segments.list.items a.segments.list.items) → OnOk r (OldestIsNeeded passed c.segments.list.items) → IsCounted history c → OnOk r (c.failed ≡ false)
+      → OnOk r (AreAllPassed passed a.segments.list.items → OneIsLeft c.used c.segments.list.items)
+  tended_one (Ok x) left needed counted alive = λ all. one_left passed c.used a.segments.list.items c.segments.list.items all left needed (counted.exact alive)
+  tended_one (Err f) left needed counted alive = tt
+
+pub alive_ok : (r : Result (Unit {0}) JournalFault) (failed : Bool) → ((r ≡ Err fault.Failed → ⊥) → failed ≡ false) → OnOk r (failed ≡ false)
+alive_ok (Ok x) failed alive = alive (λ is. absurd (grind (arith, is)))
+alive_ok (Err f) failed alive = tt

@@ -2,6 +2,7 @@ mod Summing
 mod Placing
 pub mod Through
 pub mod Histories
+pub mod Introducing
 pub mod Mosts
 pub mod Appends
 pub mod Kept

@@ -1,14 +1,15 @@
 -- One life after the other.
-use Rattle.std.proofs.Common.{◌≡◌, ℕ, ◌≤◌, ◌<◌, arith, List, [], ◌∷◌, ◌++◌, length, length-append, append_assoc, append-nil, ⊎_elim, refl, sym, ap, ◌∙◌, subst, None, Bool, true, false, Result, Ok, Err}
+use Rattle.std.proofs.Common.{◌≡◌, ℕ, ◌+◌, ◌≤◌, ◌<◌, arith, List, [], ◌∷◌, ◌++◌, length, length-append, append_assoc, append-nil, ⊎_elim, refl, sym, ap, ◌∙◌, subst, None, Bool, true, false, Result, Ok, Err}
 use Rattle.amqp_spool.specs.declared.journal.Journal.{Journal}
 use Rattle.amqp_spool.specs.declared.journal.JournalFault.{JournalFault}
 use Rattle.amqp_spool.specs.declared.spool.Spool.{Spool}
 use Rattle.amqp_spool.specs.Batches.{Batch, records}
-use Rattle.amqp_spool.specs.Chapters.{Chapter, Chained, GoesAfter, GoesOnFrom, KeepsOn, told}
+use Rattle.amqp_spool.specs.Chapters.{Chapter, Chained, GoesAfter, GoesOnFrom, KeepsOn, next_of, told, told as told_of}
 use Rattle.amqp_spool.specs.Entries.{Entry}
 use Rattle.amqp_spool.specs.Folders.{Segment, File, State, Left, History, IsLeft, AreTornTo, AreSomeOf, with_added, spare_left}
 use Rattle.amqp_spool.specs.Journals.{GoesOn, IsStarted}
 use Rattle.amqp_spool.specs.Names.{nobody, after, named}
+use Rattle.amqp_spool.specs.Reads.{AreNamed, IsFound, IsNewest, IsShownIn}
 use Rattle.amqp_spool.specs.Sayings.{Puts, AreBodies, Says, AllSay}
 use Rattle.amqp_spool.specs.SpoolLaws.{AreRead, IsFoundAfter, found_files, found_as}
 use Rattle.amqp_spool.specs.Spools.{IsNew, Has, Tells, KeepsTold, IsStartedWith, ReadsTold}
@@ -18,7 +19,8 @@ use Rattle.amqp_spool.proofs.Clearing.{nothing_waits}
 use Rattle.amqp_spool.proofs.Histories.{since_and}
 use Rattle.amqp_spool.proofs.Kept.{oldest_after}
 use Rattle.amqp_spool.proofs.Naming.{named-append}
-use Rattle.amqp_spool.proofs.Reaching.{chained_front, numbers_front, same_oldest}
+use Rattle.amqp_spool.proofs.Reaching.{records_all, chained_front, numbers, numbers_front, same_oldest}
+use Rattle.amqp_spool.proofs.Starting.{is_on, none_kept}
 use Rattle.amqp_spool.proofs.Spooling.{says_nothing, says_long, all_say_long, all_say_split, no_puts}
 
 -- What chapters tell. -------------------------------------------------------------------------------------------------
@@ -114,6 +116,31 @@ tells_more told dh ds puts chained on says =
         says = says;
       },
     )
+
+-- The next number after chapters that tell records.
+tells_next : (told : Puts) (ch : Chapter) (chs : List Chapter) → Tells told ch chs → next_of ch ≡ 1 + length told
+tells_next told ch chs is = omega (
+  arith,
+  numbers ch chs is.chained,
+  records_all (told_of chs) ch.batches,
+  all_say_long chs is.before is.older_say,
+  says_long ch is.here is.says,
+  is.passed,
+  ap (λ (l : Puts). length l) is.are,
+  length-append (is.gone ++ is.before) is.here,
+  length-append is.gone is.before,
+)
+
+-- What goes on from what was told, and reads alone, has it all.
+pub shown_in_told : (told : Puts) (t : State) → KeepsTold told t → IsFound t → (n : ℕ) → n ≤ length told → IsShownIn n t
+shown_in_told told t keeps found n most = record {
+  none = λ none. absurd (none_kept t (λ c left. (keeps.3 c left).0) found (subst (λ (ss : List Segment). AreNamed [] ss) (sym none) tt));
+  newest = λ s rest head bytes next is ih first newest.
+      let r = newest s rest is refl in
+      let on = is_on keeps.0 keeps.1 keeps.2.here keeps.2.says t keeps.3 found head ih bytes next s rest is (sym first) r.1.0 r.1.1 r.0 r.1.2 r.1.3 r.1.4 r.1.5 in
+      let more = tells_more told on.chapter on.older on.puts on.chained (goes_on_telling told keeps.0 keeps.1 on.chapter on.older keeps.2 on.from) on.says in
+      omega (arith, most, on.numbered, tells_next (told ++ more.0) on.chapter on.older more.1, length-append told more.0);
+}
 
 -- What is read. -------------------------------------------------------------------------------------------------------
 

@@ -33,6 +33,7 @@ counted_so history old f b still alive counted = record {
   within = counted.within;
   place = counted.place;
   sum = counted.sum;
+  exact = λ _. counted.exact alive;
   most = subst (λ (h : History). Now (HasMost old.used old.segment) h) (sym still) counted.most;
   well = λ _. subst (λ (h : History). Now (IsWell old.segments.list.items old.used old.segment old.floor) h) (sym still) (counted.well alive);
   writes = λ _ spent. subst (λ (h : History). Now MayWrite h) (sym still) (counted.writes alive spent);

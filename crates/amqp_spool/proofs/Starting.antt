@@ -18,7 +18,7 @@ use Rattle.amqp_spool.specs.Counting.{total, but, put, freed, AreCounted}
 use Rattle.amqp_spool.specs.Folders.{Segment, State, File, Left, History, Now, Since, GoesBy, making, whole_segment, but_named, with_added, spare_left, content, lengths, added_length, size, secret_in, IsTorn, AreTornTo, AreSomeOf, IsLeft, IsAdded}
 use Rattle.amqp_spool.specs.Chapters.{Chapter, chapter_text, next_of, IsChapter, Chained, AreIn, AreRead, AreThere, Reads, Reaches, GoesAfter, IsMoreOf, GoesOnFrom, IsReadable, KeepsOn, Holds, oldest}
 use Rattle.amqp_spool.specs.Heads.{IsHead, head_text, batch_text}
-use Rattle.amqp_spool.specs.Reads.{HasHead, IsRead, BeginsWith, NewestHas, IsNewest, AreNamed, HasNames, IsFound, IsSeen, seen_files, seen}
+use Rattle.amqp_spool.specs.Reads.{HasHead, IsRead, BeginsWith, NewestHas, IsNewest, AreNamed, HasNames, IsFound, IsShownIn, IsSeen, seen_files, seen}
 use Rattle.std.specs.Prelude.{OnOk}
 use Rattle.amqp_spool.specs.declared.journal.Journal.{Journal}
 use Rattle.amqp_spool.specs.declared.journal.JournalFault.{JournalFault}
@@ -566,6 +566,14 @@ on_it first others puts told t kept found items named at names head ih numbered 
         let here = subst (λ (l : List Segment). AreNamed (named ∷ (first_of items named at).0) l) is are in
         let r = newest s rest is (sym here.1) in
         is_on first others puts told t kept found head ih bytes next s rest is (sym here.0 ∙ sym numbered) r.1.0 r.1.1 r.0 r.1.2 r.1.3 r.1.4 r.1.5
+
+-- What was shown has lower numbers than the next record, if it is there.
+pub shown_after : (n : ℕ) (t : State) → IsShownIn n t → (named : Named) (ns : List Named) → HasNames (named ∷ ns) t → (head : Head) → IsHead head → head.first ≡ named.first → (bytes : List ℕ) (next : ℕ) → IsNewest named.bytes head bytes next t → n < next
+shown_after n t shown named ns names head ih numbered bytes next newest = by t.segments refl names
+  where
+    by : (ss : List Segment) → t.segments ≡ ss → AreNamed (named ∷ ns) ss → n < next
+    by [] is are = absurd are
+    by (s ∷ rest) is are = shown.newest s rest head bytes next is ih (numbered ∙ are.0) (subst (λ (len : ℕ). IsNewest len head bytes next t) are.1 newest)
 
 pub on_ok : {A B : Type 0} (r : Result (Unit {0}) JournalFault) → (A → B) → OnOk r A → OnOk r B
 on_ok (Ok x) then is = then is

@@ -8,6 +8,11 @@ use Rattle.amqp_spool.specs.Folders.{Segment, State, content, lengths, added_len
 abbrev pub total : List Named → ℕ
 total ns = sum_by (λ n. n.bytes) ns
 
+-- There is at least one, and they count so many bytes.
+pub record IsExactly (used : ℕ) (ns : List Named) : Type 0 where
+  pub is : used ≡ total ns
+  pub some : 0 < length ns
+
 -- with so many more for the newest
 abbrev pub grown : ℕ → List Named → List Named
 grown bytes [] = []
@@ -60,6 +65,16 @@ OldestIsNeeded passed ns = (front : List Named) (newer older : Named) → ns ≡
 -- So has each but the newest.
 abbrev pub AllAreNeeded : ℕ → List Named → Type 0
 AllAreNeeded passed ns = (front back : List Named) (newer older : Named) → ns ≡ front ++ newer ∷ older ∷ back → passed + 1 < newer.first
+
+-- Each begins at most one above this number, so that nothing above it is in any but the newest.
+abbrev pub AreAllPassed : ℕ → List Named → Type 0
+AreAllPassed passed ns = All (λ n. n.first ≤ passed + 1) ns
+
+-- The newest alone is left, and it alone is counted.
+pub record OneIsLeft (used : ℕ) (ns : List Named) : Type 0 where
+  pub newest : Named
+  pub alone : ns ≡ newest ∷ []
+  pub counted : used ≡ newest.bytes
 
 -- None begins after one that is newer.
 abbrev pub AreInOrder : List Named → Type 0

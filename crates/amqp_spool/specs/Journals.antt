@@ -8,7 +8,7 @@ use Rattle.amqp_spool.specs.declared.journal.JournalFault.{JournalFault}
 use Rattle.amqp_spool.specs.declared.journal.JournalFault.TheVariants as fault
 use Rattle.amqp_spool.specs.Batches.{Batch}
 use Rattle.amqp_spool.specs.Chapters.{Chapter, Chained, Holds, IsAt, AreTold, GoesOnFrom, KeepsOn, StaysOn, with_batch, chapter_text, next_of}
-use Rattle.amqp_spool.specs.Counting.{total, HasCounts}
+use Rattle.amqp_spool.specs.Counting.{total, HasCounts, IsExactly}
 use Rattle.amqp_spool.specs.Folders.{State, Left, History, Now, Since, MayWrite, IsAdded, IsLeft, stored, size}
 use Rattle.amqp_spool.specs.Sayings.{Puts, Says}
 use Rattle.amqp_spool.specs.declared.segments.Named.{Named}
@@ -45,12 +45,13 @@ pub record IsWell (ns : List Named) (used whole floor : ℕ) (t : State) : Type 
   pub added : t.added ≡ None
   pub floor_is : t.floor ≡ floor
 
--- What it counts is what its folder has at most, and within its limit. The newest segment takes writes unless it is spent.
+-- What it counts is what its folder has at most, and within its limit. As long as the folder has not failed that is exactly what its segments count, of which there is one at least. The newest segment takes writes unless it is spent.
 pub record IsCounted {F : Type 0} (history : F → History) (s : Journal F) : Type 0 where
   pub fits : (s.limit < 2 ^ 64) × (s.segment < 2 ^ 64) × (s.life < 2 ^ 64)
   pub within : s.used ≤ s.limit
   pub place : s.place < 2 ^ 64
   pub sum : total s.segments.list.items ≤ s.used
+  pub exact : s.failed ≡ false → IsExactly s.used s.segments.list.items
   pub most : Now (HasMost s.used s.segment) (history s.folder)
   pub well : s.failed ≡ false → Now (IsWell s.segments.list.items s.used s.segment s.floor) (history s.folder)
   pub writes : s.failed ≡ false → s.spent ≡ false → Now MayWrite (history s.folder)

@@ -1,5 +1,5 @@
 -- What is read of a folder.
-use Rattle.std.specs.Prelude.{◌≡◌, ◌⊎◌, ℕ, ◌+◌, ◌≤◌, List, [], ◌∷◌, ◌++◌, length, take, drop, None}
+use Rattle.std.specs.Prelude.{◌≡◌, ◌⊎◌, ℕ, ◌+◌, ◌≤◌, ◌<◌, List, [], ◌∷◌, ◌++◌, length, take, drop, None}
 use Rattle.amqp_spool.specs.declared.head.Head.{Head}
 use Rattle.amqp_spool.specs.declared.segments.Named.{Named}
 use Rattle.amqp_spool.specs.declared.scanning.Scanned.{Scanned}
@@ -46,6 +46,11 @@ abbrev pub IsNewest : ℕ → Head → List ℕ → ℕ → State → Type 0
 IsNewest len head bytes next t = (s : Segment) (rest : List Segment) → t.segments ≡ s ∷ rest → length (content s) ≡ len
     → (take 80 (content s) ≡ head_text head) × ((scanned : Scanned) × (alone : Scanned) × IsScanned head.secret head.first (drop 80 (content s)) scanned × IsScannedAlone head.secret head.first (take scanned.end (drop 80 (content s))) alone
     × (bytes ≡ take (80 + alone.end) (content s)) × (next ≡ alone.next))
+
+-- Records up to this number are there: after all that reads alone of the newest segment the next record has a higher one. Without segments there are none.
+pub record IsShownIn (n : ℕ) (t : State) : Type 0 where
+  pub none : t.segments ≡ [] → n ≡ 0
+  pub newest : (s : Segment) (rest : List Segment) (head : Head) (bytes : List ℕ) (next : ℕ) → t.segments ≡ s ∷ rest → IsHead head → head.first ≡ s.first → IsNewest (length (content s)) head bytes next t → n < next
 
 -- A folder as a start finds it: all names are on the disk, and nothing is half made.
 pub record IsFound (t : State) : Type 0 where

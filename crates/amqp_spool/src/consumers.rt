@@ -156,6 +156,19 @@ pub(crate) fn least<R: Files + Drop>(
     Ok(least)
 }
 
+/// Returns the highest number that a consumer of this spool has acknowledged; 0 if there are none.
+pub(crate) fn most<R: Files + Drop>(
+    files: &DirFiles<R>,
+    spool: &[u8; 16],
+) -> Result<u64, ConsumerFault> {
+    let names = names_in(files)?;
+    let mut most = 0;
+    for name in names.iter() {
+        most = number_of(files, name, spool)?.map_or(most, |number| number.max(most));
+    }
+    Ok(most)
+}
+
 /// Adds a consumer. It begins at what has gone: its first record is the first that is there. Returns its position.
 ///
 /// # Errors
@@ -453,7 +466,7 @@ fn published<R: Files + Drop>(files: &DirFiles<R>) -> Result<End, ConsumerFault>
 }
 
 /// Returns whether a file isn't there, or has fewer bytes.
-fn is_short(reason: &io::Error) -> bool {
+pub(crate) fn is_short(reason: &io::Error) -> bool {
     matches!(
         reason.kind(),
         ErrorKind::NotFound | ErrorKind::UnexpectedEof

@@ -102,8 +102,8 @@ impl Error for OpenError {}
 ///
 /// - [`Dir::open`]: make the directory, with the mode 0700, if it isn't there. Open `lock`; if it isn't there, sync
 ///   the parent of the directory, and then make `lock`. Lock it. Remove `next.tmp`, then `floor.tmp`. Read the names.
-///   Ask for the length of each segment. Read the head of the newest one. Read `floor`. Open the newest segment for
-///   writes at its end. Sync the directory.
+///   Ask for the length of each segment. Read `end`, the head of the newest segment, and `floor`. Read the names; of
+///   each position ask for its length and read it. Open the newest segment for writes at its end. Sync the directory.
 /// - `names`, `floor`: none.
 /// - `read`: open the segment by its name, move to the place, read, close.
 /// - `prepare`: none if no size was set for the reserve, or if it was made and not given up since. Else as
@@ -145,6 +145,8 @@ pub struct Dir<R: Files + Drop> {
     files: DirFiles<R>,
     floor: Floor,
     segments: Segments,
+    // up to which number records were shown to readers when it was opened
+    shown: u64,
     // unless a write or a sync of it has failed
     newest: Option<R::File>,
     end: Option<R::File>,
@@ -171,7 +173,8 @@ where
     /// and names that are not of a spool's files are left alone. Its names are durable after that.
     ///
     /// `spool` is the id of a spool that has no segments yet. If there are segments, the id is in the head of the
-    /// newest one, or in the floor if that head is not whole: [`Dir::spool`] returns it.
+    /// newest one, or in the floor if that head is not whole; if there are none, but an `end`, it is in that:
+    /// [`Dir::spool`] returns it.
     ///
     /// # Errors
     ///
@@ -188,7 +191,10 @@ where
         let lock = locked(&files)?;
         clean(&files)?;
         let segments = segments_in(&files)?;
+        let end = end_in(&files)?;
+        let spool = end.map_or(spool, |end| end.spool);
         let floor = floor_in(&files, segments.list.first(), spool)?;
+        let shown = shown_in(&files, &floor, end)?;
         let newest = newest_in(&files, segments.list.first())?;
         files
             .sync(FileName::Dir)
@@ -197,6 +203,7 @@ where
             files,
             floor,
             segments,
+            shown,
             newest,
             end: None,
             failed: false,
@@ -346,6 +353,45 @@ fn read_floor<R: Files + Drop>(files: &DirFiles<R>) -> Result<Option<Floor>, Ope
     match Floor::read(&bytes) {
         Some(floor) => Ok(Some(floor)),
         None => Err(OpenError::Damaged(name)),
+    }
+}
+
+/// Returns what the file `end` says. Returns `None` if there is none, or if it is torn.
+fn end_in<R: Files + Drop>(files: &DirFiles<R>) -> Result<Option<End>, OpenError> {
+    let mut bytes = [0; END];
+    match files.read(FileName::End, 0, &mut bytes) {
+        Ok(()) => Ok(End::read(&bytes)),
+        Err(reason) if consumers::is_short(&reason) => Ok(None),
+        Err(reason) => Err(OpenError::of(FileName::End, reason)),
+    }
+}
+
+/// Returns up to which number records of this spool were shown to readers: by the published end, the floor, or a
+/// position. An end or a position of another spool shows none, and so does a position that can't be read.
+fn shown_in<R: Files + Drop>(
+    files: &DirFiles<R>,
+    floor: &Floor,
+    end: Option<End>,
+) -> Result<u64, OpenError> {
+    let published = end.map_or(0, |end| last_of(&end, &floor.spool));
+    let passed = match consumers::most(files, &floor.spool) {
+        Ok(passed) => passed,
+        Err(ConsumerFault::NoMemory) => return Err(OpenError::NoMemory),
+        Err(ConsumerFault::Refused(Refusal(name, reason))) => {
+            return Err(OpenError::Refused(name, reason));
+        }
+        Err(_) => 0,
+    };
+    Ok(published.max(passed).max(floor.number))
+}
+
+/// Returns the number of the last record that the published end of a spool shows; 0 if it is of another one.
+fn last_of(end: &End, spool: &[u8; 16]) -> u64 {
+    let of = end.spool;
+    if of == *spool {
+        end.next.saturating_sub(1)
+    } else {
+        0
     }
 }
 
@@ -605,6 +651,9 @@ where
     // They are other processes.
     ghost positions = { λ _. None };
 
+    // The files that say so are other processes' too.
+    ghost shown = { λ _. None };
+
     fn names(&self, alloc: Global) -> Result<Vec<Named>, AllocError>
         ensures names { IfOk result (λ names. Now (HasNames names.items) None) }
         ensures same { IfOk result (λ names. names.items ≡ self.now.segments.list.items) }
@@ -617,6 +666,14 @@ where
         ensures same { result ≡ self.now.floor.number }
     {
         self.floor.number
+    }
+
+    /// What `end` said when the directory was opened, the floor, and the highest position of a consumer.
+    fn shown(&self) -> u64
+        ensures shown { (n : ℕ) → None ≡ Some n → n ≡ result }
+        ensures same { result ≡ self.now.shown }
+    {
+        self.shown
     }
 
     fn read(&self, index: usize, at: u64, out: &mut [u8]) -> Result<(), FolderFault>

@@ -4,6 +4,7 @@ ghost use Rattle.std.specs.Prelude.{◌≡◌, ◌≢◌, ℕ, ◌+◌, ◌<◌,
 ghost use Rattle.std.specs.Int.{w16, w32, w64, to_be_bytes};
 ghost use Rattle.amqp_spool.specs.Entries.{BeginsEntry, Introduced, Recorded, IsIntroduced, short, long, introduction, record_entry};
 ghost use Rattle.amqp_spool.specs.Entries.{Entry as BatchEntry};
+ghost use Rattle.amqp_spool.specs.Waitings.{numbered, IsKept};
 ghost use Rattle.amqp_spool.specs.EntryReading.{introduced_in, recorded_in, entry_in, IsWhole, GoesOnIntroducing, GoesOnRecording, HoldsEntries};
 
 use std::alloc::AllocError;
@@ -123,6 +124,32 @@ pub fn next_entry<'a>(bytes: &'a [u8]) -> Option<(Entry<'a>, &'a [u8])>
     } else {
         None
     }
+}
+
+/// Returns whether these bytes are the introduction of a link of this number, on which sends who this says, whatever
+/// number it has.
+pub(crate) fn introduces(bytes: &[u8], link: u32, from: &Introduction) -> bool
+    ensures { IsTrue result ↔ IsKept link bytes.now (numbered link (introduced_in from.now)) }
+{
+    match next_entry(bytes) {
+        Some((Entry::Introduction(told), rest)) => rest.is_empty() && is_same(&told, link, from),
+        Some((Entry::Record(_), _)) => false,
+        None => false,
+    }
+}
+
+/// Returns whether an introduction is this one, with this number of the link.
+fn is_same(told: &Introduction, link: u32, from: &Introduction) -> bool
+    ensures { IsTrue result ↔ (introduced_in told.now ≡ numbered link (introduced_in from.now)) }
+{
+    told.link == link
+        && told.connection == from.connection
+        && told.peer == from.peer
+        && told.container == from.container
+        && told.name == from.name
+        && told.user == from.user
+        && told.kind == from.kind
+        && told.target == from.target
 }
 
 /// Reads an introduction whose first byte was read. Returns `None` if there is none.

@@ -25,6 +25,9 @@ pub trait Folder {
     // Up to which number each of its consumers has acknowledged, if that is known.
     ghost positions: { Self → Option (List ℕ) };
 
+    // Up to which number records were shown to readers in earlier lives, if that is known.
+    ghost shown: { Self → Option ℕ };
+
     /// Returns the segments, the newest first, each with how many bytes it has.
     fn names(&self, alloc: Global) -> Result<Vec<Named>, AllocError>
         ensures { IfOk result (λ names. Now (HasNames names.items) (history self.now)) };
@@ -32,6 +35,11 @@ pub trait Folder {
     /// Returns up to which number segments may be missing.
     fn floor(&self) -> u64
         ensures { Now (λ t. t.floor ≡ result) (history self.now) };
+
+    /// Returns up to which number records were shown to readers in earlier lives: these were on the disk. Returns 0 if
+    /// none was, or if nothing says so any more.
+    fn shown(&self) -> u64
+        ensures { (n : ℕ) → shown self.now ≡ Some n → n ≡ result };
 
     /// Reads bytes of a segment from a place on: of the newest for 0, of the one before it for 1. Fails if it has
     /// fewer.

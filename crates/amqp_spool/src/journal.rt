@@ -3,7 +3,7 @@ ghost use Rattle.std.specs.Prelude.{◌≡◌, ◌≢◌, ◌++◌, ◌≤◌, �
 ghost use Rattle.std.specs.Vec.{vec_len, vec_capacity};
 ghost use Rattle.amqp_spool.specs.Batches.{Batch, Follows};
 ghost use Rattle.amqp_spool.specs.Chapters.{Chapter, GoesAfter, Holds, IsAt, IsPut, IsBegun, chapter_text, next_of};
-ghost use Rattle.amqp_spool.specs.Counting.{HasRaised, OldestIsNeeded, AllAreNeeded, AreInOrder, AreFrontOf, IsFreed};
+ghost use Rattle.amqp_spool.specs.Counting.{HasRaised, OldestIsNeeded, AllAreNeeded, AreAllPassed, OneIsLeft, AreInOrder, AreFrontOf, IsFreed};
 ghost use Rattle.amqp_spool.specs.Consumers.{HavePassed};
 ghost use Rattle.amqp_spool.specs.Ends.{end_of};
 ghost use Rattle.amqp_spool.specs.Folders.{Now, Since, IsUnasked};
@@ -388,6 +388,7 @@ impl<F: Folder + Drop> Journal<F> {
         ensures freed { OnOk result (OldestIsNeeded passed self.new.segments.list.items) }
         ensures left { OnOk result (AreFrontOf self.new.segments.list.items self.old.segments.list.items) }
         ensures all { OnOk result (AreInOrder self.old.segments.list.items → AllAreNeeded passed self.new.segments.list.items) }
+        ensures goes_on { OnOk result (AreAllPassed passed self.old.segments.list.items → OneIsLeft self.new.used self.new.segments.list.items) }
     {
         if self.failed {
             return Err(JournalFault::Failed);

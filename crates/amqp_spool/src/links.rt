@@ -7,7 +7,7 @@ ghost use Rattle.amqp_spool.specs.EntryReading.{introduced_in};
 ghost use Rattle.amqp_spool.specs.Waitings.{numbered, link_at, told_here, told_again, IsFrom, IsOpened, IsClosed, IsMarked, KeepsWaiting};
 ghost use Rattle.amqp_spool.specs.PutFaults.{RefusesToOpen};
 
-use crate::entry::{Introduction, KIND_MOST, PEER_MOST, TARGET_MOST, put_introduction};
+use crate::entry::{Introduction, KIND_MOST, PEER_MOST, TARGET_MOST, introduces, put_introduction};
 use slab::Slab;
 use std::alloc::{AllocError, AllocFailed, Global};
 use std::marker::Model;
@@ -155,30 +155,14 @@ impl Links {
         self.links.get(link as usize)
     }
 
-    /// Returns whether a link is open, and this says who sends on it, whatever number it has. `room` is for a text.
-    ///
-    /// # Errors
-    ///
-    /// It is an error if memory is refused for the text.
-    pub fn is_from(
-        &self,
-        room: &mut Vec<u8>,
-        link: u32,
-        from: &Introduction,
-    ) -> Result<bool, AllocError>
-        ensures { IfOk result (λ is. IsTrue is ↔ IsFrom self.now link (numbered link (introduced_in from.now))) }
+    /// Returns whether a link is open, and this says who sends on it, whatever number it has.
+    pub fn is_from(&self, link: u32, from: &Introduction) -> bool
+        ensures { IsTrue result ↔ IsFrom self.now link (numbered link (introduced_in from.now)) }
     {
-        let Some(open) = self.get(link) else {
-            return Ok(false);
-        };
-        if !is_short(from) {
-            return Ok(false);
+        match self.get(link) {
+            Some(open) => introduces(open.text(), link, from),
+            None => false,
         }
-        let mut told = *from;
-        told.link = link;
-        room.clear();
-        put_introduction(room, &told)?;
-        Ok(open.text.as_slice() == room.as_slice())
     }
 
     /// Notes that a link has a record in the batch that begins with the record of the number `next`. If no link has

@@ -5,12 +5,12 @@ ghost use Rattle.amqp_spool.specs.Chapters.{IsReadable};
 ghost use Rattle.amqp_spool.specs.Entries.{Introduced, Recorded};
 ghost use Rattle.amqp_spool.specs.EntryReading.{introduced_in};
 ghost use Rattle.amqp_spool.specs.Consumers.{HavePassed, PassAtMost};
-ghost use Rattle.amqp_spool.specs.Counting.{OldestIsNeeded, AllAreNeeded, AreInOrder, AreFrontOf};
+ghost use Rattle.amqp_spool.specs.Counting.{OldestIsNeeded, AllAreNeeded, AreAllPassed, OneIsLeft, AreInOrder, AreFrontOf};
 ghost use Rattle.amqp_spool.specs.Folders.{Segment, State, Now, Since, IsUnasked};
 ghost use Rattle.amqp_spool.specs.Journals.{head_after, GoesEither, IsSettled, IsTended, HaveBounds, LeavesMost, HasFloor, HaveLimits, Stands, IsEmpty};
 ghost use Rattle.amqp_spool.specs.PutFaults.{IsPut, Refuses, RefusesToOpen};
 ghost use Rattle.amqp_spool.specs.Sayings.{Puts};
-ghost use Rattle.amqp_spool.specs.Reads.{AreBack, IsFound};
+ghost use Rattle.amqp_spool.specs.Reads.{AreBack, IsFound, IsShownIn};
 ghost use Rattle.amqp_spool.specs.Spools.{IsNew, IsSound, Has, IsDone, KeepsTold, IsStartedWith};
 ghost use Rattle.amqp_spool.specs.Waitings.{batch_len, IsFrom, IsOpened, IsClosed};
 
@@ -86,7 +86,9 @@ impl<F: Folder + Drop> Spool<F> {
         ensures waiting { self.new.waiting ≡ self.old.waiting }
         ensures bound { Since (LeavesMost (self.old.journal.limit + self.old.journal.segment)) (F.history self.old.journal.folder) (F.history self.new.journal.folder) }
         ensures floor { (n : ℕ) → Now (HasFloor n) (F.history self.old.journal.folder) → Since (HasFloor n) (F.history self.old.journal.folder) (F.history self.new.journal.folder) }
-        ensures whole { (t : State) (past : List State) → F.history self.old.journal.folder ≡ Some (t ∷ past) → IsReadable t → result ≢ Err JournalFault.Damaged }
+        ensures whole { (t : State) (past : List State) (n : ℕ) → F.history self.old.journal.folder ≡ Some (t ∷ past) → F.shown self.old.journal.folder ≡ Some n → IsReadable t → IsShownIn n t → result ≢ Err JournalFault.Damaged }
+        ensures there { (told : Puts) (t : State) (past : List State) (n : ℕ) → F.history self.old.journal.folder ≡ Some (t ∷ past) → F.shown self.old.journal.folder ≡ Some n → KeepsTold told t → n ≤ length told → result ≢ Err JournalFault.Damaged }
+        ensures shown { OnOk result ((n : ℕ) → F.shown self.old.journal.folder ≡ Some n → n < self.new.journal.next) }
         ensures back { OnOk result ((t : State) (past : List State) (s : Segment) (ss : List Segment) → F.history self.old.journal.folder ≡ Some (t ∷ past) → t.segments ≡ s ∷ ss → AreBack t.floor self.new.journal.head ss) }
         ensures started { (told : Puts) (t : State) (past : List State) → F.history self.old.journal.folder ≡ Some (t ∷ past) → KeepsTold told t → IsStartedWith F.history told result self.old self.new }
         ensures begun { (t : State) (past : List State) → F.history self.old.journal.folder ≡ Some (t ∷ past) → IsEmpty t → OnOk result (Has F.history [] [] self.new) }
@@ -262,6 +264,7 @@ impl<F: Folder + Drop> Spool<F> {
         ensures freed { OnOk result (OldestIsNeeded passed self.new.journal.segments.list.items) }
         ensures left { OnOk result (AreFrontOf self.new.journal.segments.list.items self.old.journal.segments.list.items) }
         ensures all { OnOk result (AreInOrder self.old.journal.segments.list.items → AllAreNeeded passed self.new.journal.segments.list.items) }
+        ensures goes_on { OnOk result (AreAllPassed passed self.old.journal.segments.list.items → OneIsLeft self.new.journal.used self.new.journal.segments.list.items) }
     {
         self.journal.tend(passed)
     }

@@ -7,7 +7,7 @@ ghost use Rattle.amqp_spool.specs.Counting.{total, freed};
 ghost use Rattle.amqp_spool.specs.Folders.{Segment, State, Now, Since, GoesBy, making};
 ghost use Rattle.amqp_spool.specs.Heads.{IsHead};
 ghost use Rattle.amqp_spool.specs.declared.segments.Named.{Named};
-ghost use Rattle.amqp_spool.specs.Reads.{AreBack, IsThere, IsSeen, HasHead, HasNames, BeginsWith, NewestHas, IsNewest, IsFound};
+ghost use Rattle.amqp_spool.specs.Reads.{AreBack, IsThere, IsSeen, HasHead, HasNames, BeginsWith, NewestHas, IsNewest, IsFound, IsShownIn};
 ghost use Rattle.amqp_spool.specs.Journals.{IsCounted, LeavesMost, HasFloor, HaveBounds, IsStarted, IsEmpty, IsRenewed, Stands};
 
 use crate::alone::scan_alone;
@@ -63,8 +63,8 @@ impl<F: Folder + Drop> Journal<F> {
 
     /// Starts: goes on where an earlier life left the folder, or begins in one that has nothing. The newest segment is
     /// written once more, whole, since its last batch may not be on the disk.
-    /// Returns `Bound` if there is more than the limits allow, `Damaged` if a segment that counts is not there, and
-    /// `Full` if there is no room on the disk. After an error it is not started.
+    /// Returns `Bound` if there is more than the limits allow, `Damaged` if a segment that counts is not there, or a
+    /// record that was shown to readers, and `Full` if there is no room on the disk. After an error it is not started.
     pub fn start(&mut self, secret: [u8; 16]) -> Result<(), JournalFault>
         requires found { Now IsFound (F.history self.old.folder) }
         requires fits { (self.old.limit < 2 ^ 64) × (self.old.segment < 2 ^ 64) }
@@ -74,7 +74,8 @@ impl<F: Folder + Drop> Journal<F> {
         ensures limits { HaveBounds self.old self.new }
         ensures bound { Since (LeavesMost (self.old.limit + self.old.segment)) (F.history self.old.folder) (F.history self.new.folder) }
         ensures floor { (n : ℕ) → Now (HasFloor n) (F.history self.old.folder) → Since (HasFloor n) (F.history self.old.folder) (F.history self.new.folder) }
-        ensures whole { (t : State) (past : List State) → F.history self.old.folder ≡ Some (t ∷ past) → IsReadable t → result ≢ Err JournalFault.Damaged }
+        ensures whole { (t : State) (past : List State) (n : ℕ) → F.history self.old.folder ≡ Some (t ∷ past) → F.shown self.old.folder ≡ Some n → IsReadable t → IsShownIn n t → result ≢ Err JournalFault.Damaged }
+        ensures shown { OnOk result ((n : ℕ) → F.shown self.old.folder ≡ Some n → n < self.new.next) }
         ensures started { (ch : Chapter) (chs : List Chapter) (puts : Puts) (t : State) (past : List State) → F.history self.old.folder ≡ Some (t ∷ past) → Says ch puts → KeepsOn ch chs t → IsStarted F.history ch chs result self.old self.new }
         ensures begun { (t : State) (past : List State) → F.history self.old.folder ≡ Some (t ∷ past) → IsEmpty t → OnOk result (Stands F.history [] self.new) }
         ensures back { OnOk result ((t : State) (past : List State) (s : Segment) (ss : List Segment) → F.history self.old.folder ≡ Some (t ∷ past) → t.segments ≡ s ∷ ss → AreBack t.floor self.new.head ss) }
@@ -99,13 +100,14 @@ impl<F: Folder + Drop> Journal<F> {
         ensures limits { HaveBounds self.old self.new }
         ensures bound { Since (LeavesMost (self.old.limit + self.old.segment)) (F.history self.old.folder) (F.history self.new.folder) }
         ensures floor { (n : ℕ) → Now (HasFloor n) (F.history self.old.folder) → Since (HasFloor n) (F.history self.old.folder) (F.history self.new.folder) }
-        ensures whole { (t : State) (past : List State) → F.history self.old.folder ≡ Some (t ∷ past) → IsReadable t → result ≢ Err JournalFault.Damaged }
+        ensures whole { (t : State) (past : List State) (n : ℕ) → F.history self.old.folder ≡ Some (t ∷ past) → F.shown self.old.folder ≡ Some n → IsReadable t → IsShownIn n t → result ≢ Err JournalFault.Damaged }
+        ensures shown { OnOk result ((n : ℕ) → F.shown self.old.folder ≡ Some n → n < self.new.next) }
         ensures head { OnOk result ((self.new.head.spool ≡ self.old.head.spool) × (self.new.head.secret ≡ secret) × (self.new.life ≡ 1)) }
         ensures unused { OnOk result (Now (λ t. t.floor ≡ 0) (F.history self.old.folder)) }
         ensures started { (ch : Chapter) (chs : List Chapter) (puts : Puts) (t : State) (past : List State) → F.history self.old.folder ≡ Some (t ∷ past) → Says ch puts → KeepsOn ch chs t → IsStarted F.history ch chs result self.old self.new }
         ensures begun { (t : State) (past : List State) → F.history self.old.folder ≡ Some (t ∷ past) → IsEmpty t → OnOk result (Stands F.history [] self.new) }
     {
-        if self.folder.floor() != 0 {
+        if self.folder.floor() != 0 || self.folder.shown() != 0 {
             return Err(JournalFault::Damaged);
         }
         if self.limit < HEAD as u64 {
@@ -127,7 +129,8 @@ impl<F: Folder + Drop> Journal<F> {
         ensures limits { HaveBounds self.old self.new }
         ensures bound { Since (LeavesMost (self.old.limit + self.old.segment)) (F.history self.old.folder) (F.history self.new.folder) }
         ensures floor { (n : ℕ) → Now (HasFloor n) (F.history self.old.folder) → Since (HasFloor n) (F.history self.old.folder) (F.history self.new.folder) }
-        ensures whole { (t : State) (past : List State) → F.history self.old.folder ≡ Some (t ∷ past) → IsReadable t → result ≢ Err JournalFault.Damaged }
+        ensures whole { (t : State) (past : List State) (n : ℕ) → F.history self.old.folder ≡ Some (t ∷ past) → F.shown self.old.folder ≡ Some n → IsReadable t → IsShownIn n t → result ≢ Err JournalFault.Damaged }
+        ensures shown { OnOk result ((n : ℕ) → F.shown self.old.folder ≡ Some n → n < self.new.next) }
         ensures life { OnOk result (self.new.life ≡ min (self.new.head.life + 1) (2 ^ 64 - 1)) }
         ensures started { (ch : Chapter) (chs : List Chapter) (puts : Puts) (t : State) (past : List State) → F.history self.old.folder ≡ Some (t ∷ past) → Says ch puts → KeepsOn ch chs t → IsStarted F.history ch chs result self.old self.new }
         ensures back { OnOk result ((t : State) (past : List State) (s : Segment) (ss : List Segment) → F.history self.old.folder ≡ Some (t ∷ past) → t.segments ≡ s ∷ ss → AreBack t.floor self.new.head ss) }
@@ -140,6 +143,9 @@ impl<F: Folder + Drop> Journal<F> {
             return Err(JournalFault::Damaged);
         };
         let newest = self.newest_of(named)?;
+        if newest.next <= self.folder.shown() {
+            return Err(JournalFault::Damaged);
+        }
         self.go_back(&names, newest.head)?;
         let mut segments = Segments { list: names };
         segments.reserve()?;
@@ -163,6 +169,9 @@ impl<F: Folder + Drop> Journal<F> {
         ensures whole { (t : State) (past : List State) (names : List Named) → F.history self.now.folder ≡ Some (t ∷ past) → HasNames (named ∷ names) t → IsSeen t → result ≢ Err JournalFault.Damaged }
         ensures newest { IfOk result (λ newest. Now (IsNewest named.bytes newest.head newest.bytes.items newest.next) (F.history self.now.folder)) }
     {
+        if named.bytes < HEAD as u64 {
+            return Err(JournalFault::Damaged);
+        }
         let head = self.head_of(0)?;
         if head.first != named.first {
             return Err(JournalFault::Damaged);

@@ -1,6 +1,6 @@
 //! The keeper.
 
-ghost use Rattle.std.specs.Prelude.{◌≡◌, ◌≢◌, ◌↔◌, ◌≤◌, ◌++◌, ◌∷◌, [], ℕ, true, false, OnOk, OnErr, IfOk, IfSome};
+ghost use Rattle.std.specs.Prelude.{◌≡◌, ◌≢◌, ◌↔◌, ◌≤◌, ◌++◌, ◌∷◌, [], ℕ, true, false, OnOk, OnErr, IfSome};
 ghost use Rattle.amqp_spool.specs.EntryReading.{introduced_in};
 ghost use Rattle.amqp_spool.specs.Folders.{Now, Since};
 ghost use Rattle.amqp_spool.specs.Journals.{HaveLimits, HasFloor};
@@ -12,6 +12,7 @@ ghost use Rattle.amqp_spool_keeper.specs.Keeping.{state_of, is_settled, sent_by,
 
 use crate::people::People;
 use crate::sender::sender_of;
+use crate::target::Target;
 use amqp_endpoint::Endpoint;
 use amqp_hub::{Keeper, Origin, Progress};
 use amqp_spool::{Folder, Introduction, Spool};
@@ -35,8 +36,8 @@ pub struct SpoolKeeper<R: Drop, F: Folder + Drop> {
     /// How many bytes of room links want for the credit that they may have.
     reserve: u64,
     people: RefCell<People>,
-    /// Room for the text of an introduction.
-    text: Vec<u8>,
+    /// The target of the last record's link.
+    target: Target,
     /// When the last batch arrived, in milliseconds since 1970.
     arrived: u64,
     /// When a batch was refused last, unless one was taken since.
@@ -71,7 +72,7 @@ impl<R: Drop, F: Folder + Drop> SpoolKeeper<R, F> {
             room,
             reserve,
             people: RefCell::new(People::new(alloc)),
-            text: Vec::new(alloc),
+            target: Target::new(alloc),
             arrived: 0,
             refused: None,
             looked: None,
@@ -89,18 +90,17 @@ impl<R: Drop, F: Folder + Drop> SpoolKeeper<R, F> {
     }
 }
 
-/// Returns this link, if it is open for this sender. `text` is room for a text.
+/// Returns this link, if it is open for this sender.
 fn link_for<F: Folder + Drop>(
     spool: &Spool<F>,
-    text: &mut Vec<u8>,
     link: Option<u32>,
     sender: &Introduction,
-) -> Result<Option<u32>, AllocError>
-    ensures { IfOk result (λ found. IfSome found (λ link. IsFrom spool.now.links link (numbered link (introduced_in sender.now)))) }
+) -> Option<u32>
+    ensures { IfSome result (λ link. IsFrom spool.now.links link (numbered link (introduced_in sender.now))) }
 {
     match link {
-        Some(link) if spool.links().is_from(text, link, sender)? => Ok(Some(link)),
-        _ => Ok(None),
+        Some(link) if spool.links().is_from(link, sender) => Some(link),
+        _ => None,
     }
 }
 
@@ -252,11 +252,10 @@ impl<R: Clock + RandomSource + Drop, F: Folder + Drop> Keeper for SpoolKeeper<R,
         endpoint: &Endpoint<A>,
         bytes: &[u8],
     ) -> Result<(), AllocError> {
-        let from = self.people.get_mut().from(origin.number);
-        let sender = sender_of(&origin, from.as_bytes(), endpoint);
         let people = self.people.get_mut();
-        let before = people.link(&origin);
-        if let Some(link) = link_for(&self.spool, &mut self.text, before, &sender)? {
+        let (from, before) = people.of(&origin);
+        let sender = sender_of(&origin, from.as_bytes(), endpoint, &mut self.target)?;
+        if let Some(link) = link_for(&self.spool, before, &sender) {
             let tag = origin.delivery_tag.as_bytes();
             return put_as(&mut self.spool, link, &sender, tag, bytes);
         }

@@ -10,6 +10,7 @@ mod keeper;
 mod people;
 mod sender;
 mod sizes;
+mod target;
 
 pub use keeper::SpoolKeeper;
 pub use sizes::{BESIDES, SMALL_FILES, SizeFault, Sizes};

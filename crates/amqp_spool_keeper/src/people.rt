@@ -59,6 +59,14 @@ struct Person {
     has_left: bool,
 }
 
+impl Person {
+    /// Returns the link of the spool that stood last for the link of an origin.
+    fn link(&self, origin: &Origin) -> Option<u32> {
+        let seen = self.links.iter().find(|seen| seen.is_of(origin))?;
+        Some(seen.link)
+    }
+}
+
 /// The connections, by their numbers.
 #[derive(Drop)]
 pub struct People {
@@ -98,19 +106,13 @@ impl People {
         }
     }
 
-    /// Returns where a connection comes from.
-    pub fn from(&self, number: u64) -> From {
-        match self.persons.get(&number) {
-            Some(person) => person.from,
-            None => From::NONE,
+    /// Returns where the connection of an origin comes from, and the link of the spool that stood last for the link of
+    /// the origin.
+    pub fn of(&self, origin: &Origin) -> (From, Option<u32>) {
+        match self.persons.get(&origin.number) {
+            Some(person) => (person.from, person.link(origin)),
+            None => (From::NONE, None),
         }
-    }
-
-    /// Returns the link of the spool that stood last for the link of an origin.
-    pub fn link(&self, origin: &Origin) -> Option<u32> {
-        let person = self.persons.get(&origin.number)?;
-        let seen = person.links.iter().find(|seen| seen.is_of(origin))?;
-        Some(seen.link)
     }
 }
 

@@ -6,6 +6,7 @@ use amqp_spool::scan;
 use std::alloc::{AllocError, Global};
 use std::fs;
 use test_row_files::Miss;
+use test_row_files::words::bytes_of;
 
 /// Where it is.
 pub const PATH: &str = "spool";
@@ -169,6 +170,19 @@ pub fn damage(rt: &HostRuntime, first: u32, before_end: u32) -> Result<(), Miss>
 pub fn lose(rt: &HostRuntime, first: u32) -> Result<(), Miss> {
     let path = path_of(rt.alloc(), u64::from(first))?;
     fs::remove_file(rt, path.as_str())?;
+    Ok(())
+}
+
+/// Puts the bytes of a hex text in place of the published end. It is removed if that is `-`.
+pub fn spoil_end(rt: &HostRuntime, hex: &str) -> Result<(), Miss> {
+    let alloc = rt.alloc();
+    let path = format!(in alloc; "{PATH}/end")?;
+    if hex == "-" {
+        fs::remove_file(rt, path.as_str())?;
+        return Ok(());
+    }
+    let bytes = bytes_of(alloc, hex)?;
+    fs::write(rt, path.as_str(), &bytes)?;
     Ok(())
 }
 

@@ -218,12 +218,18 @@ impl Folder for Failing<'_> {
 
     ghost positions = { λ _. None };
 
+    ghost shown = { λ _. None };
+
     fn names(&self, alloc: Global) -> Result<Vec<Named>, AllocError> {
         self.dir.names(alloc)
     }
 
     fn floor(&self) -> u64 {
         self.dir.floor()
+    }
+
+    fn shown(&self) -> u64 {
+        self.dir.shown()
     }
 
     fn read(&self, index: usize, at: u64, out: &mut [u8]) -> Result<(), FolderFault> {

@@ -252,7 +252,7 @@ impl<'a> Lives<'a> {
             ("limits", numbers) => self.limit(Words::of(numbers), out),
             ("open", "") => self.open(out),
             ("close", "") => self.close(out),
-            ("cut" | "damage" | "lose", _) => spoil(self.rt, words, out),
+            ("cut" | "damage" | "lose" | "spoil_end", _) => spoil(self.rt, words, out),
             ("read", "") => disk::put_read(self.rt, Form::Brief, out),
             ("entries", first) => disk::put_entries_of(self.rt, long(first)?, out),
             ("add" | "remove" | "ack" | "hold" | "position" | "positions" | "crowd", _) => {
@@ -350,7 +350,7 @@ impl<'a> Lives<'a> {
     }
 }
 
-/// Cuts, damages or removes a segment.
+/// Cuts, damages or removes a segment, or puts bytes in place of the published end.
 fn spoil(rt: &HostRuntime, words: &str, out: &mut String) -> Result<(), Miss> {
     match name_of(words) {
         ("cut", words) => {
@@ -361,7 +361,8 @@ fn spoil(rt: &HostRuntime, words: &str, out: &mut String) -> Result<(), Miss> {
             let (first, before_end) = two_numbers(words)?;
             disk::damage(rt, first, before_end)?;
         }
-        (_, first) => disk::lose(rt, number(first)?)?,
+        ("lose", first) => disk::lose(rt, number(first)?)?,
+        (_, hex) => disk::spoil_end(rt, hex)?,
     }
     done(out)
 }

@@ -4,7 +4,7 @@ use Rattle.amqp_spool.specs.declared.segments.Named.{Named}
 use Rattle.amqp_spool.specs.Counting.{total, freed}
 use Rattle.amqp_spool.specs.Folders.{Now, IsAdded, making}
 use Rattle.amqp_spool.specs.Journals.{LeavesMost, HasMost, IsWell}
-use Rattle.amqp_spool.proofs.Counted.{put_is, freed_most, well_most}
+use Rattle.amqp_spool.proofs.Counted.{put_is, freed_most, well_most, total_but, exactly_put}
 use Rattle.amqp_spool.proofs.Histories.{since_none, now_and, goes_by_asks}
 use Rattle.amqp_spool.proofs.Appends.{added, added_since, added_new, added_well, full_well, full, full_still, so_added, so_named}
 use Rattle.amqp_spool.proofs.Kept.{segment_begun, segment_full, segment_lost, segment_none}
@@ -33,6 +33,7 @@ returns-in-Ok-clause-counted g c =
       fits = q.fits;
       place = q.place;
       sum = omega (arith, ap total c.put.ensures.list, put_is (record { first = c.args.first; bytes = len }) ns, counts, q.sum);
+      exact = λ _. exactly_put (record { first = c.args.first; bytes = len }) now ns c.put.new.self.list.items c.put.ensures.list (omega (arith, counts, (q.exact c.requires.alive).is, total_but c.args.first ns));
       most = now_and (IsWell c.put.new.self.list.items now s.segment s.floor) (HasMost now s.segment) k well (λ t w. well_most c.put.new.self.list.items now s.segment s.floor t w);
       well = λ _. well;
       writes = λ _ _. added_new h k c.args.first c.args.segment.now c.in-Ok.field-0 s.used s.segment q.most came;
@@ -68,6 +69,7 @@ returns-in-Err-Full-clause-counted g c =
       fits = q.fits;
       place = q.place;
       sum = q.sum;
+      exact = q.exact;
       most = full s.used s.segment s.limit h k c.args.first c.args.segment.now q.most c.requires.small came;
       well = λ alive. full_well s.segments.list.items s.used s.segment s.floor h k (q.well alive) c.args.first c.args.segment.now c.requires.small came;
       writes = λ alive is. full_still h k c.args.first c.args.segment.now (q.writes alive is) came;
@@ -84,6 +86,7 @@ returns-in-Err-Failed-clause-counted g c =
       fits = q.fits;
       place = q.place;
       sum = omega (arith, q.sum);
+      exact = λ is. absurd (false≢true (sym is));
       most = added s.used s.segment s.limit h k c.args.first c.args.segment.now q.most c.requires.small c.add.result c.add.ensures;
       well = λ is. absurd (false≢true (sym is));
       writes = λ is _. absurd (false≢true (sym is));

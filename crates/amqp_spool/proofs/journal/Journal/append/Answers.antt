@@ -8,7 +8,7 @@ use Rattle.amqp_spool.specs.Counting.{total}
 use Rattle.amqp_spool.specs.declared.segments.Named.{Named}
 use Rattle.amqp_spool.specs.Folders.{Now, IsUnasked, IsAppended, IsSynced}
 use Rattle.amqp_spool.specs.Journals.{LeavesMost, IsWell}
-use Rattle.amqp_spool.proofs.Counted.{grown_most}
+use Rattle.amqp_spool.proofs.Counted.{grown_most, exactly_grown}
 use Rattle.amqp_spool.proofs.Histories.{since_none, since_since, goes_asks_then, no_err, not_err}
 use Rattle.amqp_spool.proofs.Appends.{appended, appended_since, appended_still, appended_well, synced, synced_since, synced_still, synced_well}
 use Rattle.amqp_spool.proofs.Kept.{put_nothing, put_unwritten, put_unsynced, put_synced}
@@ -28,6 +28,7 @@ returns-in_err-append-clause-counted g c =
       fits = c.requires.counted.fits;
       place = c.requires.counted.place;
       sum = omega (arith, c.requires.counted.sum, grown_most (length c.args.batch.now) s.segments.list.items, ap total c.grow.ensures);
+      exact = λ _. exactly_grown (length c.args.batch.now) s.used s.segments.list.items c.grow.new.self.list.items c.grow.ensures (c.requires.counted.exact c.requires.alive);
       most = appended s.used s.segment s.limit (g.F.Folder.history s.folder) (g.F.Folder.history c.append.new.self) c.args.batch.now c.append.result c.requires.counted.most (c.requires.counted.writes c.requires.alive c.if-self.false) c.append.ensures;
       well = λ _. subst (λ (l : List Named). Now (IsWell l (s.used + length c.args.batch.now) s.segment s.floor) (g.F.Folder.history c.append.new.self)) (sym c.grow.ensures)
           (appended_well s.segments.list.items s.used s.segment s.floor (g.F.Folder.history s.folder) (g.F.Folder.history c.append.new.self) (c.requires.counted.well c.requires.alive) c.args.batch.now c.append.result (c.requires.counted.writes c.requires.alive c.if-self.false) c.append.ensures);
@@ -54,6 +55,7 @@ returns-in_err-sync-clause-counted g c =
       fits = c.requires.counted.fits;
       place = c.requires.counted.place;
       sum = omega (arith, c.requires.counted.sum, grown_most (length c.args.batch.now) s.segments.list.items, ap total c.grow.ensures);
+      exact = λ _. exactly_grown (length c.args.batch.now) s.used s.segments.list.items c.grow.new.self.list.items c.grow.ensures (c.requires.counted.exact c.requires.alive);
       most = synced (s.used + length c.args.batch.now) s.segment s.limit k (g.F.Folder.history c.sync.new.self) c.args.batch.now c.sync.result (appended s.used s.segment s.limit h k c.args.batch.now c.append.result c.requires.counted.most well c.append.ensures)
           (appended_still h k c.args.batch.now c.in_ok-append.was well c.append.ensures) c.sync.ensures;
       well = λ _. synced_well c.grow.new.self.list.items (s.used + length c.args.batch.now) s.segment s.floor k (g.F.Folder.history c.sync.new.self) (subst (λ (l : List Named). Now (IsWell l (s.used + length c.args.batch.now) s.segment s.floor) (g.F.Folder.history c.append.new.self)) (sym c.grow.ensures)
@@ -86,6 +88,7 @@ returns-clause-counted g c =
       fits = c.requires.counted.fits;
       place = c.requires.counted.place;
       sum = omega (arith, c.requires.counted.sum, grown_most (length c.args.batch.now) s.segments.list.items, ap total c.grow.ensures);
+      exact = λ _. exactly_grown (length c.args.batch.now) s.used s.segments.list.items c.grow.new.self.list.items c.grow.ensures (c.requires.counted.exact c.requires.alive);
       most = synced (s.used + length c.args.batch.now) s.segment s.limit k l c.args.batch.now c.sync.result (appended s.used s.segment s.limit h k c.args.batch.now c.append.result c.requires.counted.most well c.append.ensures) still c.sync.ensures;
       well = λ _. synced_well c.grow.new.self.list.items (s.used + length c.args.batch.now) s.segment s.floor k (g.F.Folder.history c.sync.new.self) (subst (λ (l : List Named). Now (IsWell l (s.used + length c.args.batch.now) s.segment s.floor) (g.F.Folder.history c.append.new.self)) (sym c.grow.ensures)
           (appended_well s.segments.list.items s.used s.segment s.floor (g.F.Folder.history s.folder) (g.F.Folder.history c.append.new.self) (c.requires.counted.well c.requires.alive) c.args.batch.now c.append.result (c.requires.counted.writes c.requires.alive c.if-self.false) c.append.ensures)) c.sync.result (appended_still h k c.args.batch.now c.in_ok-append.was well c.append.ensures) c.sync.ensures;

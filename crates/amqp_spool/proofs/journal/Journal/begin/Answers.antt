@@ -18,7 +18,7 @@ returns-clause-started g c = λ ch chs puts t past is says kept.
     absurd (none_kept t (λ d left. (kept d left).0) found names)
 
 pub returns-then-floor-ne0-clause-whole : goal.returns-then-floor-ne0-clause-whole
-returns-then-floor-ne0-clause-whole g c = λ t past is readable _.
+returns-then-floor-ne0-clause-whole g c = λ t past n is known readable shown _.
     let found : IsFound t = subst (λ (h : History). Now IsFound h) is c.requires.found in
     let names : HasNames [] t = subst (λ (l : List Named). HasNames l t) c.requires.none (subst (λ (h : History). Now (HasNames c.args.names.items) h) is c.requires.names) in
     none_kept t readable found names

@@ -29,3 +29,6 @@ pub returns-in_default-clause-whole : goal.returns-in_default-clause-whole
 returns-in_default-clause-whole g c = λ t past names is has seen _.
     let f = newest_seen c.args.named names t has seen in
     false≢true (c.in_default.ensures.lookup.1 (omega (arith, f.long, c.in_ok-bytes.ensures.long.0, ap (λ (l : List ℕ). length l) c.deref.ensures.value), omega arith))
+
+pub returns-then-named-clause-whole : goal.returns-then-named-clause-whole
+returns-then-named-clause-whole g c = λ t past names is has seen _. omega (arith, (newest_seen c.args.named names t has seen).long, c.if-named.true)

@@ -1,4 +1,4 @@
-use Rattle.std.proofs.Common.{ℕ, ◌+◌, ◌-◌, ◌≤◌, arith, List, [], ◌∷◌, ◌++◌, append_assoc, refl, sym, ap, ◌∙◌, subst, Result}
+use Rattle.std.proofs.Common.{ℕ, ◌+◌, ◌-◌, ◌≤◌, arith, List, [], ◌∷◌, ◌++◌, length, length-append, append_assoc, refl, sym, ap, ◌∙◌, subst, Result}
 use Rattle.std.proofs.lemmas.Bool.{false≢true}
 use Rattle.amqp_spool.specs.declared.segments.Named.{Named}
 use Rattle.amqp_spool.specs.Chapters.{Chapter, AreTold, Chained}
@@ -41,6 +41,10 @@ returns-in-Ok-clause-counted g c =
       place = q.place;
       sum = omega (arith, ap total popped.0, popped.1, q.sum, ap total (two.3 ∙ sym (append_assoc front (a ∷ []) (b ∷ []))), total_last (front ++ a ∷ []) b);
       most = now_and (IsWell c.pop-freed.new.self.list.items (s.used - c.pop-freed.result) s.segment s.floor) (HasMost (s.used - c.pop-freed.result) s.segment) k there (λ t w. well_most c.pop-freed.new.self.list.items (s.used - c.pop-freed.result) s.segment s.floor t w);
+      exact = λ _. record {
+        is = omega (arith, (q.exact c.requires.alive).is, ap total popped.0, popped.1, ap total (two.3 ∙ sym (append_assoc front (a ∷ []) (b ∷ []))), total_last (front ++ a ∷ []) b);
+        some = omega (arith, ap (λ (l : List Named). length l) popped.0, length-append front (a ∷ []));
+      };
       well = λ _. there;
       writes = λ alive w. removed_writes front a b s.used s.segment s.floor h k well c.in-Ok.field-0 goes (q.writes alive w);
     }
@@ -64,6 +68,7 @@ returns-in-Err-clause-counted g c =
       sum = omega (arith, ap total popped.0, q.sum, ap total (two.3 ∙ sym (append_assoc front (a ∷ []) (b ∷ []))), total_last (front ++ a ∷ []) b);
       most = removed_most front a b s.used s.segment s.floor h k well c.remove_oldest.result c.remove_oldest.ensures;
       well = λ is. absurd (false≢true (sym is));
+      exact = λ is. absurd (false≢true (sym is));
       writes = λ is _. absurd (false≢true (sym is));
     }
 

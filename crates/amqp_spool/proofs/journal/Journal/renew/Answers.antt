@@ -5,7 +5,7 @@ use Rattle.amqp_spool.specs.declared.segments.Named.{Named}
 use Rattle.amqp_spool.specs.Counting.{total, freed}
 use Rattle.amqp_spool.specs.Folders.{Now, GoesBy, IsAdded, making}
 use Rattle.amqp_spool.specs.Journals.{HasMost, IsWell}
-use Rattle.amqp_spool.proofs.Counted.{put_is, well_most, freed_most}
+use Rattle.amqp_spool.proofs.Counted.{put_is, well_most, freed_most, total_but, exactly_put}
 use Rattle.amqp_spool.proofs.Histories.{now_and}
 use Rattle.amqp_spool.proofs.Starting.{renewed_since, renewed_well}
 use Rattle.amqp_spool.proofs.Floored.{floor_added}
@@ -49,6 +49,7 @@ returns-clause-counted g c =
         sum = omega (arith, ap total c.put.ensures.list, put_is (record { first = first; bytes = len }) ns, counts, q.sum);
         most = now_and (IsWell c.put.new.self.list.items now s.segment c.floor-self.result) (HasMost now s.segment) k well (λ t w. well_most c.put.new.self.list.items now s.segment c.floor-self.result t w);
         well = λ _. well;
+        exact = λ _. exactly_put (record { first = first; bytes = len }) now ns c.put.new.self.list.items c.put.ensures.list (omega (arith, counts, q.sum, total_but first ns));
         writes = λ _ is. absurd (false≢true (sym is));
       },
     )

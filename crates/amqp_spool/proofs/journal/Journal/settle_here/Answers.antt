@@ -45,7 +45,7 @@ returns-clause-counted g c =
     let e = c.in_ok-append.ensures in
     let b : Batch = record { head = record { size = length c.args.body.now; count = c.args.count; first = c.args.self.now.next; arrived = c.args.arrived }; body = c.args.body.now } in
     let len = ap (λ (l : List ℕ). length l) (c.deref.ensures.value ∙ c.in_ok-batch.ensures) ∙ batch_length c.args.self.now.head.secret b in
-    record { fits = e.counted.fits; within = e.counted.within; place = omega (arith, e.same.place, c.saturating_sub.ensures, c.if-saturating_sub-len.false, c.requires.counted.fits.1, c.requires.counted.place, c.requires.small); sum = e.counted.sum; most = e.counted.most; well = e.counted.well; writes = e.counted.writes }
+    record { fits = e.counted.fits; within = e.counted.within; place = omega (arith, e.same.place, c.saturating_sub.ensures, c.if-saturating_sub-len.false, c.requires.counted.fits.1, c.requires.counted.place, c.requires.small); sum = e.counted.sum; exact = e.counted.exact; most = e.counted.most; well = e.counted.well; writes = e.counted.writes }
 
 pub returns-clause-settled : goal.returns-clause-settled
 returns-clause-settled g c = λ all it.

@@ -1,6 +1,6 @@
 use Rattle.std.proofs.Common.{◌≡◌, ◌+◌, true}
 use Rattle.amqp_spool.specs.Journals.{LeavesMost}
-use Rattle.amqp_spool.proofs.Freeing.{tended_frees, tended_left, tended_all}
+use Rattle.amqp_spool.proofs.Freeing.{tended_frees, tended_left, tended_all, tended_one, alive_ok}
 use Rattle.amqp_spool.proofs.Refusals.{asked_each, fails_or}
 use Rattle.amqp_spool.proofs.Tending.{bound_then, floor_then, more_tended}
 use Rattle.amqp_spool.proofs.journal.Journal.tend.Goals as goal
@@ -56,3 +56,9 @@ returns-in-Ok-clause-why g c =
     let m = c.raise.new.self in
     let n = c.remove_passed.new.self in
     asked_each (LeavesMost (s.limit + s.segment)) (LeavesMost (m.limit + m.segment)) (h s.folder) (h m.folder) (h n.folder) (s.failed ≡ true) c.remove_passed.result c.in-Ok.ensures.bound c.remove_passed.ensures.bound c.remove_passed.ensures.why
+
+pub returns-in-Ok-clause-goes_on : goal.returns-in-Ok-clause-goes_on
+returns-in-Ok-clause-goes_on g c = tended_one g.F.Folder.history c.args.passed c.args.self.now c.remove_passed.new.self c.remove_passed.result
+    (tended_left c.args.self.now c.raise.new.self c.remove_passed.new.self c.remove_passed.result c.in-Ok.ensures.segments c.remove_passed.ensures.left)
+    (tended_frees c.args.passed c.raise.new.self c.remove_passed.new.self c.remove_passed.result c.in-Ok.ensures.raised c.remove_passed.ensures.same c.remove_passed.ensures.left c.remove_passed.ensures.freed)
+    c.remove_passed.ensures.counted (alive_ok c.remove_passed.result c.remove_passed.new.self.failed c.remove_passed.ensures.alive)

@@ -1,4 +1,4 @@
-use Rattle.std.proofs.Common.{◌≤◌, subst, sym}
+use Rattle.std.proofs.Common.{◌≤◌, arith, subst, sym}
 use Rattle.amqp_spool.specs.Folders.{History, Now}
 use Rattle.amqp_spool.specs.Journals.{HasFloor}
 use Rattle.amqp_spool.specs.Spools.{KeepsTold}
@@ -36,3 +36,6 @@ returns-in-Err-clause-floor g c = λ n ps known most low.
 
 pub returns-in-Ok-clause-passed : goal.returns-in-Ok-clause-passed
 returns-in-Ok-clause-passed g c = λ ps known. passed_before c.few-passed.result c.in-Some.passed ps c.few-passed.ensures.low (c.in-Some.ensures.passed ps known)
+
+pub returns-in-Ok-clause-has : goal.returns-in-Ok-clause-has
+returns-in-Ok-clause-has g c = λ told waiting has not. c.let_go.ensures.has told waiting (c.tend-tended.ensures.has told waiting (c.passed.ensures.has told waiting has) (λ bad. absurd (grind (arith, c.in-Ok.is, bad))))

@@ -11,7 +11,7 @@ returns-in-Some-clause-put g c =
     let t = c.put_as.new.spool in
     let room = c.self.inside.room in
     ok_then c.put_as.result (λ put. subst (λ k. Accepts h k c.args.origin c.args.endpoint.now c.args.bytes.now (state_of t room)) c.self.view_is
-    (accepts h s t room c.args.origin c.args.endpoint.now c.args.bytes.now c.as_bytes.result.now c.in-Some.link (introduced_in c.sender_of-sender.result) c.as_bytes-tag.result.now c.sender_of-sender.ensures c.as_bytes-tag.ensures.value c.put_as.ensures.journal put))
+    (accepts h s t room c.args.origin c.args.endpoint.now c.args.bytes.now c.as_bytes.result.now c.in-Some.link (introduced_in c.in_ok-sender.sender) c.as_bytes-tag.result.now c.in_ok-sender.ensures c.as_bytes-tag.ensures.value c.put_as.ensures.journal put))
     c.put_as.ensures.put
 
 pub returns-clause-put : goal.returns-clause-put
@@ -21,7 +21,7 @@ returns-clause-put g c =
     let t = c.put_anew.new.spool in
     let room = c.self.inside.room in
     ok_then c.put_anew.result (λ put. subst (λ k. Accepts h k c.args.origin c.args.endpoint.now c.args.bytes.now (state_of t room)) c.self.view_is
-    (accepts h s t room c.args.origin c.args.endpoint.now c.args.bytes.now c.as_bytes.result.now put.0 (introduced_in c.sender_of-sender.result) c.args.origin.delivery_tag c.sender_of-sender.ensures refl c.put_anew.ensures.journal put.1))
+    (accepts h s t room c.args.origin c.args.endpoint.now c.args.bytes.now c.as_bytes.result.now put.0 (introduced_in c.in_ok-sender.sender) c.args.origin.delivery_tag c.in_ok-sender.ensures refl c.put_anew.ensures.journal put.1))
     c.put_anew.ensures.put
 
 pub returns-clause-refused : goal.returns-clause-refused
