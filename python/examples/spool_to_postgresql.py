@@ -2,7 +2,7 @@
 
     spool_to_postgresql.py DIR CONSUMER DATABASE [ADDRESS..]
 
-CONSUMER was added to the spool in DIR by `Spool.add`. DATABASE is as psql takes it: `dbname=shop`. A message to one of the addresses
+CONSUMER was added to the spool in DIR by `amqp spool add`. DATABASE is as psql takes it: `dbname=shop`. A message to one of the addresses
 becomes a row of the table of that name, any other one of `messages`. In the same transaction the number of the last is noted.
 """
 

@@ -5,6 +5,7 @@
 #![tactic(auto)]
 
 use amqp_records::Output;
+use amqp_spool::ConsumerName;
 use clap::{Arg, ArgAction, ArgMatches, Command, value_parser};
 use std::alloc::{AllocError, Global};
 
@@ -44,32 +45,71 @@ pub enum Order<'a> {
         /// Whether the records are in blocks.
         blocks: bool,
     },
-    /// To print the records of the spool in this directory.
-    SpoolRecords {
+    /// To do this with the spool in this directory.
+    Spool {
         dir: &'a str,
-        /// Those after this number alone, if there is one.
-        after: Option<u64>,
-        /// Those alone whose target has this address, if there is one.
-        address: Option<&'a str>,
-        /// Whether they are printed as JSON.
-        json: bool,
-    },
-    /// To list the segments of the spool in this directory.
-    SpoolList {
-        dir: &'a str,
-    },
-    /// To read all of the spool in this directory, and to say what is damaged.
-    SpoolCheck {
-        dir: &'a str,
+        task: SpoolTask<'a>,
     },
     /// Nothing: this option is no longer there.
     Gone {
         option: &'static str,
     },
+    /// Nothing: no consumer may have this name.
+    NoName {
+        name: &'a str,
+    },
     /// To send this file as one message to the listener at this address.
     Send {
         address: &'a str,
         file: &'a str,
+    },
+}
+
+/// What is done with a spool.
+#[derive(Clone, Copy, Debug, PartialEq, Eq)]
+pub enum SpoolTask<'a> {
+    /// To print its records.
+    Print {
+        begin: Begin,
+        /// Those alone whose target has this address, if there is one.
+        address: Option<&'a str>,
+        /// Whether they are printed as JSON.
+        json: bool,
+        /// How often it is looked for more, in milliseconds, if it is.
+        poll: Option<u32>,
+    },
+    /// To list its segments.
+    List,
+    /// To read all of it, and to say what is damaged.
+    Check,
+    /// To do this with a consumer of it.
+    Consumer {
+        name: ConsumerName,
+        task: ConsumerTask,
+    },
+}
+
+/// What is done with a consumer of a spool.
+#[derive(Clone, Copy, Debug, PartialEq, Eq)]
+pub enum ConsumerTask {
+    /// To add it.
+    Add,
+    /// To remove it.
+    Remove,
+    /// To acknowledge for it the records up to this number.
+    Acknowledge(u64),
+}
+
+/// Where the records of a spool begin that are printed.
+#[derive(Clone, Copy, Debug, PartialEq, Eq)]
+pub enum Begin {
+    /// After this number; without one at the first that is not gone.
+    After(Option<u64>),
+    /// After the position of this consumer.
+    Consumer {
+        name: ConsumerName,
+        /// Whether standard input has what it acknowledges.
+        acks: bool,
     },
 }
 
@@ -140,6 +180,9 @@ pub struct SpoolOrder<'a> {
 
 /// Where a segment ends if the command line doesn't say it.
 const SEGMENT: u64 = 67_108_864;
+
+/// How often it is looked for more records if the command line doesn't say it, in milliseconds.
+const POLL: u32 = 100;
 
 /// Makes an option that takes a number between these two.
 fn number<'a>(alloc: Global, name: &'a str, least: i64, most: i64, default: &'a str) -> Arg<'a> {
@@ -420,13 +463,46 @@ fn with_spooled<'a>(alloc: Global, records: Command<'a>) -> Result<Command<'a>, 
     let records = records.arg(dir(alloc, "spool").help(
         "Prints the records of the spool in this directory",
     ))?;
+    let records = with_begin(alloc, records)?;
+    let records = with_following(alloc, records)?;
+    let address = Arg::new(alloc, "address").long("address").value_name("A");
+    let address = address.requires_arg("spool")?.conflicts_with("FILE")?;
+    records.arg(address.help("Prints only records of the spool whose target has this address"))
+}
+
+/// Adds where the records of a spool begin.
+fn with_begin<'a>(alloc: Global, records: Command<'a>) -> Result<Command<'a>, AllocError> {
     let after = of_spool(alloc, "after", "N")?.conflicts_with("FILE")?;
     let records = records.arg(after.help(
         "Leaves out the records of the spool up to the number N",
     ))?;
-    let address = Arg::new(alloc, "address").long("address").value_name("A");
-    let address = address.requires_arg("spool")?.conflicts_with("FILE")?;
-    records.arg(address.help("Prints only records of the spool whose target has this address"))
+    let consumer = Arg::new(alloc, "consumer")
+        .long("consumer")
+        .value_name("NAME");
+    let consumer = consumer.requires_arg("spool")?.conflicts_with("FILE")?;
+    let consumer = consumer.conflicts_with("after")?;
+    let records = records.arg(consumer.help(
+        "Leaves out what this consumer of the spool has acknowledged",
+    ))?;
+    let acks = flag(alloc, "acks").requires_arg("consumer")?;
+    let acks = acks.conflicts_with("FILE")?.conflicts_with("after")?;
+    records.arg(acks.help(
+        "Acknowledges for the consumer up to the numbers that standard input has, one on each line",
+    ))
+}
+
+/// Adds whether more records of a spool are waited for.
+fn with_following<'a>(alloc: Global, records: Command<'a>) -> Result<Command<'a>, AllocError> {
+    let follow = flag(alloc, "follow")
+        .requires_arg("spool")?
+        .conflicts_with("FILE")?;
+    let records = records.arg(follow.help(
+        "Waits for more records of the spool, and does not end",
+    ))?;
+    let poll = Arg::new(alloc, "poll").long("poll").value_name("MS");
+    let poll = poll.value_parser(value_parser!(u32).range(1..=60000));
+    let poll = poll.requires_arg("follow")?.conflicts_with("FILE")?;
+    records.arg(poll.help("How often it looks for more, in milliseconds [default: 100]"))
 }
 
 /// Makes the command that tells of a spool.
@@ -437,12 +513,36 @@ fn spool_line<'a>(alloc: Global) -> Result<Command<'a>, AllocError> {
     let check = Command::new(alloc, "check")
         .about("Reads all of it, and says what is damaged")
         .arg(spool_dir(alloc))?;
-    Command::new(alloc, "spool")
+    let spool = Command::new(alloc, "spool")
         .about("Tells of the spool that gateway keeps in a directory")
         .subcommand_required(true)
         .arg_required_else_help(true)
         .subcommand(list)?
-        .subcommand(check)
+        .subcommand(check)?;
+    with_consumers(alloc, spool)
+}
+
+/// Adds the commands on the consumers of a spool.
+fn with_consumers<'a>(alloc: Global, spool: Command<'a>) -> Result<Command<'a>, AllocError> {
+    let add = Command::new(alloc, "add").about(
+        "Adds a consumer, whose records stay until it acknowledges them",
+    );
+    let spool = spool.subcommand(of_consumer(alloc, add)?)?;
+    let remove = Command::new(alloc, "remove").about("Removes a consumer");
+    let spool = spool.subcommand(of_consumer(alloc, remove)?)?;
+    let ack = Command::new(alloc, "ack").about("Acknowledges records for a consumer");
+    let number = Arg::new(alloc, "N")
+        .required(true)
+        .value_parser(value_parser!(u64));
+    let number = number.help("The number up to which they are acknowledged");
+    spool.subcommand(of_consumer(alloc, ack)?.arg(number)?)
+}
+
+/// Adds the directory of a spool, and the name of a consumer.
+fn of_consumer<'a>(alloc: Global, line: Command<'a>) -> Result<Command<'a>, AllocError> {
+    let line = line.arg(spool_dir(alloc))?;
+    let name = Arg::new(alloc, "NAME").required(true);
+    line.arg(name.help("The name of the consumer"))
 }
 
 /// Makes the directory of a spool.
@@ -455,23 +555,51 @@ fn spool_dir<'a>(alloc: Global) -> Arg<'a> {
 /// Returns what a command line that was read as one of [`spool_line`] asks for.
 fn spool_order<'a>(spool: &ArgMatches<'a>) -> Option<Order<'a>> {
     if let Some(list) = spool.subcommand_matches("list") {
-        let dir = list.get_str("DIR")?;
-        return Some(Order::SpoolList { dir });
+        let task = SpoolTask::List;
+        return Some(Order::Spool {
+            dir: list.get_str("DIR")?,
+            task,
+        });
     }
-    let check = spool.subcommand_matches("check")?;
-    let dir = check.get_str("DIR")?;
-    Some(Order::SpoolCheck { dir })
+    if let Some(check) = spool.subcommand_matches("check") {
+        let task = SpoolTask::Check;
+        return Some(Order::Spool {
+            dir: check.get_str("DIR")?,
+            task,
+        });
+    }
+    consumer_order(spool)
+}
+
+/// Returns what a command line that was read as one of [`with_consumers`] asks for.
+fn consumer_order<'a>(spool: &ArgMatches<'a>) -> Option<Order<'a>> {
+    if let Some(add) = spool.subcommand_matches("add") {
+        return order_on(add, ConsumerTask::Add);
+    }
+    if let Some(remove) = spool.subcommand_matches("remove") {
+        return order_on(remove, ConsumerTask::Remove);
+    }
+    let ack = spool.subcommand_matches("ack")?;
+    order_on(ack, ConsumerTask::Acknowledge(ack.get_one("N")?))
+}
+
+/// Returns the order to do something with the consumer that a command line names. It was read as [`of_consumer`].
+fn order_on<'a>(line: &ArgMatches<'a>, task: ConsumerTask) -> Option<Order<'a>> {
+    let dir = line.get_str("DIR")?;
+    let name = line.get_str("NAME")?;
+    Some(match ConsumerName::of(name) {
+        Some(name) => {
+            let task = SpoolTask::Consumer { name, task };
+            Order::Spool { dir, task }
+        }
+        None => Order::NoName { name },
+    })
 }
 
 /// Returns what a command line that was read as one of [`records_line`] asks for.
 fn records_order<'a>(records: &ArgMatches<'a>) -> Option<Order<'a>> {
     if let Some(dir) = records.get_str("spool") {
-        return Some(Order::SpoolRecords {
-            dir,
-            after: records.get_one("after"),
-            address: records.get_str("address"),
-            json: records.get_flag("json"),
-        });
+        return Some(spool_records_order(records, dir));
     }
     Some(Order::Records {
         file: records.get_str("FILE")?,
@@ -479,6 +607,43 @@ fn records_order<'a>(records: &ArgMatches<'a>) -> Option<Order<'a>> {
         max_message: records.get_one("max-message")?,
         blocks: records.get_flag("blocks"),
     })
+}
+
+/// Returns what a command line asks for that names the spool in this directory. It was read as one of
+/// [`records_line`].
+fn spool_records_order<'a>(records: &ArgMatches<'a>, dir: &'a str) -> Order<'a> {
+    let begin = match begin_of(records) {
+        Ok(begin) => begin,
+        Err(name) => return Order::NoName { name },
+    };
+    let task = SpoolTask::Print {
+        begin,
+        address: records.get_str("address"),
+        json: records.get_flag("json"),
+        poll: poll_of(records),
+    };
+    Order::Spool { dir, task }
+}
+
+/// Returns where the records begin, or a name that no consumer may have. The line was read as one of [`with_begin`].
+fn begin_of<'a>(records: &ArgMatches<'a>) -> Result<Begin, &'a str> {
+    let Some(name) = records.get_str("consumer") else {
+        return Ok(Begin::After(records.get_one("after")));
+    };
+    let acks = records.get_flag("acks");
+    match ConsumerName::of(name) {
+        Some(name) => Ok(Begin::Consumer { name, acks }),
+        None => Err(name),
+    }
+}
+
+/// Returns how often it is looked for more, if it is. The line was read as one of [`with_following`].
+fn poll_of(records: &ArgMatches<'_>) -> Option<u32> {
+    if records.get_flag("follow") {
+        Some(records.get_one("poll").unwrap_or(POLL))
+    } else {
+        None
+    }
 }
 
 /// Makes the option that takes the number of one record.

@@ -1,15 +1,18 @@
 //! Serves many peers at a time.
 
+use crate::lags::{Arrivals, Lag, lags};
 use crate::metrics::{Metrics, Spooled};
-use crate::spool::{Shelf, Upheld};
+use crate::spool::{Shelf, Stock, Upheld};
 use crate::traces::Traces;
 use amqp_command_line::GatewaySettings;
 use amqp_endpoint::Config;
 use amqp_gateway::{Ending, Gateway, GatewayFault, Settings, Watcher, link_most, peer_most};
 use amqp_perform::Outcome;
 use amqp_serve::Rule;
+use amqp_spool::consumers::ConsumerFault;
 use amqp_trace::Host;
 use mio::net::TcpListener;
+use std::alloc::Global;
 use std::io::{self, ErrorKind, Read, Write};
 use std::net::{Net, ToSocketAddrs};
 use std::rt::Files;
@@ -94,14 +97,21 @@ where
     if settings.until_eof && gateway.watch_input().is_err() {
         gateway.stop(); // a file, which is not waited for
     }
-    let watched = Watched {
+    let mut watched = Watched {
         every: (settings.every as u64).saturating_mul(1000),
         due: 0,
         longest: 0,
         bound,
         metrics,
+        arrivals: Arrivals::new(rt.alloc()),
     };
-    run(rt, &mut gateway, &mut clock, watched, settings.until_eof)
+    run(
+        rt,
+        &mut gateway,
+        &mut clock,
+        &mut watched,
+        settings.until_eof,
+    )
 }
 
 /// Has a gateway make turns until it is done, or until the end of standard input where that ends it.
@@ -109,7 +119,7 @@ fn run<R, K, W>(
     rt: &R,
     gateway: &mut Gateway<K, W>,
     clock: &mut Stopwatch,
-    mut watched: Watched<'_>,
+    watched: &mut Watched<'_>,
     until_eof: bool,
 ) -> Result<(), GatewayFault>
 where
@@ -120,6 +130,7 @@ where
     let mut upheld = Upheld::NOTHING;
     for _ in 0..u64::MAX {
         let now = clock.millis(rt);
+        watched.look(now, gateway.keeper());
         if now >= watched.due || gateway.is_done() {
             watched.tell(rt, now, gateway);
         }
@@ -156,16 +167,53 @@ fn ending_by(fault: GatewayFault) -> Ending {
 }
 
 /// When the file of metrics is due, and what it has besides what the gateway counts.
-#[derive(Clone, Copy)]
+#[derive(Drop)]
 struct Watched<'a> {
     every: u64,
     due: u64,
     longest: u64,
     bound: u64,
     metrics: Option<&'a str>,
+    arrivals: Arrivals,
 }
 
 impl Watched<'_> {
+    /// Notes how many records there are at this moment, if there is a file and a spool.
+    fn look<K: Shelf>(&mut self, now: u64, keeper: &K) {
+        if self.metrics.is_none() {
+            return;
+        }
+        if let Some(stock) = keeper.stock() {
+            self.arrivals.note(now, stock.next);
+        }
+    }
+
+    /// Returns how far the consumers are behind at this moment, if there is a file and a spool.
+    fn lags<R: Eprint + AllocGlobal, K: Shelf>(&self, rt: &R, now: u64, keeper: &K) -> Vec<Lag> {
+        let alloc = rt.alloc();
+        match (self.metrics, keeper.stock()) {
+            (Some(_), Some(stock)) => match self.lags_of(alloc, now, keeper, &stock) {
+                Ok(lags) => lags,
+                Err(fault) => {
+                    let _ = eprintln!(rt; "metrics: {fault}");
+                    Vec::new(alloc)
+                }
+            },
+            _ => Vec::new(alloc),
+        }
+    }
+
+    fn lags_of<K: Shelf>(
+        &self,
+        alloc: Global,
+        now: u64,
+        keeper: &K,
+        stock: &Stock,
+    ) -> Result<Vec<Lag>, ConsumerFault> {
+        let standings = keeper.standings(alloc)?;
+        Ok(lags(alloc, &standings, &self.arrivals, stock.next, now)?)
+    }
+
     /// Writes the file, if there is one, at this moment. The longest turn is counted anew.
     fn tell<R, K, W>(&mut self, rt: &R, now: u64, gateway: &Gateway<K, W>)
     where
@@ -173,13 +221,14 @@ impl Watched<'_> {
         K: Shelf + Drop,
         W: Watcher + Drop,
     {
+        let lags = self.lags(rt, now, gateway.keeper());
         let told = Metrics {
             counts: gateway.counts(),
             open: gateway.open() as u64,
             held: gateway.held(),
             bound: self.bound,
             longest: self.longest,
-            spooled: spooled(gateway),
+            spooled: spooled(gateway, &lags),
         };
         self.due = now.saturating_add(self.every);
         self.longest = 0;
@@ -187,16 +236,20 @@ impl Watched<'_> {
     }
 }
 
-/// Returns how the spool of a gateway stands, if it has one.
-fn spooled<K: Shelf + Drop, W: Watcher + Drop>(gateway: &Gateway<K, W>) -> Option<Spooled> {
+/// Returns how the spool of a gateway stands, if it has one, whose consumers are so far behind.
+fn spooled<'a, K: Shelf + Drop, W: Watcher + Drop>(
+    gateway: &Gateway<K, W>,
+    lags: &'a [Lag],
+) -> Option<Spooled<'a>> {
     Some(Spooled {
         stock: gateway.keeper().stock()?,
         held_up: gateway.held_up(),
+        lags,
     })
 }
 
 /// Writes these metrics to the file, if there is one.
-fn tell<R: Eprint + Files + AllocGlobal>(rt: &R, path: Option<&str>, told: &Metrics) {
+fn tell<R: Eprint + Files + AllocGlobal>(rt: &R, path: Option<&str>, told: &Metrics<'_>) {
     if let Some(path) = path {
         if told.write(rt, rt.alloc(), path).is_err() {
             let _ = eprintln!(rt; "metrics: Write");

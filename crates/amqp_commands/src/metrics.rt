@@ -1,7 +1,9 @@
 //! What a gateway counts, in the text format of Prometheus.
 
+use crate::lags::Lag;
 use crate::spool::Stock;
 use amqp_gateway::{Counts, Ending, HeldUp};
+use amqp_spool::ConsumerName;
 use std::alloc::{AllocError, Global};
 use std::fs;
 use std::io::{self, Write};
@@ -9,7 +11,7 @@ use std::rt::Files;
 
 /// What the file of metrics has.
 #[derive(Clone, Copy, Debug)]
-pub struct Metrics {
+pub struct Metrics<'a> {
     pub counts: Counts,
     /// How many peers there are.
     pub open: u64,
@@ -19,17 +21,18 @@ pub struct Metrics {
     /// The longest turn since the file was written last, in milliseconds.
     pub longest: u64,
     /// How the spool stands, if there is one.
-    pub spooled: Option<Spooled>,
+    pub spooled: Option<Spooled<'a>>,
 }
 
-/// How a spool stands, and what it holds up.
+/// How a spool stands, what it holds up, and how far its consumers are behind.
 #[derive(Clone, Copy, Debug)]
-pub struct Spooled {
+pub struct Spooled<'a> {
     pub stock: Stock,
     pub held_up: Option<HeldUp>,
+    pub lags: &'a [Lag],
 }
 
-impl Spooled {
+impl Spooled<'_> {
     /// Puts their text after another.
     fn put_to(&self, alloc: Global, text: &mut String) -> Result<(), AllocError> {
         let Stock {
@@ -70,7 +73,8 @@ impl Spooled {
             "The number of the next record.",
             next,
         )?;
-        self.put_held_up(alloc, text)
+        self.put_held_up(alloc, text)?;
+        self.put_lags(alloc, text)
     }
 
     /// Puts what is held up, by cause.
@@ -92,9 +96,32 @@ impl Spooled {
         }
         Ok(())
     }
+
+    /// Puts how far each consumer is behind.
+    fn put_lags(&self, alloc: Global, text: &mut String) -> Result<(), AllocError> {
+        put_head(
+            text,
+            "spool_lag_records",
+            "gauge",
+            "Records that a consumer has not acknowledged.",
+        )?;
+        for lag in self.lags {
+            put_lag(alloc, text, "spool_lag_records", &lag.name, lag.records)?;
+        }
+        put_head(
+            text,
+            "spool_lag_seconds",
+            "gauge",
+            "How long ago the first of them arrived, as far as it is known since the start.",
+        )?;
+        for lag in self.lags {
+            put_lag(alloc, text, "spool_lag_seconds", &lag.name, lag.seconds)?;
+        }
+        Ok(())
+    }
 }
 
-impl Metrics {
+impl Metrics<'_> {
     /// Returns their text.
     pub fn text(&self, alloc: Global) -> Result<String, AllocError> {
         let mut text = String::new(alloc);
@@ -196,6 +223,18 @@ fn put_head(text: &mut String, name: &str, kind: &str, help: &str) -> Result<(),
     text.push_str(" ")?;
     text.push_str(kind)?;
     text.push_str("\n")
+}
+
+/// Puts a number of a consumer.
+fn put_lag(
+    alloc: Global,
+    text: &mut String,
+    name: &str,
+    consumer: &ConsumerName,
+    number: u64,
+) -> Result<(), AllocError> {
+    let line = format!(in alloc; "amqp_gateway_{name}{{consumer=\"{consumer}\"}} {number}\n")?;
+    text.push_str(line.as_str())
 }
 
 /// Puts a number.

@@ -4,8 +4,10 @@ use amqp_command_line::SpoolOrder;
 use amqp_endpoint::Config;
 use amqp_gateway::{HeldUp, Outlet, Sink};
 use amqp_hub::Keeper;
+use amqp_spool::consumers::{ConsumerFault, Standing};
 use amqp_spool::{
-    Dir, Exclusive, FileName, JournalFault, MOST_SEGMENTS, OpenError, Refusal, Spool, reserve_for,
+    Dir, Exclusive, FileName, Folder, JournalFault, MOST_SEGMENTS, OpenError, Refusal, Spool,
+    reserve_for,
 };
 use amqp_spool_keeper::{SizeFault, Sizes, SpoolKeeper};
 use std::alloc::Global;
@@ -36,23 +38,33 @@ pub enum StartFault {
     Start(Stopped),
 }
 
-/// Why a spool can't be started, and what the system said to that, if it was asked.
+/// Why a spool can't be started.
 #[derive(Debug, Drop)]
-pub struct Stopped(JournalFault, Option<Refusal>);
+pub struct Stopped {
+    fault: JournalFault,
+    /// What the system said to that, if it was asked.
+    reason: Option<Refusal>,
+    /// Up to which number readers were shown records.
+    shown: u64,
+}
 
 impl fmt::Display for Stopped {
     fn fmt<W: fmt::Write>(&self, f: &mut Formatter<W>) -> fmt::Result {
-        let word = match self.0 {
+        let word = match self.fault {
             JournalFault::NoMemory => "NoMemory",
             JournalFault::Full => "Full",
             JournalFault::Failed => "Failed",
             JournalFault::Bound => "Bound: it has more than --bytes lets it have",
             JournalFault::Damaged => "Damaged",
         };
-        match &self.1 {
-            Some(reason) => write!(f, "{word}: {reason}"),
-            None => f.write_str(word),
+        f.write_str(word)?;
+        if let Some(reason) = &self.reason {
+            return write!(f, ": {reason}");
         }
+        if self.fault == JournalFault::Damaged && self.shown > 0 {
+            return write!(f, ": readers were shown records up to {}", self.shown);
+        }
+        Ok(())
     }
 }
 
@@ -122,10 +134,21 @@ where
         return Err(StartFault::Segment(sizes.segment));
     };
     if let Err(fault) = spool.start(secret) {
-        let reason = spool.journal().folder().take_reason();
-        return Err(StartFault::Start(Stopped(fault, reason)));
+        return Err(StartFault::Start(fault_of(fault, spool.journal().folder())));
     }
     Ok(SpoolKeeper::new(rt, alloc, spool, sizes.room, sizes.reserve))
+}
+
+/// Returns why a spool in this directory can't be started.
+fn fault_of<R: Files + Drop>(fault: JournalFault, dir: &Dir<R>) -> Stopped
+where
+    R::File: Exclusive,
+{
+    Stopped {
+        fault,
+        reason: dir.take_reason(),
+        shown: dir.shown(),
+    }
 }
 
 /// How a spool stands, in bytes but for the segments and the number of the next record.
@@ -144,6 +167,9 @@ pub trait Shelf: Keeper {
 
     /// Returns why the system refused something of it last, and on which file, unless that was returned before.
     fn take_reason(&self) -> Option<Refusal>;
+
+    /// Returns where its consumers stand. They are looked for each time.
+    fn standings(&self, alloc: Global) -> Result<Vec<Standing>, ConsumerFault>;
 }
 
 impl<S: Sink + Drop> Shelf for Outlet<S> {
@@ -153,6 +179,10 @@ impl<S: Sink + Drop> Shelf for Outlet<S> {
 
     fn take_reason(&self) -> Option<Refusal> {
         None
+    }
+
+    fn standings(&self, alloc: Global) -> Result<Vec<Standing>, ConsumerFault> {
+        Ok(Vec::new(alloc))
     }
 }
 
@@ -173,6 +203,10 @@ where
     fn take_reason(&self) -> Option<Refusal> {
         self.spool().journal().folder().take_reason()
     }
+
+    fn standings(&self, _alloc: Global) -> Result<Vec<Standing>, ConsumerFault> {
+        self.spool().journal().folder().standings()
+    }
 }
 
 /// Tells what a spool holds up, when that changes.
@@ -191,10 +225,15 @@ impl Upheld {
 
     /// Tells on standard error what is held up now, if it is something else than before, and why the system refused
     /// something.
-    pub fn tell<R: Eprint, K: Shelf>(&mut self, rt: &R, keeper: &K, held_up: Option<HeldUp>) {
-        if keeper.stock().is_none() {
+    pub fn tell<R: Eprint + AllocGlobal, K: Shelf>(
+        &mut self,
+        rt: &R,
+        keeper: &K,
+        held_up: Option<HeldUp>,
+    ) {
+        let Some(stock) = keeper.stock() else {
             return;
-        }
+        };
         if let Some(reason) = keeper.take_reason() {
             self.tell_reason(rt, &reason);
         }
@@ -205,16 +244,25 @@ impl Upheld {
         if held_up.is_none() {
             self.refused = None;
         }
-        let _ = match held_up {
-            None => eprintln!(rt; "spool: it goes on"),
-            Some(HeldUp::Credit) => { eprintln!(rt; "spool: held up: no room for more credit") }
+        match held_up {
+            None => {
+                let _ = eprintln!(rt; "spool: it goes on");
+            }
+            Some(HeldUp::Credit) => tell_full(rt, keeper, stock, "no room for more credit"),
             Some(HeldUp::Peers) => {
-                eprintln!(rt; "spool: held up: no room for another record, no peer is heard")
+                tell_full(
+                    rt,
+                    keeper,
+                    stock,
+                    "no room for another record, no peer is heard",
+                );
             }
             Some(HeldUp::Records) => {
-                eprintln!(rt; "spool: held up: records wait for the disk, no peer is heard")
+                let _ = eprintln!(rt;
+                    "spool: held up: records wait for the disk, no peer is heard"
+                );
             }
-        };
+        }
     }
 
     /// Tells why the system refused something, unless it was told of the same before.
@@ -236,4 +284,29 @@ impl Upheld {
             );
         }
     }
+}
+
+/// Tells on standard error that a spool is full, and which consumer holds it up most, if it has one.
+fn tell_full<R, K>(rt: &R, keeper: &K, stock: Stock, what: &str)
+where
+    R: Eprint + AllocGlobal,
+    K: Shelf,
+{
+    let last = stock.next.saturating_sub(1);
+    let _ = match slowest(rt.alloc(), keeper) {
+        Some(Standing { name, number }) => {
+            let number = number.unwrap_or(0);
+            eprintln!(rt; "spool: held up: {what}; {name} has acknowledged {number} of {last}")
+        }
+        None => eprintln!(rt; "spool: held up: {what}"),
+    };
+}
+
+/// Returns the consumer that has acknowledged the least, if there is one.
+fn slowest<K: Shelf>(alloc: Global, keeper: &K) -> Option<Standing> {
+    let standings = keeper.standings(alloc).ok()?;
+    standings
+        .iter()
+        .copied()
+        .min_by_key(|standing| standing.number.unwrap_or(0))
 }

@@ -1,11 +1,12 @@
 //! Where the lines about what is served go: files or standard error, and the clock of the
 //! lines.
 
+use amqp_spool_commands::Stderr;
 use amqp_trace::{Host, TraceFault, View};
-use std::io::{self, ErrorKind, Write};
+use std::fs;
+use std::io::{self, Write};
 use std::rt::Files;
 use std::time::{Clock, Instant};
-use std::{fs, str};
 
 /// The name that stands for standard error.
 const STDERR: &str = "-";
@@ -14,14 +15,14 @@ const STDERR: &str = "-";
 #[derive(Drop)]
 pub enum Told<'a, R: Files> {
     File(R::File),
-    Stderr(&'a R),
+    Stderr(Stderr<'a, R>),
 }
 
 impl<'a, R: Files> Told<'a, R> {
     /// Opens a new file, or standard error for `-`.
     pub fn open(rt: &'a R, path: &str) -> io::Result<Self> {
         if path == STDERR {
-            return Ok(Told::Stderr(rt));
+            return Ok(Told::Stderr(Stderr(rt)));
         }
         Ok(Told::File(fs::create(rt, path)?))
     }
@@ -31,20 +32,14 @@ impl<R: Files + Eprint> Write for Told<'_, R> {
     fn write(&mut self, buf: &[u8]) -> io::Result<usize> {
         match self {
             Told::File(file) => file.write(buf),
-            Told::Stderr(rt) => match str::from_utf8(buf) {
-                Ok(text) => {
-                    rt.eprint(text)?;
-                    Ok(buf.len())
-                }
-                Err(_) => Err(io::Error::from(ErrorKind::InvalidData)),
-            },
+            Told::Stderr(stderr) => stderr.write(buf),
         }
     }
 
     fn flush(&mut self) -> io::Result<()> {
         match self {
             Told::File(file) => file.flush(),
-            Told::Stderr(_) => Ok(()),
+            Told::Stderr(stderr) => stderr.flush(),
         }
     }
 }

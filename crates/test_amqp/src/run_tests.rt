@@ -1,9 +1,11 @@
 //! The program on a host of its own: the exit statuses, and what stands on standard error.
 
+ghost use Rattle.std.specs.Io.{WritesAtMost};
+
 use crate::loopback_tests::{connected, listening};
 use crate::recv_tests::{RECORDS, STREAM};
-use amqp_commands::Exclusive;
 use amqp_commands::run::run;
+use amqp_commands::{AwaitInput, Exclusive};
 use amqp_frame::HEADER;
 use std::alloc::{Alloc, AllocError, Allocator, Global};
 use std::cell::RefCell;
@@ -12,6 +14,7 @@ use std::fmt::Display;
 use std::fs::{Metadata, OpenFile, OpenOptions};
 use std::io::{self, BufRead, ErrorKind, Input, Read, Seek, SeekFrom, Write};
 use std::net::{Net, SocketAddr, TcpListener, TcpStream};
+use std::os::fd::RawFd;
 use std::process::{Abort, ExitCode};
 use std::random::RandomSource;
 use std::rt::{Env, Files};
@@ -67,7 +70,7 @@ impl Disk {
 
 /// A file that gives its bytes, and then ends or fails. Where there is a disk it takes more.
 #[derive(Clone, Copy)]
-struct Bytes<'a> {
+pub struct Bytes<'a> {
     all: &'a [u8],
     bytes: &'a [u8],
     is_broken: bool,
@@ -142,7 +145,7 @@ impl Exclusive for Bytes<'_> {
 /// A host with these words, this one file if any, this standard input, a standard output that may be shut or be full at some
 /// time, and a listener if any.
 #[derive(Drop)]
-struct Host<'a> {
+pub struct Host<'a> {
     alloc: Global,
     words: &'a [&'a str],
     file: Option<Bytes<'a>>,
@@ -191,6 +194,21 @@ fn append(stream: &RefCell<String>, text: impl Display + Drop, end: &str) -> io:
 }
 
 impl Host<'_> {
+    /// Returns what was printed.
+    pub fn printed(&self, alloc: Global) -> io::Result<String> {
+        taken(alloc, &self.out)
+    }
+
+    /// Returns what was told on standard error.
+    pub fn told(&self, alloc: Global) -> io::Result<String> {
+        taken(alloc, &self.err)
+    }
+
+    /// Lets standard output take nothing more.
+    pub fn shut(&mut self) {
+        self.is_shut = true;
+    }
+
     /// Returns how many bytes more standard output takes.
     fn room(&self) -> usize {
         match self.out.try_borrow() {
@@ -263,17 +281,31 @@ impl<'a> Input for Host<'a> {
     }
 }
 
+/// Its standard input is there at once.
+impl AwaitInput for Host<'_> {
+    fn input_descriptor(&self) -> Option<RawFd> {
+        None
+    }
+}
+
+/// Fills a buffer with a word, if there is one.
+pub fn fill(word: Option<&str>, buf: &mut [u8]) -> Result<usize, FillError>
+    ensures { WritesAtMost result buf.new }
+{
+    let Some(word) = word else {
+        return Err(FillError::NotPresent);
+    };
+    let word = word.as_bytes();
+    if word.len() > buf.len() {
+        return Err(FillError::TooLong);
+    }
+    buf[..word.len()].copy_from_slice(word);
+    Ok(word.len())
+}
+
 impl Env for Host<'_> {
     fn arg(&self, i: usize, buf: &mut [u8]) -> Result<usize, FillError> {
-        let word = match self.words.get(i) {
-            Some(word) => word.as_bytes(),
-            None => return Err(FillError::NotPresent),
-        };
-        if word.len() > buf.len() {
-            return Err(FillError::TooLong);
-        }
-        buf[..word.len()].copy_from_slice(word);
-        Ok(word.len())
+        fill(self.words.get(i).copied(), buf)
     }
 
     fn var(&self, _name: &str, _buf: &mut [u8]) -> Result<usize, FillError> {
@@ -399,7 +431,7 @@ fn host_of<'a>(alloc: Global, words: &'a [&'a str], file: Option<Bytes<'a>>) -> 
 }
 
 /// Returns a host whose words are these, with this standard input.
-fn host_fed<'a>(alloc: Global, words: &'a [&'a str], input: &'a [u8]) -> Host<'a> {
+pub fn host_fed<'a>(alloc: Global, words: &'a [&'a str], input: &'a [u8]) -> Host<'a> {
     Host {
         alloc,
         words,
@@ -415,7 +447,7 @@ fn host_fed<'a>(alloc: Global, words: &'a [&'a str], input: &'a [u8]) -> Host<'a
 }
 
 /// A host with these words and this file if any, to which a peer comes that sends these bytes.
-fn host_called<'a>(
+pub fn host_called<'a>(
     rt: &'a HostRuntime,
     words: &'a [&'a str],
     file: Option<Bytes<'a>>,
@@ -758,7 +790,7 @@ fn answers_a_command_line(rt: HostRuntime) {
     let alloc = rt.alloc();
     let host = host_of(alloc, &["amqp", "--version"], None);
     assert_ends(&rt, host, ExitCode::SUCCESS, "amqp 0.1.0\n", "");
-    let lines: [&[&str]; 26] = [
+    let lines: [&[&str]; 39] = [
         &["amqp"],
         &["amqp", "records"],
         &["amqp", "records", "a", "--only", "0"],
@@ -768,8 +800,32 @@ fn answers_a_command_line(rt: HostRuntime) {
         &["amqp", "records", "--spool", "a", "--after", "-1"],
         &["amqp", "records", "--spool", "a", "--blocks"],
         &["amqp", "records", "--spool", "a", "--only", "1"],
+        &["amqp", "records", "a", "--consumer", "b"],
+        &["amqp", "records", "a", "--follow"],
+        &["amqp", "records", "--spool", "a", "--acks"],
+        &["amqp", "records", "--spool", "a", "--poll", "5"],
+        &["amqp", "records", "--spool", "a", "--follow", "--poll", "0"],
+        &[
+            "amqp", "records", "--spool", "a", "--follow", "--poll", "60001",
+        ],
+        &[
+            "amqp",
+            "records",
+            "--spool",
+            "a",
+            "--consumer",
+            "b",
+            "--after",
+            "1",
+        ],
+        &["amqp", "records", "--spool", "a", "--after", "1", "--acks"],
         &["amqp", "spool"],
         &["amqp", "spool", "check"],
+        &["amqp", "spool", "add", "a"],
+        &["amqp", "spool", "remove", "a"],
+        &["amqp", "spool", "ack", "a", "b"],
+        &["amqp", "spool", "ack", "a", "b", "-1"],
+        &["amqp", "spool", "ack", "a", "b", "x"],
         &["amqp", "dump"],
         &["amqp", "dump", "a", "b"],
         &["amqp", "replay"],
@@ -788,9 +844,40 @@ fn answers_a_command_line(rt: HostRuntime) {
     ];
     for words in lines {
         let host = host_of(alloc, words, None);
-        assert!(rt; run(&host) == ExitCode::from(2));
+        assert!(rt; run(&host) == ExitCode::from(2), "{words:?}");
         assert_eq!(rt; host.out.into_inner().as_str(), "");
     }
+}
+
+/// A name that no consumer may have is refused with what one may be.
+#[test]
+fn tells_what_the_name_of_a_consumer_is(rt: HostRuntime) -> Result<(), Fail> {
+    let long = "a1-_a1-_a1-_a1-_a1-_a1-_a1-_a1-_a1-_a1-_a1-_a1-_a1-_a1-_a1-_a1-_a";
+    for name in ["", "A", "a.b", "_a", "-a", "\u{e4}", long] {
+        assert_no_name(&rt, &["amqp", "spool", "add", "d", "--", name], name)?;
+        assert_no_name(&rt, &["amqp", "spool", "remove", "d", "--", name], name)?;
+        assert_no_name(&rt, &["amqp", "spool", "ack", "d", "--", name, "1"], name)?;
+        let option = format!(in rt.alloc(); "--consumer={name}")?;
+        assert_no_name(
+            &rt,
+            &["amqp", "records", "--spool", "d", option.as_str()],
+            name,
+        )?;
+    }
+    Ok(())
+}
+
+/// Asserts that a command line is refused since no consumer may have this name.
+fn assert_no_name<R>(rt: &R, words: &[&str], name: &str) -> Result<(), Fail>
+where
+    R: Abort + AllocGlobal,
+{
+    let told = format!(in rt.alloc();
+        "error: '{name}' is no name of a consumer: 1 to 64 of a-z, 0-9, - and _, the first a letter or a digit\n"
+    )?;
+    let host = host_of(rt.alloc(), words, None);
+    assert_ends(rt, host, ExitCode::from(2), "", told.as_str());
+    Ok(())
 }
 
 /// An option that is gone is refused with what is there in its place.
@@ -921,8 +1008,8 @@ fn taken(alloc: Global, stream: &RefCell<String>) -> io::Result<String> {
 /// Runs the program on this host.
 fn ran(host: &Host<'_>) -> io::Result<Left> {
     let status = run(host);
-    let printed = taken(host.alloc, &host.out)?;
-    let told = taken(host.alloc, &host.err)?;
+    let printed = host.printed(host.alloc)?;
+    let told = host.told(host.alloc)?;
     Ok(Left {
         status,
         printed,
@@ -1018,14 +1105,18 @@ fn a_gateway_says_what_its_spool_needs(rt: HostRuntime) -> Result<(), Fail> {
         (
             "--bytes=1316169583",
             "--segment=67108864",
-            "fault: Bound: --bytes 1316169584 would do",
+            "fault: d: Bound: --bytes 1316169584 would do",
         ),
         (
             "--bytes=2000000000",
             "--segment=1048687",
-            "fault: Bound: --segment 1048688 would do",
+            "fault: d: Bound: --segment 1048688 would do",
         ),
-        ("--bytes=1316169584", "--segment=67108864", "fault: Random"),
+        (
+            "--bytes=1316169584",
+            "--segment=67108864",
+            "fault: d: Random",
+        ),
     ] {
         let disk = Disk::new(rt.alloc());
         let left = gateway_spooled(&rt, [bytes, segment], &disk)?;

@@ -95,7 +95,7 @@ class Locked(SpoolError):
 
 
 class NoConsumer(SpoolError):
-    """The spool has no consumer of this name: `Spool.add` makes one."""
+    """The spool has no consumer of this name: `amqp spool add` makes one."""
 
 
 # Records ---------------------------------------------------------------------------------------------------------------------
