@@ -6,10 +6,10 @@
     abi.py --plant     tries that each kind of change is found
 
 It reads text alone: the exports and structs in crates/wuleshomia/src, what its numbers stand for in specs/Codes.antt and Spools.antt,
-the sizes and the kinds of targets of a spool in the crates that have them, calls.c, wuleshomia.h, _native.py, _endpoint.py and _spool.py.
-It needs no compiler, no proof and no library.
+the sizes and the kinds of targets of a spool and the standard's conditions in the crates that have them, calls.c, wuleshomia.h, _native.py,
+_endpoint.py, _spool.py and conditions.py. It needs no compiler, no proof and no library.
 
-A call that may get NULL is exported as wuleshomia_NAME, and calls.c has wule_NAME over it.
+A call that may get NULL, or a text that ends with a zero byte, is exported as wuleshomia_NAME, and calls.c has wule_NAME over it.
 """
 
 from __future__ import annotations
@@ -50,12 +50,14 @@ PYTHON_WORDS = {
 INNER = "wuleshomia_"  # begins the names of the exports that calls.c hands on to
 IN_C = {"WULE_NULL": 31}  # the codes that calls.c alone returns
 SIZES = {"uint32_t": (4, 4), "uint64_t": (8, 8), "void *": (8, 8), "uint8_t": (1, 1)}
-TEXTS = {"container_id"}  # bytes that C writes as a text
+TEXTS = {"container_id", "condition", "description"}  # bytes that C writes as a text
+MEASURED = {"condition", "description"}  # of these texts calls.c alone has the length
+DESCRIBED = "described"  # and this, whether there is a description
 
 # What the numbers stand for: the definition in Codes.antt, the enum in C, its prefix, the one in Python. The last arm of a definition is
 # all numbers that are not named before it, so that its number is given here.
 ENUMS = [
-    ("fault_at", "wule_code", "WULE_", "Code", 12),
+    ("fault_at", "wule_code", "WULE_", "Code", 13),
     ("open_fault_at", "wule_code", "WULE_", "Code", 26),
     ("settlement_at", "wule_outcome", "WULE_", "Outcome", None),
     ("end_at", "wule_end", "WULE_END_", "End", 4),
@@ -98,6 +100,8 @@ class Sources:
         record = (CRATE.parent / "amqp_records/src/record.rt").read_text().replace("const HEAD:", "const RECORD_HEAD:")
         self.format = "\n".join([*((CRATE.parent / name).read_text() for name in FORMAT), record])
         self.header = (HERE / "wuleshomia.h").read_text()
+        self.named = (CRATE.parent / "amqp_reason/src/conditions.rt").read_text()
+        self.conditions = (PYTHON / "conditions.py").read_text()
         self.native = (PYTHON / "_native.py").read_text()
         self.endpoint = "\n".join((PYTHON / name).read_text() for name in ("_endpoint.py", "_spool.py"))
         self.makefile = (HERE / "Makefile").read_text()
@@ -114,7 +118,7 @@ def type_in_c(name: str, word: str) -> list[tuple[str, str]]:
         return []
     if word in ("&[u8]", "&mut [u8]"):
         kind = "const char *" if name in TEXTS else "const uint8_t *"
-        return [(name, kind if word == "&[u8]" else "uint8_t *"), ("", "size_t")]
+        return [(name, kind if word == "&[u8]" else "uint8_t *"), (f"{name}_len" if name in MEASURED else "", "size_t")]
     if rows and rows[1] in STRUCTS:
         return [(name, f"const {STRUCTS[rows[1]][0]} *"), ("", "size_t")]
     if struct and struct[2] in STRUCTS:
@@ -128,6 +132,12 @@ def type_in_c(name: str, word: str) -> list[tuple[str, str]]:
 def public(name: str) -> str:
     """The name that a host calls."""
     return "wule_" + name.removeprefix(INNER) if name.startswith(INNER) else name
+
+
+def measured(call: tuple) -> tuple:
+    """What a host hands in, of a call that gets texts with their lengths."""
+    result, words = call
+    return result, [(name, word) for name, word in words if name not in {DESCRIBED, *(f"{text}_len" for text in MEASURED)}]
 
 
 def exported(text: str) -> dict[str, tuple]:
@@ -279,13 +289,14 @@ def compared(s: Sources) -> list[str]:
             bad.append(f"{what}: {sides}: {left} and {right}")
 
     all_exports, header, native = exported(s.exports), declared(s.header), python_functions(s.native)
-    exports = {public(name): export for name, export in all_exports.items()}
+    exports = {public(name): measured(export) for name, export in all_exports.items()}
     inner = {name for name in all_exports if name.startswith(INNER)}
     asked, made = declared(s.calls), declared(s.calls, r" \{")
     same("calls.c", sorted(inner), sorted(asked), "exports of inner names, and what it asks for")
     same("calls.c", sorted(map(public, inner)), sorted(made), "exports of inner names, and what it has")
     for name in sorted(asked):
-        same(name, asked[name], header.get(public(name)), "calls.c and header")
+        same(name, measured(asked[name]), header.get(public(name)), "calls.c and header")
+        same(name, [t for _, t in asked[name][1]], [t for _, t in all_exports.get(name, ("", []))[1]], "calls.c and export")
     for name in sorted(made):
         same(name, made[name], header.get(name), "calls.c and header")
     for name in sorted({*exports, *header, *native}):
@@ -322,6 +333,9 @@ def compared(s: Sources) -> list[str]:
     same("calls.c", sorted(set(re.findall(r"\bWULE_\w+", plain(s.calls)))), sorted(IN_C), "the codes that it returns, and those that are its own")
     for name, number in IN_C.items():
         same(name, number, enums["wule_code"].get(name), "a code of C, and the header")
+    named = dict(re.findall(r'^pub const (\w+): &str = ("[^"]+");$', s.named, re.M))
+    same("conditions", named, dict(re.findall(r'^#define WULE_SYMBOL_(\w+) ("[^"]+")$', s.header, re.M)), "crate and header")
+    same("conditions", named, dict(re.findall(r'^(\w+) = ("[^"]+")$', s.conditions, re.M)), "crate and Python")
     same("wule_code", {n.removeprefix("WULE_"): v for n, v in enums["wule_code"].items() if v}, python_numbers["Code"], "header and Python")
     same("wule_event", {n.removeprefix("WULE_"): v for n, v in enums["wule_event"].items()}, python_events(s.endpoint), "header and Python")
     major, minor, patch = (int(re.search(rf"#define WULE_VERSION_{w} (\d+)", s.header)[1]) for w in ("MAJOR", "MINOR", "PATCH"))
@@ -365,7 +379,7 @@ def record(s: Sources) -> list[str]:
 PLANTS = [
     ("a name in the header", "header", "wule_has_output(wule_endpoint *e);", "wule_has_out(wule_endpoint *e);"),
     ("a type in the header", "header", "uint32_t wule_widen(wule_endpoint *e, uint32_t channel, uint32_t n)", "uint32_t wule_widen(wule_endpoint *e, uint32_t channel, uint64_t n)"),
-    ("two parameters that are swapped", "header", "uint32_t channel, uint32_t first, uint32_t last,", "uint32_t channel, uint32_t last, uint32_t first,"),
+    ("two parameters that are swapped", "header", "uint32_t channel, uint32_t first, uint32_t last, uint32_t outcome,", "uint32_t channel, uint32_t last, uint32_t first, uint32_t outcome,"),
     ("an enum's value in the header", "header", "WULE_DETACHED = 9,", "WULE_DETACHED = 13,"),
     ("a struct's size", "header", "    uint32_t refused; /*", "    uint32_t most;\n    uint32_t refused; /*"),
     ("a field's order", "header", "    uint32_t id;      /* the delivery-id, for wule_settle() */\n    uint32_t format;", "    uint32_t format;\n    uint32_t id;"),
@@ -373,6 +387,9 @@ PLANTS = [
     ("a constant of the crate", "exports", "pub const UNSENT: u32 = 28;", "pub const UNSENT: u32 = 32;"),
     ("an export that a host is to call itself", "exports", "fn wuleshomia_take(", "fn wule_take("),
     ("an export that calls.c leaves out", "exports", "fn wule_has_output(", "fn wuleshomia_has_output("),
+    ("two texts that are swapped in an export", "exports", "    first: u32,\n    last: u32,\n    condition: &[u8],\n    description: &[u8],", "    first: u32,\n    last: u32,\n    description: &[u8],\n    condition: &[u8],"),
+    ("a condition in the header", "header", '#define WULE_SYMBOL_STOLEN "amqp:link:stolen"', '#define WULE_SYMBOL_STOLEN "amqp:stolen"'),
+    ("a condition in Python", "conditions", 'NOT_FOUND = "amqp:not-found"', 'NOT_FOUND = "amqp:not_found"'),
     ("a type in calls.c", "calls", "size_t wuleshomia_records(wule_endpoint *e, uint8_t *room, size_t len);", "uint32_t wuleshomia_records(wule_endpoint *e, uint8_t *room, size_t len);"),
     ("another code in calls.c", "calls", "wuleshomia_link(e, channel, handle, link, name, len) : WULE_NULL;", "wuleshomia_link(e, channel, handle, link, name, len) : WULE_NO_LINK;"),
     ("a number in the specs", "codes", "if nat_eq n 1 then Some settlement.Rejected", "if nat_eq n 1 then Some settlement.Released"),

@@ -1,6 +1,7 @@
 /*
- * The calls that may get NULL for no bytes. The proved archive has them as wuleshomia_NAME, over references, which are never NULL.
- * What stands here only looks for NULL and hands on: it is read and tested, not proved.
+ * The calls that may get NULL for no bytes, and those that get texts which end with a zero byte. The proved archive has them as
+ * wuleshomia_NAME, over references, which are never NULL, and with the length of each text. What stands here only looks for NULL,
+ * measures texts and hands on: it is read and tested, not proved.
  */
 #include "wuleshomia.h"
 
@@ -8,7 +9,16 @@ uint32_t wuleshomia_open(wule_endpoint *e, const wule_settings *settings, const 
                          const wule_limit *limits, size_t limit_count, size_t *row);
 uint32_t wuleshomia_feed(wule_endpoint *e, const uint8_t *bytes, size_t len, wule_fed *fed);
 size_t wuleshomia_output(wule_endpoint *e, uint8_t *room, size_t len);
+uint32_t wuleshomia_close_with(wule_endpoint *e, const char *condition, size_t condition_len, const char *description,
+                               size_t description_len, uint32_t described, uint32_t *dropped);
 uint32_t wuleshomia_finish(wule_endpoint *e, uint64_t *inside);
+uint32_t wuleshomia_settle_with(wule_endpoint *e, uint32_t channel, uint32_t id, const char *condition, size_t condition_len,
+                                const char *description, size_t description_len, uint32_t described);
+uint32_t wuleshomia_settle_range_with(wule_endpoint *e, uint32_t channel, uint32_t first, uint32_t last, const char *condition,
+                                      size_t condition_len, const char *description, size_t description_len, uint32_t described,
+                                      uint32_t *named);
+uint32_t wuleshomia_refuse(wule_endpoint *e, uint32_t channel, uint32_t handle, const char *condition, size_t condition_len,
+                           const char *description, size_t description_len, uint32_t described, uint32_t *dropped);
 uint32_t wuleshomia_take(wule_endpoint *e, uint32_t channel, uint32_t handle, wule_taken *taken, uint8_t *room, size_t len);
 size_t wuleshomia_message_read(wule_endpoint *e, size_t at, uint8_t *room, size_t len);
 uint32_t wuleshomia_link(wule_endpoint *e, uint32_t channel, uint32_t handle, wule_link_state *link, uint8_t *name, size_t len);
@@ -44,6 +54,16 @@ static int has_room(uint8_t **room, size_t len) {
     return len == 0;
 }
 
+/* A text in the place of NULL. */
+static const char *text_of(const char *text) { return text != NULL ? text : ""; }
+
+/* How many bytes a text has, as far as it matters: one of 256 is longer than any that is taken. */
+static size_t length_of(const char *text) {
+    size_t len = 0;
+    while (text != NULL && len < 256 && text[len] != 0) len++;
+    return len;
+}
+
 uint32_t wule_open(wule_endpoint *e, const wule_settings *settings, const char *container_id, size_t id_len,
                    const wule_limit *limits, size_t limit_count, size_t *row) {
     size_t nowhere = 0;
@@ -58,9 +78,31 @@ uint32_t wule_feed(wule_endpoint *e, const uint8_t *bytes, size_t len, wule_fed 
 
 size_t wule_output(wule_endpoint *e, uint8_t *room, size_t len) { return has_room(&room, len) ? wuleshomia_output(e, room, len) : 0; }
 
+uint32_t wule_close_with(wule_endpoint *e, const char *condition, const char *description, uint32_t *dropped) {
+    return wuleshomia_close_with(e, text_of(condition), length_of(condition), text_of(description), length_of(description),
+                                 description != NULL, dropped);
+}
+
 uint32_t wule_finish(wule_endpoint *e, uint64_t *inside) {
     uint64_t nowhere = 0;
     return wuleshomia_finish(e, inside != NULL ? inside : &nowhere);
+}
+
+uint32_t wule_settle_with(wule_endpoint *e, uint32_t channel, uint32_t id, const char *condition, const char *description) {
+    return wuleshomia_settle_with(e, channel, id, text_of(condition), length_of(condition), text_of(description),
+                                  length_of(description), description != NULL);
+}
+
+uint32_t wule_settle_range_with(wule_endpoint *e, uint32_t channel, uint32_t first, uint32_t last, const char *condition,
+                                const char *description, uint32_t *named) {
+    return wuleshomia_settle_range_with(e, channel, first, last, text_of(condition), length_of(condition), text_of(description),
+                                        length_of(description), description != NULL, named);
+}
+
+uint32_t wule_refuse(wule_endpoint *e, uint32_t channel, uint32_t handle, const char *condition, const char *description,
+                     uint32_t *dropped) {
+    return wuleshomia_refuse(e, channel, handle, text_of(condition), length_of(condition), text_of(description),
+                             length_of(description), description != NULL, dropped);
 }
 
 uint32_t wule_take(wule_endpoint *e, uint32_t channel, uint32_t handle, wule_taken *taken, uint8_t *room, size_t len) {

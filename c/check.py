@@ -158,6 +158,13 @@ def _() -> str:
     return done.stderr.decode().strip().splitlines()[-3]
 
 
+@test("Python's protocol takes and refuses links, and rejects messages")
+def _() -> str:
+    done = subprocess.run([sys.executable, PYTHON / "tests/protocol.py"], env=ENVIRONMENT, capture_output=True, timeout=SECONDS)
+    assert done.returncode == 0, done.stderr[-2000:].decode()
+    return done.stderr.decode().strip().splitlines()[-3]
+
+
 @test("Python reads spools as rows of a model say, follows them, and acknowledges")
 def _() -> str:
     done = subprocess.run([sys.executable, PYTHON / "tests/spools.py", SPOOLS], env=ENVIRONMENT, capture_output=True, timeout=SECONDS)
@@ -333,10 +340,10 @@ def wait_for(port: int) -> None:
     raise AssertionError(f"nothing listens on {port}")
 
 
-def send(url: str, count: int, size: int) -> str:
+def send(url: str, count: int, size: int, *address: str) -> str:
     if not PROTON_PYTHON:
         raise Missing("there is no python3-qpid-proton")
-    done = subprocess.run([PROTON_PYTHON, HERE / "tests/proton_send.py", url, str(count), str(size)], capture_output=True, timeout=60)
+    done = subprocess.run([PROTON_PYTHON, HERE / "tests/proton_send.py", url, str(count), str(size), *address], capture_output=True, timeout=60)
     assert done.returncode == 0, done.stderr[-2000:].decode()
     return done.stdout.decode().strip()
 
@@ -380,6 +387,46 @@ def _() -> None:
                 time.sleep(1.0)
                 wait_for(int(port))
                 assert send(f"amqps://127.0.0.1:{port}/queue", 500, 100) == "accepted 500", words[0]
+
+
+@test("a stock Proton sender hears why its link is refused, and why a message is rejected")
+def _() -> None:
+    for size, address, heard in ((9, "nowhere", "refused amqp:not-found no such address"), (0, "orders", "rejected amqp:decode-error the message is empty")):
+        for port, words in hosts(None):
+            with Host(*words) as host:
+                wait_for(int(port))
+                assert send(f"amqp://127.0.0.1:{port}", 1, size, address) == heard, words[0]
+                assert b"closed, " in host.printed(), words[0]
+
+
+# A header, an open, a begin, and attaches at handles 0 and 1 to "nowhere" and to "queue". A message in format 1 on the latter, an empty one,
+# and one with a value; a close. Then what says that the link is refused, and that the messages are rejected. By hand, from the standard.
+BAD_PEER = bytes.fromhex(
+    "414d515000010000 0000001102000000005310c00401a10170 0000001402000000005311c007044043527f527f"
+    "0000002b02000000005312c01e0aa101614342404000532845005329c00a01a1076e6f7768657265404043"
+    "0000002a02000000005312c01d0aa10162520142404000532845005329c00801a1057175657565404043"
+    "0000001d02000000005314c00a05520143a00100520142005377a10178"
+    "0000001702000000005314c00a0552015201a001014342"
+    "0000001d02000000005314c00a0552015202a001024342005377a10178"
+    "0000000c0200000000531845"
+)
+BAD_PEER_HEARS = (
+    bytes.fromhex("0000003702000000005316c02a03434100531dc02202a30e") + b"amqp:not-found" + b"\xa1\x0fno such address",
+    bytes.fromhex("0000004e02000000005315c0410541434041005325c0370100531dc03102a311") + b"amqp:decode-error" + b"\xa1\x1bthe message-format is not 0",
+    bytes.fromhex("0000004802000000005315c03b054152014041005325c0300100531dc02a02a311") + b"amqp:decode-error" + b"\xa1\x14the message is empty",
+    bytes.fromhex("0000001702000000005315c00a05415202404100532445"),
+)
+
+
+@test("both hosts refuse a link to an unknown address and reject bad messages, and say why")
+def _() -> None:
+    for port, words in hosts(None):
+        with Host(*words) as host:
+            wait_for(int(port))
+            answers = spoken_to(int(port), BAD_PEER)
+            for frame in BAD_PEER_HEARS:
+                assert frame in answers, f"{words[0]}: {frame.hex()} in {answers.hex()}"
+            assert b"closed, 3 messages, " in host.printed(), words[0]
 
 
 @test("the library is installed, found by pkg-config, and removed")

@@ -81,6 +81,11 @@
  * call does nothing, and returns WULE_NULL before any other code, or 0 if it returns how many bytes. So does a call by a pointer to
  * the function, or from another language.
  *
+ * A condition and a description are texts that end with a zero byte, of which at most 256 bytes are read. They say why a link or a
+ * message is refused, or the connection closed, and the peer gets them as an error [2.8.14]. The condition is a symbol, as
+ * WULE_SYMBOL_NOT_FOUND or one of the application's own; if it is NULL, it is empty, and so WULE_BAD_ERROR. The description is for
+ * people; if it is NULL, there is none.
+ *
  * wule_output(), wule_has_output(), wule_records(), wule_message_read() and wule_held() return 0 if there is nothing, and 0 if the
  * handle holds no endpoint. wule_window() tells which: it returns WULE_NO_ENDPOINT exactly then.
  *
@@ -112,7 +117,7 @@ extern "C" {
 
 /* ------------------------------------------------------------------------------------------------------------------- Numbers */
 
-/* What a call returns; see wule_code_text(). Of 1 to 12 it is the first of this order that is so. */
+/* What a call returns; see wule_code_text(). Of 1 to 13 it is the first of this order that is so, but WULE_FULL comes last. */
 typedef enum wule_code {
     WULE_OK = 0,
     WULE_CONNECTION_OVER = 1,  /* the connection is over, or this side has closed it */
@@ -127,6 +132,7 @@ typedef enum wule_code {
     WULE_TOO_MUCH_CREDIT = 10, /* credit and open deliveries would be more than the link is allowed */
     WULE_WINDOW_TOO_WIDE = 11, /* the window would pass 2147483647 places */
     WULE_FULL = 12,            /* fewer than 2560 of the output's 8192 bytes are free: wule_output() first */
+    WULE_BAD_ERROR = 13,       /* a condition is not 1 to 64 printable characters, or a description not at most 255 bytes of UTF-8 */
     WULE_NO_ENDPOINT = 20,     /* the handle holds none: wule_open() was not called, or wule_free() was */
     WULE_NO_MEMORY = 21,
     WULE_IN_USE = 22,          /* the handle holds an endpoint already */
@@ -186,6 +192,34 @@ typedef enum wule_condition {
     WULE_TRANSFER_LIMIT_EXCEEDED = 11,
     WULE_MESSAGE_SIZE_EXCEEDED = 12
 } wule_condition;
+
+/* The conditions that the standard names, for wule_refuse(), wule_settle_with(), wule_settle_range_with() and wule_close_with()
+ * [2.8.15 to 2.8.18]. An application may have others of its own. */
+#define WULE_SYMBOL_INTERNAL_ERROR "amqp:internal-error"
+#define WULE_SYMBOL_NOT_FOUND "amqp:not-found"
+#define WULE_SYMBOL_UNAUTHORIZED_ACCESS "amqp:unauthorized-access"
+#define WULE_SYMBOL_DECODE_ERROR "amqp:decode-error"
+#define WULE_SYMBOL_RESOURCE_LIMIT_EXCEEDED "amqp:resource-limit-exceeded"
+#define WULE_SYMBOL_NOT_ALLOWED "amqp:not-allowed"
+#define WULE_SYMBOL_INVALID_FIELD "amqp:invalid-field"
+#define WULE_SYMBOL_NOT_IMPLEMENTED "amqp:not-implemented"
+#define WULE_SYMBOL_RESOURCE_LOCKED "amqp:resource-locked"
+#define WULE_SYMBOL_PRECONDITION_FAILED "amqp:precondition-failed"
+#define WULE_SYMBOL_RESOURCE_DELETED "amqp:resource-deleted"
+#define WULE_SYMBOL_ILLEGAL_STATE "amqp:illegal-state"
+#define WULE_SYMBOL_FRAME_SIZE_TOO_SMALL "amqp:frame-size-too-small"
+#define WULE_SYMBOL_CONNECTION_FORCED "amqp:connection:forced"
+#define WULE_SYMBOL_FRAMING_ERROR "amqp:connection:framing-error"
+#define WULE_SYMBOL_CONNECTION_REDIRECT "amqp:connection:redirect"
+#define WULE_SYMBOL_WINDOW_VIOLATION "amqp:session:window-violation"
+#define WULE_SYMBOL_ERRANT_LINK "amqp:session:errant-link"
+#define WULE_SYMBOL_HANDLE_IN_USE "amqp:session:handle-in-use"
+#define WULE_SYMBOL_UNATTACHED_HANDLE "amqp:session:unattached-handle"
+#define WULE_SYMBOL_DETACH_FORCED "amqp:link:detach-forced"
+#define WULE_SYMBOL_TRANSFER_LIMIT_EXCEEDED "amqp:link:transfer-limit-exceeded"
+#define WULE_SYMBOL_MESSAGE_SIZE_EXCEEDED "amqp:link:message-size-exceeded"
+#define WULE_SYMBOL_LINK_REDIRECT "amqp:link:redirect"
+#define WULE_SYMBOL_STOLEN "amqp:link:stolen"
 
 /* How a connection stood at the end of its input. */
 typedef enum wule_end {
@@ -442,6 +476,9 @@ uint32_t wule_has_output(wule_endpoint *e);
  * WULE_OK, WULE_CONNECTION_OVER, WULE_NOT_OPEN, WULE_FULL, WULE_NO_ENDPOINT. */
 uint32_t wule_close(wule_endpoint *e, uint32_t *dropped);
 
+/* The same, by a close with an error [2.7.9]. The codes of wule_close(), and WULE_BAD_ERROR. */
+uint32_t wule_close_with(wule_endpoint *e, const char *condition, const char *description, uint32_t *dropped);
+
 /* Writes an empty frame, for a peer that asked for an idle-time-out [2.4.5].
  * WULE_OK, WULE_CONNECTION_OVER, WULE_NOT_OPEN, WULE_FULL, WULE_NO_ENDPOINT. */
 uint32_t wule_heartbeat(wule_endpoint *e);
@@ -477,6 +514,12 @@ uint32_t wule_settle(wule_endpoint *e, uint32_t channel, uint32_t id, uint32_t o
  * deliveries. The codes of wule_settle(), and WULE_MIXED_MODES. */
 uint32_t wule_settle_range(wule_endpoint *e, uint32_t channel, uint32_t first, uint32_t last, uint32_t outcome, uint32_t *named);
 
+/* Both with the outcome WULE_REJECTED, and why: the sender gets it in the outcome [3.4.3]. The codes of wule_settle() and of
+ * wule_settle_range() but WULE_BAD_OUTCOME, and WULE_BAD_ERROR. */
+uint32_t wule_settle_with(wule_endpoint *e, uint32_t channel, uint32_t id, const char *condition, const char *description);
+uint32_t wule_settle_range_with(wule_endpoint *e, uint32_t channel, uint32_t first, uint32_t last, const char *condition,
+                                const char *description, uint32_t *named);
+
 /* Gives each link of a session whose credit is at most half of `credit` what it lacks of `credit`, but at most what the link is
  * allowed less its credit and its open deliveries; and the session's window what it lacks of `window`, if at most half is left.
  * Call it when a link attached and after each message.
@@ -487,6 +530,11 @@ uint32_t wule_top_up(wule_endpoint *e, uint32_t channel, uint32_t credit, uint32
 /* Ends a link [2.6.6]; how many ready messages were dropped goes to *dropped.
  * WULE_OK, WULE_CONNECTION_OVER, WULE_NO_SESSION, WULE_NO_LINK, WULE_FULL, WULE_NO_ENDPOINT. */
 uint32_t wule_detach(wule_endpoint *e, uint32_t channel, uint32_t handle, uint32_t *dropped);
+
+/* The same, by a detach with an error [2.6.5]. A link that is refused when it attached, before wule_grant(), has sent nothing:
+ * wule_link_address() says what it is for. The codes of wule_detach(), and WULE_BAD_ERROR. */
+uint32_t wule_refuse(wule_endpoint *e, uint32_t channel, uint32_t handle, const char *condition, const char *description,
+                     uint32_t *dropped);
 
 /* ------------------------------------------------------------------------------------------------------------------- Messages */
 
@@ -646,6 +694,7 @@ WULE_MAYBE_UNUSED static inline const char *wule_code_text(uint32_t code) {
     case WULE_TOO_MUCH_CREDIT: return "credit and open deliveries would be more than the link allows";
     case WULE_WINDOW_TOO_WIDE: return "the window would pass 2147483647 places";
     case WULE_FULL: return "the output has less than 2560 free bytes";
+    case WULE_BAD_ERROR: return "the condition is not 1 to 64 printable characters, or the description not at most 255 bytes of UTF-8";
     case WULE_NO_ENDPOINT: return "the handle holds no endpoint";
     case WULE_NO_MEMORY: return "memory was refused";
     case WULE_IN_USE: return "the handle holds an endpoint";

@@ -1,6 +1,7 @@
 /*
  * A gateway: many connections by epoll, one proved endpoint for each, and TLS by OpenSSL if it is built with -DWITH_TLS.
- * It accepts each message, and tells at the end of a connection how many came.
+ * A link has to be for one of the addresses that it knows, else it is refused. It accepts each message, or rejects it and says why, and
+ * tells at the end of a connection how many came.
  *
  *     gateway PORT [CONNECTIONS]                        ends after so many connections, if that is said
  *     gateway-tls PORT CERTIFICATE KEY [CONNECTIONS]    both in PEM
@@ -12,6 +13,7 @@
 #include <netinet/tcp.h>
 #include <stdio.h>
 #include <stdlib.h>
+#include <string.h>
 #include <sys/epoll.h>
 #include <sys/socket.h>
 #include <time.h>
@@ -20,6 +22,8 @@
 #include <openssl/ssl.h>
 static SSL_CTX *tls;
 #endif
+
+static const char *const known[] = {"queue", "orders"}; /* addresses */
 
 enum { CREDIT = 100, WINDOW = 2048, MAX_MESSAGE = 1 << 20, IDLE_SECONDS = 30 };
 
@@ -79,19 +83,50 @@ static int send_all(struct peer *p) {
 
 /* ---- bytes of the peer */
 
+/* Whether the target of a link is one of the addresses that are known. */
+static int is_known(struct peer *p, uint32_t channel, uint32_t handle) {
+    wule_address address;
+    uint8_t name[64];
+    size_t i;
+    if (wule_link_address(&p->endpoint, channel, handle, &address, name, sizeof name) != WULE_OK || address.kind != WULE_ADDRESS_NAMED) return 0;
+    for (i = 0; i < sizeof known / sizeof *known; i++)
+        if (address.len == strlen(known[i]) && memcmp(name, known[i], address.len) == 0) return 1;
+    return 0;
+}
+
+/* Takes a link, or refuses it before it has sent anything. */
+static void greet_link(struct peer *p, uint32_t channel, uint32_t handle) {
+    uint32_t dropped;
+    if (is_known(p, channel, handle)) wule_top_up(&p->endpoint, channel, CREDIT, WINDOW);
+    else wule_refuse(&p->endpoint, channel, handle, WULE_SYMBOL_NOT_FOUND, "no such address", &dropped);
+}
+
+/* What is wrong with a message; NULL if nothing is. */
+static const char *fault_of(const wule_taken *taken) {
+    if (taken->format != 0) return "the message-format is not 0";
+    return taken->len > 0 ? NULL : "the message is empty";
+}
+
+static void receive(struct peer *p, uint32_t channel, uint32_t handle) {
+    wule_taken taken;
+    const char *fault;
+    if (wule_take(&p->endpoint, channel, handle, &taken, message, sizeof message) != WULE_OK) return;
+    fault = fault_of(&taken);
+    p->messages++; /* here it is processed, unless it has a fault: taken.len bytes of `message` */
+    p->bytes += taken.len;
+    if (!taken.settled && fault) wule_settle_with(&p->endpoint, channel, taken.id, WULE_SYMBOL_DECODE_ERROR, fault);
+    if (!taken.settled && !fault) wule_settle(&p->endpoint, channel, taken.id, WULE_ACCEPTED);
+    wule_top_up(&p->endpoint, channel, CREDIT, WINDOW);
+}
+
 /* Does what an event asks for. */
 static void follow(struct peer *p, const wule_fed *fed) {
-    wule_taken taken;
     switch (fed->event) {
     case WULE_READY:
-        if (wule_take(&p->endpoint, fed->channel, fed->handle, &taken, message, sizeof message) != WULE_OK) return;
-        p->messages++; /* here it is processed: taken.len bytes of `message` */
-        p->bytes += taken.len;
-        if (!taken.settled) wule_settle(&p->endpoint, fed->channel, taken.id, WULE_ACCEPTED);
-        wule_top_up(&p->endpoint, fed->channel, CREDIT, WINDOW);
+        receive(p, fed->channel, fed->handle);
         return;
     case WULE_ATTACHED:
-        wule_top_up(&p->endpoint, fed->channel, CREDIT, WINDOW);
+        greet_link(p, fed->channel, fed->handle);
         return;
     case WULE_FAILED:
         fprintf(stderr, "failed: scope %u, %s\n", (unsigned)fed->scope, wule_condition_symbol(fed->condition));
@@ -203,7 +238,7 @@ static void look_at_the_clock(void) {
     for (p = peers; p; p = next) {
         next = p->next;
         if (t - p->heard > 2 * IDLE_SECONDS) {
-            wule_close(&p->endpoint, &dropped);
+            wule_close_with(&p->endpoint, WULE_SYMBOL_RESOURCE_LIMIT_EXCEEDED, "silent for too long", &dropped);
             leave(p);
         } else if (t - p->said > IDLE_SECONDS / 2 && !p->is_stuck && wule_heartbeat(&p->endpoint) == WULE_OK) {
             send_all(p);

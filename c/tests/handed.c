@@ -14,6 +14,7 @@ static int failures, calls;
 /* What the last call got: its pointers and its numbers, in order. */
 static const void *pointers[5];
 static size_t numbers[3];
+static uint32_t places[3]; /* of a call with words: its channel, and what it names there */
 
 static uint32_t keep(const void *a, const void *b, const void *c, const void *d, const void *e, size_t x, size_t y, size_t z) {
     pointers[0] = a, pointers[1] = b, pointers[2] = c, pointers[3] = d, pointers[4] = e;
@@ -27,6 +28,15 @@ uint32_t wuleshomia_open(wule_endpoint *e, const wule_settings *settings, const 
 uint32_t wuleshomia_feed(wule_endpoint *e, const uint8_t *bytes, size_t len, wule_fed *fed);
 size_t wuleshomia_output(wule_endpoint *e, uint8_t *room, size_t len);
 uint32_t wuleshomia_finish(wule_endpoint *e, uint64_t *inside);
+uint32_t wuleshomia_close_with(wule_endpoint *e, const char *condition, size_t condition_len, const char *description,
+                               size_t description_len, uint32_t described, uint32_t *dropped);
+uint32_t wuleshomia_settle_with(wule_endpoint *e, uint32_t channel, uint32_t id, const char *condition, size_t condition_len,
+                                const char *description, size_t description_len, uint32_t described);
+uint32_t wuleshomia_settle_range_with(wule_endpoint *e, uint32_t channel, uint32_t first, uint32_t last, const char *condition,
+                                      size_t condition_len, const char *description, size_t description_len, uint32_t described,
+                                      uint32_t *named);
+uint32_t wuleshomia_refuse(wule_endpoint *e, uint32_t channel, uint32_t handle, const char *condition, size_t condition_len,
+                           const char *description, size_t description_len, uint32_t described, uint32_t *dropped);
 uint32_t wuleshomia_take(wule_endpoint *e, uint32_t channel, uint32_t handle, wule_taken *taken, uint8_t *room, size_t len);
 size_t wuleshomia_message_read(wule_endpoint *e, size_t at, uint8_t *room, size_t len);
 uint32_t wuleshomia_link(wule_endpoint *e, uint32_t channel, uint32_t handle, wule_link_state *link, uint8_t *name, size_t len);
@@ -55,6 +65,27 @@ size_t wuleshomia_output(wule_endpoint *e, uint8_t *room, size_t len) { return k
 uint32_t wuleshomia_finish(wule_endpoint *e, uint64_t *inside) {
     *inside = 5;
     return keep(e, inside, e, e, e, 0, 3, 0);
+}
+static uint32_t place(uint32_t a, uint32_t b, uint32_t c) {
+    places[0] = a, places[1] = b, places[2] = c;
+    return 0;
+}
+uint32_t wuleshomia_close_with(wule_endpoint *e, const char *condition, size_t condition_len, const char *description,
+                               size_t description_len, uint32_t described, uint32_t *dropped) {
+    return place(0, 0, 0) + keep(e, condition, description, dropped, "close", condition_len, description_len, described);
+}
+uint32_t wuleshomia_settle_with(wule_endpoint *e, uint32_t channel, uint32_t id, const char *condition, size_t condition_len,
+                                const char *description, size_t description_len, uint32_t described) {
+    return place(channel, id, 0) + keep(e, condition, description, e, "settle", condition_len, description_len, described);
+}
+uint32_t wuleshomia_settle_range_with(wule_endpoint *e, uint32_t channel, uint32_t first, uint32_t last, const char *condition,
+                                      size_t condition_len, const char *description, size_t description_len, uint32_t described,
+                                      uint32_t *named) {
+    return place(channel, first, last) + keep(e, condition, description, named, "range", condition_len, description_len, described);
+}
+uint32_t wuleshomia_refuse(wule_endpoint *e, uint32_t channel, uint32_t handle, const char *condition, size_t condition_len,
+                           const char *description, size_t description_len, uint32_t described, uint32_t *dropped) {
+    return place(channel, handle, 0) + keep(e, condition, description, dropped, "refuse", condition_len, description_len, described);
 }
 uint32_t wuleshomia_take(wule_endpoint *e, uint32_t channel, uint32_t handle, wule_taken *taken, uint8_t *room, size_t len) {
     return keep(e, room, taken, e, e, len, channel, handle);
@@ -128,6 +159,31 @@ static int not_handed(void) {
         for (n_ = 1; n_ != 0; n_ <<= 1) IS((call_of_null) == WULE_NULL && not_handed());        \
     } while (0)
 
+/* Whether one call was handed on since, with these words: a text is measured up to 256 bytes, and in the place of NULL there is another. */
+static int handed_words(const char *name, const void *e, const char *condition, size_t condition_len, const char *text, size_t text_len) {
+    int once = calls == 1;
+    calls = 0;
+    return once && strcmp(pointers[4], name) == 0 && pointers[0] == e && (condition ? pointers[1] == condition : pointers[1] != NULL)
+           && (text ? pointers[2] == text : pointers[2] != NULL) && numbers[0] == condition_len && numbers[1] == text_len
+           && numbers[2] == (text ? 1u : 0u);
+}
+
+static int placed(uint32_t a, uint32_t b, uint32_t c, const void *count) {
+    return places[0] == a && places[1] == b && places[2] == c && pointers[3] == count;
+}
+
+static void hands_on_words(wule_endpoint *e, const char *condition, size_t condition_len, const char *text, size_t text_len) {
+    uint32_t count;
+    IS(wule_close_with(e, condition, text, &count) == 77 && handed_words("close", e, condition, condition_len, text, text_len));
+    IS(placed(0, 0, 0, &count));
+    IS(wule_settle_with(e, 7, 8, condition, text) == 77 && handed_words("settle", e, condition, condition_len, text, text_len));
+    IS(placed(7, 8, 0, e));
+    IS(wule_settle_range_with(e, 7, 8, 9, condition, text, &count) == 77);
+    IS(handed_words("range", e, condition, condition_len, text, text_len) && placed(7, 8, 9, &count));
+    IS(wule_refuse(e, 7, 8, condition, text, &count) == 77 && handed_words("refuse", e, condition, condition_len, text, text_len));
+    IS(placed(7, 8, 0, &count));
+}
+
 int main(void) {
     wule_endpoint e = WULE_ENDPOINT_INIT;
     wule_settings settings = WULE_SETTINGS_INIT;
@@ -145,8 +201,9 @@ int main(void) {
     static wule_spool_floor floor;
     static wule_spool_position position;
     uint8_t room[9];
+    static char long_text[300];
     uint64_t inside = 0;
-    size_t row = 0;
+    size_t row = 0, i;
 
     IS(wule_open(&e, &settings, "name", 4, rows, 2, &row) == 77 && pointers[1] == &settings && pointers[3] == rows && pointers[4] == &row);
     IS(strcmp(pointers[2], "name") == 0 && numbers[0] == 4 && numbers[1] == 2 && row == 5 && calls == 1);
@@ -168,6 +225,18 @@ int main(void) {
 
     IS(wule_finish(&e, &inside) == 77 && handed(&e, &inside, 0) && inside == 5 && numbers[1] == 3);
     IS(wule_finish(&e, NULL) == 77 && handed(&e, NULL, 0));
+
+    hands_on_words(&e, "a:b", 3, "text", 4);
+    hands_on_words(&e, "a:b", 3, "", 0);
+    hands_on_words(&e, "a:b", 3, NULL, 0);
+    hands_on_words(&e, "", 0, "text", 4);
+    hands_on_words(&e, NULL, 0, "text", 4);
+    hands_on_words(&e, NULL, 0, NULL, 0);
+    for (i = 0; i + 1 < sizeof long_text; i++) {
+        hands_on_words(&e, long_text, i < 256 ? i : 256, "text", 4);
+        hands_on_words(&e, "a:b", 3, long_text, i < 256 ? i : 256);
+        long_text[i] = 'x';
+    }
 
     IS(wule_take(&e, 7, 8, &taken, room, 9) == 77 && handed(&e, room, 9) && pointers[2] == &taken && numbers[1] == 7 && numbers[2] == 8);
     IS(wule_take(&e, 7, 8, &taken, NULL, 0) == 77 && handed(&e, NULL, 0) && pointers[2] == &taken && numbers[1] == 7 && numbers[2] == 8);

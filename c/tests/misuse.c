@@ -1,5 +1,5 @@
-/* Each call on a handle that holds no endpoint, settings and limits that are refused, credit beside unsettled deliveries, bytes of a spool
- * that are cut or changed, and a whole session, by calls and by steps, in which each request for memory is refused in turn.   misuse FILE
+/* Each call on a handle that holds no endpoint, settings and limits that are refused, credit beside unsettled deliveries, words of errors,
+ * bytes of a spool that are cut or changed, and a whole session, by calls and by steps, in which each request for memory is refused in turn.   misuse FILE
  * It is linked with --wrap=malloc,--wrap=realloc,--wrap=free, and run under valgrind and AddressSanitizer too. */
 #include "wuleshomia.h"
 #include <stdio.h>
@@ -75,6 +75,10 @@ static void ask_none(void) {
     IS(wule_settle_range(&e, 0, 0, 0, WULE_ACCEPTED, &n), WULE_NO_ENDPOINT);
     IS(wule_settle_range(&e, 0, 0, 0, 0xffffffff, &n), WULE_BAD_OUTCOME);
     IS(wule_detach(&e, 0, 0, &n), WULE_NO_ENDPOINT);
+    IS(wule_refuse(&e, 0, 0, "a:b", "text", &n), WULE_NO_ENDPOINT);
+    IS(wule_settle_with(&e, 0, 0, "", NULL), WULE_NO_ENDPOINT);
+    IS(wule_settle_range_with(&e, 0, 0, 0, NULL, "text", &n), WULE_NO_ENDPOINT);
+    IS(wule_close_with(&e, "a:b", NULL, &n), WULE_NO_ENDPOINT);
     IS(wule_take(&e, 0, 0, &taken, room, 8), WULE_NO_ENDPOINT);
     IS(wule_message_read(&e, 0, room, 8), 0);
     wule_message_drop(&e);
@@ -138,6 +142,9 @@ static void ask_wildly(void) {
             IS(wule_settle(&e, a, b, WULE_MODIFIED_FAILED_UNDELIVERABLE), WULE_NO_SESSION);
             IS(wule_settle_range(&e, a, b, a, WULE_RELEASED, &n), WULE_NO_SESSION);
             IS(wule_detach(&e, a, b, &n), WULE_NO_SESSION);
+            IS(wule_refuse(&e, a, b, "a:b", NULL, &n), WULE_NO_SESSION);
+            IS(wule_settle_with(&e, a, b, "a:b", NULL), WULE_NO_SESSION);
+            IS(wule_settle_range_with(&e, a, b, a, "a:b", NULL, &n), WULE_NO_SESSION);
             IS(wule_take(&e, a, b, &taken, NULL, 0), WULE_NO_SESSION);
             IS(wule_window(&e, a, &n), WULE_NO_SESSION);
             IS(wule_link_source(&e, a, b, NULL, 0), WULE_NO_LINK);
@@ -145,6 +152,7 @@ static void ask_wildly(void) {
             IS(wule_message_read(&e, (size_t)-1, room, sizeof room), 0);
         }
     IS(wule_heartbeat(&e), WULE_NOT_OPEN);
+    IS(wule_close_with(&e, "", NULL, &n), WULE_NOT_OPEN);
     IS(wule_feed(&e, (const uint8_t *)"AMQP\0\1\0\0", 8, &fed), WULE_OK);
     IS(fed.outcome, WULE_MORE);
     IS(wule_held(&e), 8);
@@ -190,27 +198,35 @@ static uint32_t credit_of(wule_endpoint *e) {
     return link.credit;
 }
 
-/* A link is topped up to 16, has `sent` deliveries that are taken and not settled, and is topped up again: what its credit is then. */
-static uint32_t topped_up(uint32_t allowed, int sent) {
+/* The endpoint has one link, with credit for 16 messages. */
+static void open_link(wule_endpoint *e, uint32_t allowed) {
     static const uint8_t head[] = "AMQP\0\1\0\0"
                                   "\0\0\0\x11\2\0\0\0\0\x53\x10\xc0\4\1\xa1\1p"
                                   "\0\0\0\x14\2\0\0\0\0\x53\x11\xc0\7\4\x40\x43\x52\x7f\x52\x7f"
                                   "\0\0\0\x20\2\0\0\0\0\x53\x12\xc0\x13\x0a\xa1\1l\x43\x42\x40\x40\0\x53\x28\x45\0\x53\x29\x45\x40\x40\x43";
-    uint8_t transfer[] = "\0\0\0\x1c\2\0\0\0\0\x53\x14\xc0\x09\5\x43\x52i\xa0\1t\x43\x42\0\x53\x77\xa1\1x";
-    wule_endpoint e = WULE_ENDPOINT_INIT;
     wule_settings settings = WULE_SETTINGS_INIT;
+    settings.allowed = allowed;
+    IS(wule_open(e, &settings, "x", 1, NULL, 0, NULL), WULE_OK);
+    feed_all(e, head, sizeof head - 1);
+    IS(wule_top_up(e, 0, 16, 2048), WULE_OK);
+    IS(credit_of(e), 16);
+}
+
+/* A delivery with this id and this tag comes on it. */
+static void deliver(wule_endpoint *e, int id) {
+    uint8_t transfer[] = "\0\0\0\x1c\2\0\0\0\0\x53\x14\xc0\x09\5\x43\x52i\xa0\1t\x43\x42\0\x53\x77\xa1\1x";
+    transfer[16] = transfer[19] = (uint8_t)id;
+    feed_all(e, transfer, sizeof transfer - 1);
+}
+
+/* A link is topped up to 16, has `sent` deliveries that are taken and not settled, and is topped up again: what its credit is then. */
+static uint32_t topped_up(uint32_t allowed, int sent) {
+    wule_endpoint e = WULE_ENDPOINT_INIT;
     wule_link_state link;
     uint32_t credit;
     int i;
-    settings.allowed = allowed;
-    IS(wule_open(&e, &settings, "x", 1, NULL, 0, NULL), WULE_OK);
-    feed_all(&e, head, sizeof head - 1);
-    IS(wule_top_up(&e, 0, 16, 2048), WULE_OK);
-    IS(credit_of(&e), 16);
-    for (i = 0; i < sent; i++) {
-        transfer[16] = transfer[19] = (uint8_t)i; /* its delivery-id and its tag */
-        feed_all(&e, transfer, sizeof transfer - 1);
-    }
+    open_link(&e, allowed);
+    for (i = 0; i < sent; i++) deliver(&e, i);
     IS(wule_link(&e, 0, 0, &link, NULL, 0), WULE_OK);
     IS(link.credit, 16 - sent);
     IS(link.opened, sent);
@@ -265,6 +281,102 @@ static void targets_tell(void) {
     target_tells("\0\x53\x29\x45", 4, WULE_ADDRESS_ABSENT, "....", 0);
     target_tells("\x40", 1, WULE_ADDRESS_NO_TARGET, "....", 0);
     target_tells("\0\x53\x29\xc0\4\1\xa3\1q", 9, WULE_ADDRESS_OTHER, "....", 0);
+}
+
+/* ---- the application's own words: the frames were written by hand, from the standard [2.7.6, 2.7.7, 2.7.9, 2.8.14, 3.4.3] */
+
+static void writes(wule_endpoint *e, const char *wanted, size_t len) {
+    uint8_t room[512];
+    size_t n = wule_output(e, room, sizeof room);
+    IS(n, len);
+    IS(n == len && memcmp(room, wanted, len) == 0, 1);
+}
+
+#define WRITES(e, wanted) writes(e, wanted, sizeof wanted - 1)
+
+/* All four calls are refused, and change nothing. */
+static void words_are_refused(wule_endpoint *e, const char *condition, const char *text, uint32_t code) {
+    uint64_t held = wule_held(e);
+    uint32_t waits = wule_has_output(e), n = 7;
+    IS(wule_refuse(e, 0, 0, condition, text, &n), code);
+    IS(wule_settle_with(e, 0, 0, condition, text), code);
+    IS(wule_settle_range_with(e, 0, 0, 2, condition, text, &n), code);
+    IS(wule_close_with(e, condition, text, &n), code);
+    IS(n, 7);
+    IS(wule_held(e), held);
+    IS(wule_has_output(e), waits);
+}
+
+static void say_why(void) {
+    static char most_symbol[66], most_text[257], wanted[358];
+    wule_endpoint e = WULE_ENDPOINT_INIT;
+    char *unended = malloc(256);
+    uint32_t n = 7;
+    int i;
+    memset(most_symbol, 'c', 65), memset(most_text, 't', 256);
+    open_link(&e, 16);
+    for (i = 0; i < 3; i++) deliver(&e, i);
+    while (wule_output(&e, (uint8_t *)wanted, sizeof wanted) > 0) {
+    }
+    words_are_refused(&e, "", NULL, WULE_BAD_ERROR);
+    words_are_refused(&e, NULL, NULL, WULE_BAD_ERROR);
+    words_are_refused(&e, NULL, "text", WULE_BAD_ERROR);
+    words_are_refused(&e, "a\tb", "text", WULE_BAD_ERROR);
+    words_are_refused(&e, "a\x7f", "text", WULE_BAD_ERROR);
+    words_are_refused(&e, "\xc3\xa9", "text", WULE_BAD_ERROR);
+    words_are_refused(&e, most_symbol, "text", WULE_BAD_ERROR);
+    words_are_refused(&e, "a:b", most_text, WULE_BAD_ERROR);
+    words_are_refused(&e, "a:b", "\xff", WULE_BAD_ERROR);
+    words_are_refused(&e, "a:b", "\xc3", WULE_BAD_ERROR);
+    if (!unended) exit(2);
+    memset(unended, 'u', 256);
+    words_are_refused(&e, unended, "text", WULE_BAD_ERROR); /* no byte after these is read */
+    words_are_refused(&e, "a:b", unended, WULE_BAD_ERROR);
+    free(unended);
+    IS(wule_refuse(&e, 1, 0, "", NULL, &n), WULE_NO_SESSION); /* what is so besides comes first */
+    IS(wule_refuse(&e, 0, 1, "", NULL, &n), WULE_NO_LINK);
+    IS(wule_settle_with(&e, 0, 9, "", NULL), WULE_NO_DELIVERY);
+    IS(wule_settle_range_with(&e, 0, 2, 1, "", NULL, &n), WULE_NO_DELIVERY);
+    IS(n, 7);
+    IS(wule_settle_with(&e, 0, 0, "amqp:decode-error", "no \xc3\xa9"), WULE_OK);
+    WRITES(&e, "\0\0\0\x38\2\0\0\0\0\x53\x15\xc0\x2b\5\x41\x43\x40\x41\0\x53\x25\xc0\x21\1\0\x53\x1d\xc0\x1b\2\xa3\x11" "amqp:decode-error"
+               "\xa1\5no \xc3\xa9");
+    IS(wule_settle_with(&e, 0, 0, "amqp:decode-error", NULL), WULE_NO_DELIVERY);
+    IS(wule_settle_range_with(&e, 0, 1, 2, WULE_SYMBOL_DECODE_ERROR, NULL, &n), WULE_OK);
+    IS(n, 2);
+    WRITES(&e, "\0\0\0\x33\2\0\0\0\0\x53\x15\xc0\x26\5\x41\x52\1\x52\2\x41\0\x53\x25\xc0\x1a\1\0\x53\x1d\xc0\x14\1\xa3\x11"
+               "amqp:decode-error");
+    IS(wule_refuse(&e, 0, 0, WULE_SYMBOL_NOT_FOUND, "no such queue", &n), WULE_OK);
+    IS(n, 0);
+    WRITES(&e, "\0\0\0\x35\2\0\0\0\0\x53\x16\xc0\x28\3\x43\x41\0\x53\x1d\xc0\x20\2\xa3\x0e" "amqp:not-found" "\xa1\x0dno such queue");
+    IS(wule_refuse(&e, 0, 0, WULE_SYMBOL_NOT_FOUND, NULL, &n), WULE_NO_LINK);
+    IS(wule_close_with(&e, WULE_SYMBOL_CONNECTION_FORCED, "going down", &n), WULE_OK);
+    IS(n, 0);
+    WRITES(&e, "\0\0\0\x38\2\0\0\0\0\x53\x18\xc0\x2b\1\0\x53\x1d\xc0\x25\2\xa3\x16" "amqp:connection:forced" "\xa1\x0agoing down");
+    words_are_refused(&e, "a:b", "text", WULE_CONNECTION_OVER);
+    words_are_refused(&e, "", NULL, WULE_CONNECTION_OVER);
+    wule_free(&e);
+    words_are_refused(&e, "", NULL, WULE_NO_ENDPOINT);
+
+    open_link(&e, 16); /* the most that may be said; an empty text, which is not left out */
+    most_symbol[64] = most_text[255] = 0;
+    while (wule_output(&e, (uint8_t *)wanted, sizeof wanted) > 0) {
+    }
+    IS(wule_refuse(&e, 0, 0, most_symbol, most_text, &n), WULE_OK);
+    memcpy(wanted, "\0\0\1\x65\2\0\0\0\0\x53\x16\xd0\0\0\1\x55\0\0\0\3\x43\x41\0\x53\x1d\xd0\0\0\1\x47\0\0\0\2\xa3\x40", 36);
+    memcpy(wanted + 36, most_symbol, 64), memcpy(wanted + 100, "\xa1\xff", 2), memcpy(wanted + 102, most_text, 255);
+    writes(&e, wanted, 357);
+    IS(wule_close_with(&e, "x", "", &n), WULE_OK);
+    WRITES(&e, "\0\0\0\x19\2\0\0\0\0\x53\x18\xc0\x0c\1\0\x53\x1d\xc0\6\2\xa3\1x\xa1\0");
+    wule_free(&e);
+
+    open_link(&e, 16); /* no room for an answer: the words are looked at first */
+    deliver(&e, 0), deliver(&e, 1), deliver(&e, 2);
+    while (wule_grant(&e, 0, 0, 0) == WULE_OK) {
+    }
+    words_are_refused(&e, "", NULL, WULE_BAD_ERROR);
+    words_are_refused(&e, "a:b", NULL, WULE_FULL);
+    wule_free(&e);
 }
 
 /* ---- spools: bytes that a model in Python wrote, in hex; see crates/test_spool_records/data/spools.rows */
@@ -536,6 +648,7 @@ int main(int argc, char **argv) {
     ask_wildly();
     top_up_beside_unsettled();
     targets_tell();
+    say_why();
     read_a_segment();
     read_the_small_files();
     IS(blocks, 0);

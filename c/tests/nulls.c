@@ -11,8 +11,8 @@
 #endif
 
 #define EACH(X) \
-    X(version) X(open) X(free) X(feed) X(output) X(has_output) X(close) X(heartbeat) X(finish) X(is_over) X(grant) X(widen) X(drain) \
-    X(settle) X(settle_range) X(detach) X(top_up) X(take) X(message_read) X(message_drop) X(held) X(window) X(link) X(link_source) \
+    X(version) X(open) X(free) X(feed) X(output) X(has_output) X(close) X(close_with) X(heartbeat) X(finish) X(is_over) X(grant) X(widen) \
+    X(drain) X(settle) X(settle_range) X(settle_with) X(settle_range_with) X(detach) X(refuse) X(top_up) X(take) X(message_read) X(message_drop) X(held) X(window) X(link) X(link_source) \
     X(link_target) X(link_address) X(first_lacking) X(serve_step) X(records) X(spool_read_head) X(spool_batch_size) X(spool_read_batch) \
     X(spool_read_entry) X(spool_read_end) X(spool_read_floor) X(spool_read_position) X(spool_write_position)
 
@@ -140,6 +140,10 @@ static void on_none(void) {
     IS(call.settle(&e, 0, 0, WULE_ACCEPTED), WULE_NO_ENDPOINT);
     IS(call.settle_range(&e, 0, 0, 0, WULE_ACCEPTED, &n), WULE_NO_ENDPOINT);
     IS(call.detach(&e, 0, 0, &n), WULE_NO_ENDPOINT);
+    IS(call.refuse(&e, 0, 0, NULL, NULL, &n), WULE_NO_ENDPOINT);
+    IS(call.settle_with(&e, 0, 0, NULL, NULL), WULE_NO_ENDPOINT);
+    IS(call.settle_range_with(&e, 0, 0, 0, NULL, NULL, &n), WULE_NO_ENDPOINT);
+    IS(call.close_with(&e, NULL, NULL, &n), WULE_NO_ENDPOINT);
     IS(call.top_up(&e, 0, 1, 1), WULE_NO_ENDPOINT);
     IS(call.take(&e, 0, 0, &taken, NULL, 0), WULE_NO_ENDPOINT);
     IS(call.message_read(&e, 0, NULL, 0), 0);
@@ -167,6 +171,7 @@ static void by_calls(void) {
     wule_taken taken;
     wule_link_state link;
     wule_address address;
+    uint32_t n = 7;
     size_t at = 0, len = 0;
     IS(call.open(&e, &settings, "x", 1, NULL, 0, NULL), WULE_OK);
     refuse(&e);
@@ -196,6 +201,14 @@ static void by_calls(void) {
     refuse(&e);
     IS(call.message_read(&e, 0, NULL, 0), 0);
     IS(call.message_read(&e, 0, room, sizeof room), taken.len);
+    IS(call.settle_with(&e, fed.channel, taken.id, NULL, NULL), WULE_BAD_ERROR); /* no condition is an empty one */
+    IS(call.settle_range_with(&e, fed.channel, taken.id, taken.id, NULL, "text", &n), WULE_BAD_ERROR);
+    IS(call.refuse(&e, fed.channel, fed.handle, NULL, "text", &n), WULE_BAD_ERROR);
+    IS(call.close_with(&e, NULL, NULL, &n), WULE_BAD_ERROR);
+    IS(n, 7);
+    IS(call.settle_with(&e, fed.channel, taken.id, "a:b", NULL), WULE_OK);
+    IS(call.refuse(&e, fed.channel, fed.handle, "a:b", NULL, &n), WULE_OK);
+    IS(call.output(&e, room, sizeof room) > 0, 1);
     IS(call.feed(&e, NULL, 0, &fed), WULE_OK);
     IS(fed.used, 0);
     IS(call.finish(&e, NULL) != 0, 1);

@@ -1,6 +1,7 @@
-"""A stock sender of Qpid Proton: sends so many messages of so many bytes, and prints how many were accepted.
+"""A stock sender of Qpid Proton: sends so many messages with a text of so many bytes, and prints how many were accepted, or why its link was
+refused or a message rejected. With the size 0 a message has no bytes at all.
 
-    proton_send.py URL COUNT SIZE"""
+    proton_send.py URL COUNT SIZE [ADDRESS]"""
 
 import sys
 
@@ -10,10 +11,11 @@ from proton.reactor import Container
 
 
 class Sender(MessagingHandler):
-    def __init__(self, url, count, size):
+    def __init__(self, url, count, size, address):
         super().__init__()
-        self.url, self.count, self.body = url, count, "x" * size
+        self.url, self.count, self.body, self.address = url, count, "x" * size, address
         self.sent = self.accepted = 0
+        self.heard = None
 
     def on_start(self, event):
         domain = None
@@ -21,11 +23,15 @@ class Sender(MessagingHandler):
             domain = SSLDomain(SSLDomain.MODE_CLIENT)
             domain.set_peer_authentication(SSLDomain.ANONYMOUS_PEER)
         connection = event.container.connect(self.url, sasl_enabled=False, ssl_domain=domain, reconnect=False)
-        event.container.create_sender(connection, "queue")
+        event.container.create_sender(connection, self.address)
 
     def on_sendable(self, event):
         while event.sender.credit and self.sent < self.count:
-            event.sender.send(Message(body=self.body))
+            if self.body:
+                event.sender.send(Message(body=self.body))
+            else:
+                event.sender.delivery(str(self.sent))
+                event.sender.advance()
             self.sent += 1
 
     def on_accepted(self, event):
@@ -33,10 +39,20 @@ class Sender(MessagingHandler):
         if self.accepted == self.count:
             event.connection.close()
 
+    def on_link_error(self, event):
+        self.say(event, "refused", event.link.remote_condition)
+
+    def on_rejected(self, event):
+        self.say(event, "rejected", event.delivery.remote.condition)
+
+    def say(self, event, what, condition):
+        self.heard = f"{what} {condition.name} {condition.description}"
+        event.connection.close()
+
     def on_transport_error(self, event):
         print(event.transport.condition, file=sys.stderr)
 
 
-sender = Sender(sys.argv[1], int(sys.argv[2]), int(sys.argv[3]))
+sender = Sender(sys.argv[1], int(sys.argv[2]), int(sys.argv[3]), sys.argv[4] if len(sys.argv) > 4 else "queue")
 Container(sender).run()
-print("accepted", sender.accepted)
+print(sender.heard or f"accepted {sender.accepted}")

@@ -17,13 +17,15 @@ static void by_calls(void) {
     static const wule_settings settings = {65536, 255, 255, 1024, 1 << 20, 1 << 20, 0};
     static wule_fed fed;
     static wule_taken taken;
+    static char condition[65], description[256];
     static size_t at;
+    memset(condition, 'c', 64), memset(description, 'd', 255);
     if (wule_open(&e, &settings, "stack", 5, NULL, 0, NULL) != WULE_OK) exit(2);
     while (at < size && fed.outcome != WULE_DEAD) {
         wule_feed(&e, file + at, size - at < 4096 ? size - at : 4096, &fed);
         at += (size_t)fed.used;
         if (fed.event == WULE_READY && wule_take(&e, fed.channel, fed.handle, &taken, message, sizeof message) == WULE_OK)
-            wule_settle(&e, fed.channel, taken.id, WULE_ACCEPTED);
+            wule_settle_with(&e, fed.channel, taken.id, condition, description);
         if (fed.event == WULE_READY || fed.event == WULE_ATTACHED) wule_top_up(&e, fed.channel, 16, 2048);
         while (wule_output(&e, out, sizeof out) > 0) {
         }

@@ -2,8 +2,9 @@
 
     gateway.py PORT [--tls CERTIFICATE KEY] [--connections N]
 
-It accepts each message, and tells at the end of a connection how many came. A peer that is silent for a minute is given up, and an
-empty frame is written every 15 seconds. With --connections it ends after so many.
+A link has to be for one of the addresses that it knows, else it is refused. It accepts each message, or rejects it and says why, and tells
+at the end of a connection how many came. A peer that is silent for a minute is given up, and an empty frame is written every 15 seconds.
+With --connections it ends after so many.
 """
 
 from __future__ import annotations
@@ -13,9 +14,34 @@ import asyncio
 import ssl
 import sys
 
-from wuleshomia import End, Endpoint, Event, Failed, Link, Message, Outcome, ReceiverProtocol
+from wuleshomia import (
+    End,
+    Endpoint,
+    Event,
+    Failed,
+    Link,
+    Message,
+    Outcome,
+    ReceiverProtocol,
+    Refuse,
+    Reject,
+    conditions,
+)
 
 IDLE_SECONDS = 30
+ADDRESSES = {"queue", "orders"}
+
+
+def on_attach(link: Link) -> Refuse | None:
+    """Takes a link, or refuses it before it has sent anything."""
+    return None if link.address in ADDRESSES else Refuse(conditions.NOT_FOUND, "no such address")
+
+
+def fault_of(message: Message) -> str | None:
+    """What is wrong with a message, if anything is."""
+    if message.format != 0:
+        return "the message-format is not 0"
+    return None if message.body else "the message is empty"
 
 
 class Gateway:
@@ -29,10 +55,11 @@ class Gateway:
         """A new one."""
         counts = {"messages": 0, "bytes": 0}
 
-        def on_message(link: Link, message: Message) -> Outcome:
-            counts["messages"] += 1  # here the message is processed
+        def on_message(link: Link, message: Message) -> Outcome | Reject:
+            fault = fault_of(message)
+            counts["messages"] += 1  # here the message is processed, unless it has a fault
             counts["bytes"] += len(message.body)
-            return Outcome.ACCEPTED
+            return Reject(conditions.DECODE_ERROR, fault) if fault else Outcome.ACCEPTED
 
         def on_event(event: Event) -> None:
             if isinstance(event, Failed):
@@ -50,6 +77,7 @@ class Gateway:
             on_message,
             on_event,
             on_end,
+            on_attach=on_attach,
             credit=100,
             idle_time_out=2 * IDLE_SECONDS,
             heartbeat=IDLE_SECONDS / 2,

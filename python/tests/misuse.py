@@ -1,4 +1,5 @@
-"""What the package refuses, and how: wrong types and ranges, an endpoint that was freed, a second thread; and what a top-up gives.
+"""What the package refuses, and how: wrong types and ranges, an endpoint that was freed, a second thread; what a top-up gives, and what is
+said of an error.
 
     misuse.py FILE
 """
@@ -12,7 +13,7 @@ import sys
 import threading
 import unittest
 
-from wuleshomia import AddressKind, AmqpError, Attached, Code, End, Endpoint, Failed, Limit, Outcome, Ready, Receipt
+from wuleshomia import AddressKind, AmqpError, Attached, Code, End, Endpoint, Error, Failed, Limit, Outcome, Ready, Receipt, conditions
 from wuleshomia._native import Fed, Handle, lib
 
 DATA = b""
@@ -66,6 +67,10 @@ class Refusals(unittest.TestCase):
             lambda n: endpoint.settle(0, n),
             lambda n: endpoint.settle_range(0, 0, n),
             lambda n: endpoint.detach(0, n),
+            lambda n: endpoint.refuse(n, 0, Error("a:b")),
+            lambda n: endpoint.refuse(0, n, Error("a:b")),
+            lambda n: endpoint.settle(0, n, error=Error("a:b")),
+            lambda n: endpoint.settle_range(0, n, 0, error=Error("a:b")),
             lambda n: endpoint.take(0, n),
             lambda n: endpoint.window(n),
             lambda n: endpoint.link(0, n),
@@ -104,6 +109,10 @@ class Refusals(unittest.TestCase):
             lambda: endpoint.take(0, 0),
             lambda: endpoint.link(0, 0),
             lambda: endpoint.top_up(0, 1, 1),
+            lambda: endpoint.refuse(0, 0, Error("a:b")),
+            lambda: endpoint.settle(0, 0, error=Error("")),
+            lambda: endpoint.settle_range(0, 0, 0, error=Error("a:b")),
+            lambda: endpoint.close(Error("a:b")),
             endpoint.finish,
             endpoint.close,
             endpoint.heartbeat,
@@ -191,6 +200,102 @@ class Refusals(unittest.TestCase):
         self.assertEqual(endpoint.window(0), 8)
         endpoint.top_up(0, 16, 12)
         self.assertEqual(endpoint.window(0), 8)
+
+    # The frames that follow were written by hand, from the standard: 2.7.6, 2.7.7, 2.7.9, 2.8.14 and 3.4.3.
+
+    def with_deliveries(self, count: int) -> Endpoint:
+        """An endpoint with a link at handle 0, of which so many messages are taken, and all written out."""
+        endpoint = Endpoint("x")
+        for event in endpoint.feed(HEAD):
+            if isinstance(event, Attached):
+                endpoint.top_up(0, 16, 2048)
+        for id in range(count):
+            for event in endpoint.feed(transfer(id)):
+                endpoint.take(event.channel, event.handle)
+        endpoint.output()
+        return endpoint
+
+    def test_errors_are_told(self) -> None:
+        endpoint = self.with_deliveries(3)
+        endpoint.settle(0, 0, error=Error(conditions.DECODE_ERROR, "no \u00e9"))
+        self.assertEqual(
+            endpoint.output(),
+            bytes.fromhex("00000038020000000053 15c02b05 41434041 005325c02101 00531dc01b02 a311")
+            + b"amqp:decode-error"
+            + bytes.fromhex("a105 6e6f20c3a9"),
+        )
+        self.assertEqual(endpoint.settle_range(0, 1, 2, Outcome.REJECTED, error=Error("amqp:decode-error")), 2)
+        self.assertEqual(
+            endpoint.output(),
+            bytes.fromhex("00000033020000000053 15c02605 415201520241 005325c01a01 00531dc01401 a311") + b"amqp:decode-error",
+        )
+        self.assertEqual(endpoint.refuse(0, 0, Error(conditions.NOT_FOUND, "no such queue")), 0)
+        self.assertEqual(
+            endpoint.output(),
+            bytes.fromhex("00000035020000000053 16c02803 4341 00531dc02002 a30e") + b"amqp:not-found" + b"\xa1\x0dno such queue",
+        )
+        self.assertEqual(endpoint.close(Error(conditions.CONNECTION_FORCED, "going down")), 0)
+        self.assertEqual(
+            endpoint.output(),
+            bytes.fromhex("00000038020000000053 18c02b01 00531dc02502 a316") + b"amqp:connection:forced" + b"\xa1\x0agoing down",
+        )
+        for call in self.calls_with(endpoint):
+            self.refused(Code.CONNECTION_OVER, call, Error(""))
+
+    @staticmethod
+    def calls_with(endpoint: Endpoint) -> tuple:
+        return (
+            lambda error: endpoint.refuse(0, 0, error),
+            lambda error: endpoint.settle(0, 0, error=error),
+            lambda error: endpoint.settle_range(0, 0, 1, error=error),
+            lambda error: endpoint.close(error),
+        )
+
+    def refused(self, code: Code, call, *words: object) -> None:
+        with self.assertRaises(AmqpError) as refused:
+            call(*words)
+        self.assertIs(refused.exception.code, code)
+
+    def test_words_that_are_not_valid(self) -> None:
+        endpoint = self.with_deliveries(2)
+        held = endpoint.held
+        for call in self.calls_with(endpoint):
+            for condition in ("", "c" * 65, "c" * 70000, "\u00e9", "a\tb", "a\x7f"):
+                self.refused(Code.BAD_ERROR, call, Error(condition))
+            for text in ("t" * 256, "t" * 70000, "\u00e9" * 128):
+                self.refused(Code.BAD_ERROR, call, Error("a:b", text))
+            for error in (Error("a\0b"), Error("a:b", "\0"), Error("a:b", "t\0"), Error("a:b", "\ud800")):
+                with self.assertRaises(ValueError):
+                    call(error)
+            for wrong in ("amqp:not-found", 7, ("a:b", None), Error(7), Error(b"a:b"), Error("a:b", b"t")):
+                with self.assertRaises(TypeError):
+                    call(wrong)
+        for outcome in (Outcome.ACCEPTED, Outcome.RELEASED, 0, 7):
+            with self.assertRaises(ValueError):
+                endpoint.settle(0, 0, outcome, error=Error("a:b"))
+            with self.assertRaises(ValueError):
+                endpoint.settle_range(0, 0, 1, outcome, error=Error("a:b"))
+        with self.assertRaises(TypeError):
+            endpoint.refuse(0, 0, None)
+        self.refused(Code.NO_LINK, endpoint.refuse, 0, 1, Error(""))  # what is so besides comes first
+        self.assertEqual((endpoint.held, endpoint.output()), (held, b""))
+
+    def test_the_most_that_may_be_said(self) -> None:
+        endpoint = self.with_deliveries(0)
+        endpoint.refuse(0, 0, Error("c" * 64, "\u00e9" * 127 + "x"))
+        front = bytes.fromhex("00000165020000000053 16d00000015500000003 4341 00531dd00000014700000002 a340")
+        self.assertEqual(endpoint.output(), front + b"c" * 64 + b"\xa1\xff" + b"\xc3\xa9" * 127 + b"x")
+        endpoint.close(Error("x", ""))
+        self.assertEqual(endpoint.output(), bytes.fromhex("00000019020000000053 18c00c01 00531dc00602 a30178 a100"))
+
+    def test_a_full_output_is_taken_aside(self) -> None:
+        endpoint = self.with_deliveries(1)
+        for _ in range(2000):
+            endpoint.grant(0, 0, 0)
+        endpoint.settle(0, 0, error=Error("a:b"))
+        endpoint.refuse(0, 0, Error("a:b"))
+        endpoint.close(Error("a:b"))
+        self.assertTrue(endpoint.output().endswith(bytes.fromhex("00000019020000000053 18c00c01 00531dc00601 a303613a62")))
 
     def test_null(self) -> None:
         """NULL with a length is refused also where no header is read."""

@@ -161,6 +161,8 @@ pub struct GatewayFiles<'a> {
     pub spool: Option<SpoolOrder<'a>>,
     /// The limits for links.
     pub limits: Option<&'a str>,
+    /// The addresses that links may have. Without it each link is admitted.
+    pub addresses: Option<&'a str>,
     /// Where the counts go.
     pub metrics: Option<&'a str>,
     pub told: ToldTo<'a>,
@@ -319,6 +321,9 @@ fn with_times<'a>(alloc: Global, gateway: Command<'a>) -> Result<Command<'a>, Al
 fn with_files<'a>(alloc: Global, gateway: Command<'a>) -> Result<Command<'a>, AllocError> {
     let gateway = gateway.arg(file(alloc, "records").hide(true))?;
     let gateway = gateway.arg(flag(alloc, "sync").hide(true))?;
+    let gateway = gateway.arg(file(alloc, "addresses").help(
+        "Admits links to these addresses alone: ADDRESS CREDIT or PREFIX* CREDIT on each line",
+    ))?;
     gateway.arg(file(alloc, "metrics").help(
         "Writes what it counts, in the text format of Prometheus",
     ))
@@ -407,6 +412,7 @@ fn gateway_order<'a>(gateway: &ArgMatches<'a>) -> Option<Order<'a>> {
         files: GatewayFiles {
             spool: spool_of(gateway),
             limits: gateway.get_str("limits"),
+            addresses: gateway.get_str("addresses"),
             metrics: gateway.get_str("metrics"),
             told: told_to(gateway),
         },

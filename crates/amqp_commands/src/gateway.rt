@@ -1,5 +1,6 @@
 //! Serves many peers at a time.
 
+use crate::addresses::Entrance;
 use crate::lags::{Arrivals, Lag, lags};
 use crate::metrics::{Metrics, Spooled};
 use crate::spool::{Shelf, Stock, Upheld};
@@ -49,6 +50,8 @@ pub struct Plan<'a> {
     pub records: u64,
     /// The file of metrics, if there is one.
     pub metrics: Option<&'a str>,
+    /// Which links are admitted.
+    pub entrance: Entrance,
 }
 
 /// Serves peers by a plan, with the records to a keeper, until it has ended. What passes is reported to the traces.
@@ -71,6 +74,7 @@ where
         link,
         records,
         metrics,
+        entrance,
     } = plan;
     let rule = Rule {
         credit: settings.allowed,
@@ -84,7 +88,7 @@ where
     let _ = eprintln!(rt; "a peer holds at most {most} bytes, and all together {bound}");
     let mut clock = Stopwatch::new(rt);
     let now = clock.millis(rt);
-    let mut gateway = Gateway::new(
+    let mut gateway = Gateway::admitting(
         rt,
         listener,
         config,
@@ -92,6 +96,7 @@ where
         times(&settings),
         keeper,
         traces,
+        entrance,
         now,
     )?;
     if settings.until_eof && gateway.watch_input().is_err() {
@@ -117,7 +122,7 @@ where
 /// Has a gateway make turns until it is done, or until the end of standard input where that ends it.
 fn run<R, K, W>(
     rt: &R,
-    gateway: &mut Gateway<K, W>,
+    gateway: &mut Gateway<K, W, Entrance>,
     clock: &mut Stopwatch,
     watched: &mut Watched<'_>,
     until_eof: bool,
@@ -215,7 +220,7 @@ impl Watched<'_> {
     }
 
     /// Writes the file, if there is one, at this moment. The longest turn is counted anew.
-    fn tell<R, K, W>(&mut self, rt: &R, now: u64, gateway: &Gateway<K, W>)
+    fn tell<R, K, W>(&mut self, rt: &R, now: u64, gateway: &Gateway<K, W, Entrance>)
     where
         R: Eprint + Files + AllocGlobal,
         K: Shelf + Drop,
@@ -238,7 +243,7 @@ impl Watched<'_> {
 
 /// Returns how the spool of a gateway stands, if it has one, whose consumers are so far behind.
 fn spooled<'a, K: Shelf + Drop, W: Watcher + Drop>(
-    gateway: &Gateway<K, W>,
+    gateway: &Gateway<K, W, Entrance>,
     lags: &'a [Lag],
 ) -> Option<Spooled<'a>> {
     Some(Spooled {

@@ -8,7 +8,7 @@ use amqp_frame::Device;
 use amqp_receive::BUFFER;
 use amqp_records::{BlocksFault, Output, RecordsFault, print_blocks, print_records};
 use amqp_script::{ScriptFault, replay_script};
-use amqp_send_file::{Fate, send_file};
+use amqp_send_file::{Fate, FileFault, Why, send_file};
 use amqp_spool::Exclusive;
 use amqp_spool_commands::AwaitInput;
 use clap::error::ErrorKind;
@@ -248,17 +248,23 @@ fn replay_file<R: Print + Files + AllocGlobal>(rt: &R, path: &str) -> Result<Exi
     }
 }
 
-/// Sends a file, and prints what became of it on standard output.
-fn send<R: Print + Files + Net + AllocGlobal>(
+/// Sends a file, and prints what became of it on standard output, and the receiver's error on standard error.
+fn send<R: Print + Eprint + Files + Net + AllocGlobal>(
     rt: &R,
     address: &str,
     path: &str,
 ) -> Result<ExitCode, Fault> {
-    let fate = match send_file(rt, address, path) {
+    let Ok(mut why) = Why::new(rt.alloc()) else {
+        return Err(Fault::Send(FileFault::NoMemory));
+    };
+    let fate = match send_file(rt, address, path, &mut why) {
         Ok(fate) => fate,
         Err(fault) => return Err(Fault::Send(fault)),
     };
     let _ = println!(rt; "{fate}");
+    if let Some(text) = why.text() {
+        let _ = eprintln!(rt; "{text}");
+    }
     Ok(match fate {
         Fate::Accepted => ExitCode::SUCCESS,
         _ => ExitCode::FAILURE,

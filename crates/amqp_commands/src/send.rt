@@ -1,3 +1,3 @@
 //! Sends one message over a connection.
 
-pub use amqp_send_file::{Fate, SendFault, send_all};
+pub use amqp_send_file::{Fate, SendFault, Why, send_all, send_all_heard};

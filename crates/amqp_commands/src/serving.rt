@@ -1,5 +1,6 @@
 //! The commands that serve connections, and the settings that they serve them by.
 
+use crate::addresses::{Entrance, read_addresses};
 use crate::faults::{Fault, USAGE};
 use crate::gateway::{self, Plan};
 use crate::spool::{self, Shelf};
@@ -120,6 +121,14 @@ where
             (config, most)
         }
     };
+    let known = match files.addresses {
+        Some(path) => match read_addresses(rt, path, settings.allowed) {
+            Ok(addresses) => Some(addresses),
+            Err(fault) => return Ok(refused(rt, path, fault)),
+        },
+        None => None,
+    };
+    let entrance = Entrance::new(alloc, known)?;
     let Ok(listener) = gateway::listen(rt, address) else {
         return Err(Fault::Open);
     };
@@ -130,6 +139,7 @@ where
         settings,
         link: most.link,
         metrics: files.metrics,
+        entrance,
     };
     match files.spool {
         None => {

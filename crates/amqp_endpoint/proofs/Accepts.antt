@@ -186,6 +186,9 @@ call_limited config t (asks.Take handle) = take_limited config handle (event.slo
 call_limited config t (asks.Settle id outcome) = tt
 call_limited config t (asks.SettleRange first last outcome) = tt
 call_limited config t (asks.Detach handle) = tt
+call_limited config t (asks.Refuse handle r) = tt
+call_limited config t (asks.SettleWith id r) = tt
+call_limited config t (asks.SettleRangeWith first last r) = tt
 
 module _ (s : ConnectionState) (stands : Stands s) (shut : is_closing s.phase ≡ false) (over : is_dead s.phase ≡ false) where
   session_may : is_open s.phase ≡ true → (channel : ℕ) (t : SessionState) (f : Frame) → slot_at s channel ≡ Live t → IsRead s.config (ForSession f) → May s (session_line channel t f)

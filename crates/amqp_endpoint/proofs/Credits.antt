@@ -24,7 +24,7 @@ use Rattle.amqp_endpoint.specs.Credits.{credit_on, granted_by, granted_to, grant
 use Rattle.amqp_endpoint.specs.Histories.{part, state_of, IsSoundPart, Sound}
 use Rattle.amqp_endpoint.specs.Lines as line
 use Rattle.amqp_endpoint.specs.Lines.{Line, line_of, event_on}
-use Rattle.amqp_endpoint.specs.Runs.{Happened, Acted, Called, Closed, Beat, Over, events}
+use Rattle.amqp_endpoint.specs.Runs.{Happened, Acted, Called, Closed, ClosedWith, Beat, Over, events}
 use Rattle.amqp_endpoint.specs.Takings.{link_in, link_at}
 use Rattle.amqp_endpoint.proofs.Messages.{has_life}
 
@@ -72,6 +72,9 @@ module _ (handle : ℕ) where
   call_most s (asks.Settle id o) = omega arith
   call_most s (asks.SettleRange first last o) = omega arith
   call_most s (asks.Detach place) = omega arith
+  call_most s (asks.Refuse place r) = omega arith
+  call_most s (asks.SettleWith id r) = omega arith
+  call_most s (asks.SettleRangeWith first last r) = omega arith
 
 -- One event of the connection. ------------------------------------------------------------------------------------------
 
@@ -160,6 +163,7 @@ credit_most law config h (Called place c) channel handle =
     let s = state_of config past in
     omega (arith, event_most law config past (calls.call_event s place c) channel handle, slot_most channel handle place (slot_at s place) c)
 credit_most law config h Closed channel handle = event_most law config (events config h) event.CloseAsked channel handle
+credit_most law config h (ClosedWith r) channel handle = event_most law config (events config h) event.CloseAsked channel handle
 credit_most law config h Beat channel handle = omega arith
 credit_most law config h Over channel handle = event_most law config (events config h) event.Finished channel handle
 

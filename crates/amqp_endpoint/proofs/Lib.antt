@@ -11,6 +11,7 @@ pub mod SessionFrames
 pub mod Endpoints
 pub mod Runs
 pub mod Traces
+pub mod ClosesWith
 pub mod Rooms
 pub mod Whole
 pub mod LinkLives

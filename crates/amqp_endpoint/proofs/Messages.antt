@@ -29,8 +29,8 @@ use Rattle.amqp_endpoint.specs.Calls as calls
 use Rattle.amqp_endpoint.specs.Histories.{part, state_of, IsSoundPart, Sound}
 use Rattle.amqp_endpoint.specs.Lines.{Line, line_of, event_on, told_on}
 use Rattle.amqp_endpoint.specs.Lines as line
-use Rattle.amqp_endpoint.specs.Runs.{InSession, Close, Heartbeat, Accepted, Dropped, Handed, handed_of, handed, link_handed, session_answer, accepted_answer, Happened}
-use Rattle.amqp_endpoint.specs.Runs.{Acted, Called, Closed, Beat, Over, events}
+use Rattle.amqp_endpoint.specs.Runs.{InSession, Close, CloseWith, Heartbeat, Accepted, Dropped, Handed, handed_of, handed, link_handed, session_answer, accepted_answer, Happened}
+use Rattle.amqp_endpoint.specs.Runs.{Acted, Called, Closed, ClosedWith, Beat, Over, events}
 use Rattle.amqp_endpoint.specs.Credits.{granted_since}
 use Rattle.amqp_endpoint.proofs.Grants.{grants_of_life}
 use Rattle.amqp_endpoint.specs.Takings.{Taking, lives, handed_up_in, taking_on, taking_by, takings, taken_in, part_in, link_part, link_in, link_at, content_of, HasItsPart}
@@ -82,6 +82,9 @@ session_told channel h s (asks.Drain handle) = refl
 session_told channel h s (asks.Settle id o) = refl
 session_told channel h s (asks.SettleRange first last o) = refl
 session_told channel h s (asks.Detach handle) = refl
+session_told channel h s (asks.Refuse handle r) = refl
+session_told channel h s (asks.SettleWith id r) = refl
+session_told channel h s (asks.SettleRangeWith first last r) = refl
 
 call_told : (channel : ℕ) (h : List ConnectionEvent) (x : Slot SessionState) (c : asks.Call) →
     message_in (Done (InSession channel c) (accepted_answer x c)) ≡ map placed (followed_by [] (taking_by h (calls.slot_event channel x c)))
@@ -113,6 +116,7 @@ messages_told config (Called channel c ∷ h) =
     ∙ ap (λ (x : List (ℕ × ℕ × Handed)). map placed (takings past) ++ x) (append-nil (message_in t) ∙ call_told channel past (slot_at s channel) c)
     ∙ placed_more (takings past) (taking_by past (calls.call_event s channel c))
 messages_told config (Closed ∷ h) = silent (tellings config h) (Done Close (Dropped (connection_ready (state_of config (events config h))))) refl ∙ messages_told config h
+messages_told config (ClosedWith r ∷ h) = silent (tellings config h) (Done (CloseWith r) (Dropped (connection_ready (state_of config (events config h))))) refl ∙ messages_told config h
 messages_told config (Beat ∷ h) = silent (tellings config h) (Done Heartbeat Accepted) refl ∙ messages_told config h
 messages_told config (Over ∷ h) = silent (tellings config h) Ends refl ∙ messages_told config h
 

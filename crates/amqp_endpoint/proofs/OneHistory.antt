@@ -10,6 +10,7 @@ use Rattle.amqp_frame.specs.declared.units.Stage.TheVariants as due
 use Rattle.amqp_frame.proofs.Fronts.{one_front, waits_or_not}
 use Rattle.amqp_frame.proofs.Histories.{joined_more}
 use Rattle.amqp_frame.proofs.Readings.{unit_length}
+use Rattle.amqp_reason.specs.Reasons.{Reason}
 use Rattle.amqp_session.specs.Calls as session
 use Rattle.amqp_session.specs.Faults.{or_else, where_so}
 use Rattle.amqp_endpoint.specs.declared.event.Event.{Event}
@@ -19,7 +20,7 @@ use Rattle.amqp_endpoint.specs.declared.fault.CallFault.{CallFault}
 use Rattle.amqp_endpoint.specs.declared.fault.CallFault.TheVariants as refused
 use Rattle.amqp_endpoint.specs.declared.phase.Phase.{Phase}
 use Rattle.amqp_endpoint.specs.declared.phase.Phase.TheVariants as phase
-use Rattle.amqp_endpoint.specs.Calls.{call_fault, call_event, call_spoken, open_call_fault, close_call_spoken, heartbeat, at_session, full_fault, unopened_fault, writes}
+use Rattle.amqp_endpoint.specs.Calls.{call_fault, call_event, call_spoken, open_call_fault, close_call_spoken, heartbeat, at_session, full_fault, unopened_fault, writes, close_with_fault, close_with_spoken, reason_fault}
 use Rattle.amqp_endpoint.specs.Configs.{Configured}
 use Rattle.amqp_endpoint.specs.Connections as event
 use Rattle.amqp_endpoint.specs.Connections.{ConnectionState, ConnectionEvent, connection_after, ConnectionMay, IsTimely, is_dead, is_closing, is_end, slot_at}
@@ -28,8 +29,8 @@ use Rattle.amqp_endpoint.specs.Lines as line
 use Rattle.amqp_endpoint.specs.Lines.{Line, line_of, event_on, told_on}
 use Rattle.amqp_endpoint.specs.Replies.{joined, reply_on}
 use Rattle.amqp_endpoint.specs.Runs as given
-use Rattle.amqp_endpoint.specs.Runs.{Call, Feed, InSession, Close, Heartbeat, Output, Held, Finish, Answer, Fed, Dropped, Named, HandedUp, Refused, MovedOut, Holds, Ended}
-use Rattle.amqp_endpoint.specs.Runs.{IsWritten, IsBeat, IsMoved, IsFinished, Does, Run, IsStart, Happened, Acted, Called, Closed, Beat, Over, units_of, events}
+use Rattle.amqp_endpoint.specs.Runs.{Call, Feed, InSession, Close, CloseWith, Heartbeat, Output, Held, Finish, Answer, Fed, Dropped, Named, HandedUp, Refused, MovedOut, Holds, Ended}
+use Rattle.amqp_endpoint.specs.Runs.{IsWritten, IsBeat, IsMoved, IsFinished, Does, Run, IsStart, Happened, Acted, Called, Closed, ClosedWith, Beat, Over, units_of, events}
 use Rattle.amqp_endpoint.specs.Steps.{EndpointState, IsKept, IsActed, Acts, Comes, FeedDone, may_act, room_for, told_outcome, acted_after}
 use Rattle.amqp_endpoint.specs.Traces.{moved_by, Told, Tells, Done, Ends, all_taken, heard, has_finished, event_told, told_of, tellings, IsTraced, IsWholeRun}
 use Rattle.amqp_endpoint.proofs.Steps.{ConnectionBegins, ConnectionGoesOn, all_sound}
@@ -179,6 +180,13 @@ closed_alike max old new was is x none w v =
     written_alike max (λ s. event.CloseAsked) (λ s. joined close_call_spoken) old new was is x
     (not_dead (is_dead s.phase) (is_closing s.phase) (or_else (unopened_fault s) (full_fault old.unsent)) none) w v
 
+closed_with_alike : (max : ℕ) (old new was is : EndpointState) (r : Reason) → Alike max old was → close_with_fault old.connection old.unsent r ≡ None →
+    IsWritten old new event.CloseAsked (joined (close_with_spoken r)) → IsWritten was is event.CloseAsked (joined (close_with_spoken r)) → Alike max new is
+closed_with_alike max old new was is r x none w v =
+    let s = old.connection in
+    written_alike max (λ s. event.CloseAsked) (λ s. joined (close_with_spoken r)) old new was is x
+    (not_dead (is_dead s.phase) (is_closing s.phase) (or_else (unopened_fault s) (or_else (reason_fault r) (full_fault old.unsent))) none) w v
+
 does_alike : (max : ℕ) → 8 ≤ max → (old new was is : EndpointState) (call : Call) (a : Answer) → Alike max old was → Does old new call a → Does was is call a → Alike max new is
 does_alike max least old new was is (Feed piece) (Fed used o) x d e =
     fed_alike max least (is_dead old.connection.phase) old new was is piece used o x refl d (subst (λ (c : ConnectionState). FeedDone (is_dead c.phase) was is piece used o) x.connection e)
@@ -200,6 +208,15 @@ does_alike max least old new was is Close (HandedUp y) x d e = closed_alike max 
 does_alike max least old new was is Close (MovedOut b) x d e = closed_alike max old new was is x d.0 d.1 e.1
 does_alike max least old new was is Close (Holds n) x d e = closed_alike max old new was is x d.0 d.1 e.1
 does_alike max least old new was is Close (Ended z) x d e = closed_alike max old new was is x d.0 d.1 e.1
+does_alike max least old new was is (CloseWith r) (Refused f) x d e = kept_alike max old new was is x d.1 e.1
+does_alike max least old new was is (CloseWith r) (Fed n o) x d e = closed_with_alike max old new was is r x d.0 d.1 e.1
+does_alike max least old new was is (CloseWith r) given.Accepted x d e = closed_with_alike max old new was is r x d.0 d.1 e.1
+does_alike max least old new was is (CloseWith r) (Dropped n) x d e = closed_with_alike max old new was is r x d.0 d.1 e.1
+does_alike max least old new was is (CloseWith r) (Named n) x d e = closed_with_alike max old new was is r x d.0 d.1 e.1
+does_alike max least old new was is (CloseWith r) (HandedUp y) x d e = closed_with_alike max old new was is r x d.0 d.1 e.1
+does_alike max least old new was is (CloseWith r) (MovedOut b) x d e = closed_with_alike max old new was is r x d.0 d.1 e.1
+does_alike max least old new was is (CloseWith r) (Holds n) x d e = closed_with_alike max old new was is r x d.0 d.1 e.1
+does_alike max least old new was is (CloseWith r) (Ended z) x d e = closed_with_alike max old new was is r x d.0 d.1 e.1
 does_alike max least old new was is Heartbeat (Refused f) x d e = kept_alike max old new was is x d.1 e.1
 does_alike max least old new was is Heartbeat (Fed n o) x d e = beat_alike max old new was is x d.1 e.1
 does_alike max least old new was is Heartbeat given.Accepted x d e = beat_alike max old new was is x d.1 e.1
@@ -243,6 +260,7 @@ aside x = Some x
 abbrev called_by : Call → Option Happened
 called_by (InSession channel c) = Some (Called channel c)
 called_by Close = Some Closed
+called_by (CloseWith r) = Some (ClosedWith r)
 called_by Heartbeat = Some Beat
 called_by c = None
 

@@ -25,6 +25,9 @@ use Rattle.amqp_perform.specs.Outcomes.{outcome_span}
 use Rattle.amqp_perform.specs.Performatives.{is_receiver, span}
 use Rattle.amqp_perform.specs.BodyReading.{body_at, fault_of}
 use Rattle.amqp_perform.specs.Said.{Said, said_frame}
+use Rattle.amqp_perform.specs.Receivers.{state_said}
+use Rattle.amqp_reason.specs.Reasons.{Reason, is_valid, error_span, rejected_span}
+use Rattle.amqp_reason.proofs.Spelled.{error_short, rejected_short}
 use Rattle.amqp_session.specs.declared.fault.SessionFault.{SessionFault}
 use Rattle.amqp_session.specs.declared.fault.SessionFault.TheVariants as fault
 use Rattle.amqp_session.specs.declared.report.Report.{Report}
@@ -32,7 +35,7 @@ use Rattle.amqp_session.specs.declared.report.Report.TheVariants as report
 use Rattle.amqp_session.specs.declared.slot.Slot.{Slot}
 use Rattle.amqp_session.specs.declared.slot.Slot.TheVariants.{Free, Live, Waits}
 use Rattle.amqp_session.specs.declared.terms.SessionTerms.{SessionTerms}
-use Rattle.amqp_session.specs.Calls.{Call, Widen, Grant, Drain, Take, Settle, SettleRange, Detach, call_event, call_answer, range_said, settles_at_once, standing_in}
+use Rattle.amqp_session.specs.Calls.{Call, Widen, Grant, Drain, Take, Settle, SettleRange, Detach, call_event, call_answer, range_said, settles_at_once, standing_in, Refuse, SettleWith, SettleRangeWith, range_rejected, if_valid}
 use Rattle.amqp_session.specs.Faults as session
 use Rattle.amqp_session.specs.Faults.{where_so, refusal, attach_fault, attach_answer, slot_flow, failure_answer, flow_answer, echo_answer, detach_answer}
 use Rattle.amqp_session.specs.Frames.{Attaching, Flowing, Frame, Attaches, Flows, Transfers, Disposes, Detaches, is_coordinator, attach_said, count_stated, refusal_said, detach_said, failure_said}
@@ -154,6 +157,22 @@ disposition_most first last settled o = omega (arith, span_long (outcome_span o)
     last_most true = omega arith
     last_most false = omega arith
 
+-- a detach with an error of the application
+pub refuse_most : (handle : ℕ) (r : Reason) → is_valid r ≡ true → said_most (detach_said handle true (error_span r)) ≤ 400
+refuse_most handle r valid = omega (arith, span_long (error_span r), error_short r valid)
+
+-- a close with one
+pub close_with_most : (r : Reason) → is_valid r ≡ true → said_most (close_said (error_span r)) ≤ 400
+close_with_most r valid = omega (arith, span_long (error_span r), error_short r valid)
+
+-- a disposition with one
+pub rejected_most : (first last : ℕ) (settled : Bool) (r : Reason) → is_valid r ≡ true → said_most (state_said first last settled (rejected_span r)) ≤ 500
+rejected_most first last settled r valid = omega (arith, span_long (rejected_span r), rejected_short r valid, last_most (nat_eq first last))
+  where
+    last_most : (b : Bool) → cell_most (if b then Absent else Whole last) ≤ 17
+    last_most true = omega arith
+    last_most false = omega arith
+
 -- Answers. --------------------------------------------------------------------------------------------------------------
 
 abbrev all_most : List Said → ℕ
@@ -226,6 +245,14 @@ range_long : (first last : ℕ) (o : Outcome) (t : SessionState) → all_most (r
 range_long first last o t =
     let settled = settles_at_once (standing_in first t.links) in one_most (disposition_said first last settled o) 400 (omega arith) (disposition_most first last settled o)
 
+-- what is said with words that are valid
+valid_long : (r : Reason) (x : Said) → (is_valid r ≡ true → said_most x ≤ 500) → all_most (if_valid r x) ≤ 2560
+valid_long r x most = by (is_valid r) refl
+  where
+    by : (b : Bool) → is_valid r ≡ b → all_most (if b then x ∷ [] else []) ≤ 2560
+    by true valid = one_most x 500 (omega arith) (most valid)
+    by false none = omega arith
+
 call_long : (t : SessionState) (c : Call) → all_most (call_answer t c) ≤ 2560
 call_long t (Widen n) =
     let after = session_after t (call_event t (Widen n)) in one_most (flow_said after.next_incoming_id after.window) 400 (omega arith) (flow_most after.next_incoming_id after.window)
@@ -235,6 +262,9 @@ call_long t (Take handle) = omega arith
 call_long t (Settle id o) = range_long id id o t
 call_long t (SettleRange first last o) = range_long first last o t
 call_long t (Detach handle) = one_most (detach_said handle true []) 400 (omega arith) (detach_most handle true)
+call_long t (Refuse handle r) = valid_long r (detach_said handle true (error_span r)) (λ valid. omega (arith, refuse_most handle r valid))
+call_long t (SettleWith id r) = valid_long r (range_rejected id id r t) (λ valid. rejected_most id id (settles_at_once (standing_in id t.links)) r valid)
+call_long t (SettleRangeWith first last r) = valid_long r (range_rejected first last r t) (λ valid. rejected_most first last (settles_at_once (standing_in first t.links)) r valid)
 
 -- Units. ----------------------------------------------------------------------------------------------------------------
 

@@ -8,6 +8,7 @@ use Rattle.amqp_frame.specs.Units.{StreamUnit, HeaderUnit, FrameUnit, FaultUnit,
 use Rattle.amqp_frame.specs.declared.units.Stage.{Stage}
 use Rattle.amqp_frame.specs.declared.units.Stage.TheVariants.{Header, Frames, Refused as Over, Faulty}
 use Rattle.amqp_perform.specs.Said.{said_frame}
+use Rattle.amqp_reason.specs.Reasons.{Reason, is_valid, error_span}
 use Rattle.amqp_session.specs.declared.slot.Slot.{Slot}
 use Rattle.amqp_session.specs.declared.slot.Slot.TheVariants.{Free, Live, Waits as Awaits}
 use Rattle.amqp_session.specs.Calls as session
@@ -17,18 +18,19 @@ use Rattle.amqp_endpoint.specs.declared.event.Outcome.{Outcome}
 use Rattle.amqp_endpoint.specs.declared.fault.CallFault.TheVariants as refused
 use Rattle.amqp_endpoint.specs.declared.phase.Phase.{Phase}
 use Rattle.amqp_endpoint.specs.declared.phase.Phase.TheVariants as phase
-use Rattle.amqp_endpoint.specs.Calls.{call_fault, call_event, call_spoken, slot_spoken, at_session, writes, dead_fault, unopened_fault, full_fault, open_call_fault}
+use Rattle.amqp_endpoint.specs.Calls.{call_fault, call_event, call_spoken, slot_spoken, at_session, writes, dead_fault, unopened_fault, full_fault, open_call_fault, close_with_fault, close_with_spoken}
 use Rattle.amqp_endpoint.specs.Calls.{close_call_spoken, heartbeat, has_room}
 use Rattle.amqp_endpoint.specs.Configs.{Configured}
 use Rattle.amqp_endpoint.specs.Connections as event
 use Rattle.amqp_endpoint.specs.Connections.{ConnectionState, is_dead, is_closing, is_unopened, slot_at}
 use Rattle.amqp_endpoint.specs.Lines.{line_of}
 use Rattle.amqp_endpoint.specs.Replies.{joined, reply_on, close_said}
-use Rattle.amqp_endpoint.specs.Runs.{Call, Feed, InSession, Close, Heartbeat, Output, Held, Finish, Answer, Fed, Accepted, Dropped, Named, HandedUp, Refused, MovedOut, Holds, Ended}
+use Rattle.amqp_endpoint.specs.Runs.{Call, Feed, InSession, Close, Heartbeat, Output, Held, Finish, Answer, Fed, Accepted, Dropped, Named, HandedUp, Refused, MovedOut, Holds, Ended, CloseWith}
 use Rattle.amqp_endpoint.specs.Runs.{IsWritten, IsBeat, IsMoved, IsFinished, Does, Run, IsStart}
 use Rattle.amqp_endpoint.specs.Steps.{EndpointState, IsKept, IsActed, Acts, Comes, FeedDone, room_for, may_act}
 use Rattle.amqp_endpoint.proofs.Endpoints.{rest_few, header_few, free_at, due_no_header}
-use Rattle.amqp_endpoint.proofs.Replies.{SaidLong}
+use Rattle.amqp_endpoint.proofs.ClosesWith.{open_then, valid_then}
+use Rattle.amqp_endpoint.proofs.Replies.{SaidLong, close_with_most}
 use Rattle.amqp_frame.proofs.Fronts.{waits_or_not}
 use Rattle.amqp_session.proofs.Firsts.{neither, not_so}
 
@@ -136,6 +138,9 @@ called_long fit s old new channel (session.Drain handle) few room e = written_lo
 called_long fit s old new channel (session.Settle id o) few room e = written_long fit s old new channel (session.Settle id o) room e
 called_long fit s old new channel (session.SettleRange first last o) few room e = written_long fit s old new channel (session.SettleRange first last o) room e
 called_long fit s old new channel (session.Detach handle) few room e = written_long fit s old new channel (session.Detach handle) room e
+called_long fit s old new channel (session.Refuse handle r) few room e = written_long fit s old new channel (session.Refuse handle r) room e
+called_long fit s old new channel (session.SettleWith id r) few room e = written_long fit s old new channel (session.SettleWith id r) room e
+called_long fit s old new channel (session.SettleRangeWith first last r) few room e = written_long fit s old new channel (session.SettleRangeWith first last r) room e
 
 called : CallsFit → (config : Configured) (old new : EndpointState) (channel : ℕ) (c : session.Call) → IsRoomy config old → call_fault old.connection old.unsent channel c ≡ None →
     IsWritten old new (call_event old.connection channel c) (joined (call_spoken old.connection channel c)) → IsRoomy config new
@@ -255,9 +260,18 @@ fed fit config short least false old new piece used answer x alive f =
 close_short : SaidLong → length (joined close_call_spoken) ≤ 2560
 close_short long = omega (arith, long 0 (close_said []), length-append (said_frame 0 (close_said []) []) [])
 
+close_with_short : SaidLong → (r : Reason) → is_valid r ≡ true → length (joined (close_with_spoken r)) ≤ 2560
+close_with_short long r valid = omega (arith, long 0 (close_said (error_span r)), close_with_most r valid, length-append (said_frame 0 (close_said (error_span r)) []) [])
+
 module _ (said : SaidLong) (units : UnitsFit) (calls : CallsFit) (config : Configured) (short : length config.container_id ≤ 255) (least : 8 ≤ config.max_frame) where
   closes : (old new : EndpointState) → IsRoomy config old → open_call_fault old.connection old.unsent ≡ None → IsWritten old new event.CloseAsked (joined close_call_spoken) → IsRoomy config new
   closes old new x none w = opened config old new (joined close_call_spoken) x none (close_short said) w.input (ap (λ (s : ConnectionState). s.config) w.connection) w.unsent
+
+  closes_with : (old new : EndpointState) (r : Reason) → IsRoomy config old → close_with_fault old.connection old.unsent r ≡ None →
+      IsWritten old new event.CloseAsked (joined (close_with_spoken r)) → IsRoomy config new
+  closes_with old new r x none w =
+      opened config old new (joined (close_with_spoken r)) x (open_then old.connection old.unsent r none) (close_with_short said r (valid_then old.connection old.unsent r none))
+      w.input (ap (λ (s : ConnectionState). s.config) w.connection) w.unsent
 
   beats : (old new : EndpointState) → IsRoomy config old → open_call_fault old.connection old.unsent ≡ None → IsBeat old new → IsRoomy config new
   beats old new x none b = opened config old new heartbeat x none (omega arith) b.input (ap (λ (s : ConnectionState). s.config) b.connection) b.unsent
@@ -282,6 +296,15 @@ module _ (said : SaidLong) (units : UnitsFit) (calls : CallsFit) (config : Confi
   does old new Close (MovedOut b) x d = closes old new x d.0 d.1
   does old new Close (Holds n) x d = closes old new x d.0 d.1
   does old new Close (Ended e) x d = closes old new x d.0 d.1
+  does old new (CloseWith r) (Refused f) x d = kept config old new x d.1
+  does old new (CloseWith r) (Fed n o) x d = closes_with old new r x d.0 d.1
+  does old new (CloseWith r) Accepted x d = closes_with old new r x d.0 d.1
+  does old new (CloseWith r) (Dropped n) x d = closes_with old new r x d.0 d.1
+  does old new (CloseWith r) (Named n) x d = closes_with old new r x d.0 d.1
+  does old new (CloseWith r) (HandedUp y) x d = closes_with old new r x d.0 d.1
+  does old new (CloseWith r) (MovedOut b) x d = closes_with old new r x d.0 d.1
+  does old new (CloseWith r) (Holds n) x d = closes_with old new r x d.0 d.1
+  does old new (CloseWith r) (Ended e) x d = closes_with old new r x d.0 d.1
   does old new Heartbeat (Refused f) x d = kept config old new x d.1
   does old new Heartbeat (Fed n o) x d = beats old new x d.0 d.1
   does old new Heartbeat Accepted x d = beats old new x d.0 d.1

@@ -11,6 +11,7 @@ use Rattle.amqp_frame.specs.declared.units.Stage.TheVariants as due
 use Rattle.amqp_frame.proofs.Fronts.{front, none_held, waits_or_not}
 use Rattle.amqp_frame.proofs.Histories.{units_more, due_more, joined_more}
 use Rattle.amqp_link.specs.Links.{Delivery, first_ready}
+use Rattle.amqp_reason.specs.Reasons.{Reason}
 use Rattle.amqp_session.specs.declared.slot.Slot.{Slot}
 use Rattle.amqp_session.specs.declared.slot.Slot.TheVariants.{Free, Live, Waits as Awaits}
 use Rattle.amqp_session.specs.Calls as session
@@ -25,7 +26,7 @@ use Rattle.amqp_endpoint.specs.declared.fault.CallFault.{CallFault}
 use Rattle.amqp_endpoint.specs.declared.fault.CallFault.TheVariants as refused
 use Rattle.amqp_endpoint.specs.declared.phase.Phase.{Phase}
 use Rattle.amqp_endpoint.specs.declared.phase.Phase.TheVariants as phase
-use Rattle.amqp_endpoint.specs.Calls.{call_fault, call_event, call_spoken, open_call_fault, close_call_spoken, heartbeat, full_fault}
+use Rattle.amqp_endpoint.specs.Calls.{call_fault, call_event, call_spoken, open_call_fault, close_call_spoken, heartbeat, full_fault, close_with_fault, close_with_spoken, reason_fault}
 use Rattle.amqp_endpoint.specs.Configs.{Configured, IsConfigured}
 use Rattle.amqp_endpoint.specs.Connections as event
 use Rattle.amqp_endpoint.specs.Connections.{ConnectionState, ConnectionEvent, connection_after, ConnectionMay, is_dead, is_open, is_unopened}
@@ -34,9 +35,9 @@ use Rattle.amqp_endpoint.specs.Histories as of_connection
 use Rattle.amqp_endpoint.specs.Histories.{phase_of, state_of, Sound}
 use Rattle.amqp_endpoint.specs.Lines.{line_of, event_on, told_on}
 use Rattle.amqp_endpoint.specs.Replies.{joined, reply_on}
-use Rattle.amqp_endpoint.specs.Runs.{Call, Feed, InSession, Close, Heartbeat, Output, Held, Finish, Answer, Fed, Accepted, Dropped, Named, HandedUp, Refused, MovedOut, Holds, Ended}
+use Rattle.amqp_endpoint.specs.Runs.{Call, Feed, InSession, Close, CloseWith, Heartbeat, Output, Held, Finish, Answer, Fed, Accepted, Dropped, Named, HandedUp, Refused, MovedOut, Holds, Ended}
 use Rattle.amqp_endpoint.specs.Runs.{handed, link_handed, session_answer, accepted_answer, IsWritten, IsBeat, IsMoved, IsFinished, Does}
-use Rattle.amqp_endpoint.specs.Runs.{Run, IsStart, Happened, Acted, Called, Closed, Beat, Over, units_of, events, written}
+use Rattle.amqp_endpoint.specs.Runs.{Run, IsStart, Happened, Acted, Called, Closed, ClosedWith, Beat, Over, units_of, events, written}
 use Rattle.amqp_endpoint.specs.Steps.{EndpointState, IsKept, IsActed, Acts, Comes, FeedDone, may_act, told_outcome, acted_after}
 use Rattle.amqp_endpoint.specs.Traces.{IsInRange, AreInRange, taken_by, moved_by, Told, Done, Ends, event_in, told_by, all_taken, heard, has_finished, event_told, tellings, IsTraced}
 use Rattle.amqp_endpoint.proofs.Steps.{ConnectionBegins, ConnectionGoesOn, all_sound}
@@ -83,6 +84,7 @@ ended_in config (Acted u ∷ h) o = either_of (is_end (event_on (state_of config
     (ended_in config h o)
 ended_in config (Called channel c ∷ h) o = either_of (is_end (call_event (state_of config (events config h)) channel c)) (list_any is_end (events config h)) (ended_in config h o)
 ended_in config (Closed ∷ h) o = ended_in config h o
+ended_in config (ClosedWith r ∷ h) o = ended_in config h o
 ended_in config (Beat ∷ h) o = ended_in config h o
 ended_in config (Over ∷ h) o = refl
 
@@ -198,6 +200,31 @@ module _ (begins : ConnectionBegins) (goes_on : ConnectionGoesOn) (config : Conf
           limit = w.input.limit ∙ t.limit;
           stage = λ e. w.input.stage ∙ t.stage e;
           output = more_written (written config h) moved old.unsent (joined close_call_spoken) (joined close_call_spoken) new.unsent t.output refl w.unsent;
+          telling = ap (λ (v : List Told). v ++ answered old.connection) t.telling ∙ ap (λ (v : List Told). tellings config h ++ v) (ap answered t.state);
+        };
+        each = subst (λ (v : List ℕ). AreBytes v) (sym w.input.filled) x.each;
+      }
+
+  closed_with : (took moved : List ℕ) (told : List Told) (h : List Happened) (old new : EndpointState) (r : Reason) → IsAt config took moved told h old → is_open old.connection.phase ≡ true →
+      IsWritten old new event.CloseAsked (joined (close_with_spoken r)) → IsAt config took moved (told ++ Done (CloseWith r) (Dropped (connection_ready old.connection)) ∷ []) (ClosedWith r ∷ h) new
+  closed_with took moved told h old new r x wide w =
+      let t = x.traced in
+      let answered = λ (s : ConnectionState). Done (CloseWith r) (Dropped (connection_ready s)) ∷ [] in
+      let next = next_state (events config h) old.connection new.connection (λ s. event.CloseAsked) t.state t.sound t.accepted
+      (subst (λ (s : ConnectionState). is_open s.phase ≡ true) t.state wide, tt, tt) w.connection in
+      record {
+        traced = record {
+          accepted = next.2;
+          state = next.0;
+          sound = next.1;
+          rest = t.rest;
+          units = t.units;
+          each = t.each;
+          held = t.held;
+          buffer = w.input.filled ∙ t.buffer;
+          limit = w.input.limit ∙ t.limit;
+          stage = λ e. w.input.stage ∙ t.stage e;
+          output = more_written (written config h) moved old.unsent (joined (close_with_spoken r)) (joined (close_with_spoken r)) new.unsent t.output refl w.unsent;
           telling = ap (λ (v : List Told). v ++ answered old.connection) t.telling ∙ ap (λ (v : List Told). tellings config h ++ v) (ap answered t.state);
         };
         each = subst (λ (v : List ℕ). AreBytes v) (sym w.input.filled) x.each;
@@ -466,6 +493,9 @@ link_still Awaits = refl
 session_still : (s : SessionState) (c : session.Call) → moved_by (session_answer s c) ≡ []
 session_still s (session.Take handle) = link_still (of_session.slot_at s handle)
 session_still s (session.Detach handle) = refl
+session_still s (session.Refuse handle r) = refl
+session_still s (session.SettleWith id r) = refl
+session_still s (session.SettleRangeWith first last r) = refl
 session_still s (session.Widen n) = refl
 session_still s (session.Grant handle n) = refl
 session_still s (session.Drain handle) = refl
@@ -613,6 +643,16 @@ module _ (begins : ConnectionBegins) (goes_on : ConnectionGoesOn) (units : Units
       (tells_leads config took moved (told ++ Done Close answer ∷ []) h Closed new answer refl
       (closed begins goes_on config narrow took moved told h old new x (open_where old.connection.phase (full_fault old.unsent) d.0) d.1))
 
+  closes_with : (took moved : List ℕ) (told : List Told) (h : List Happened) (old new : EndpointState) (r : Reason) (a : Answer) → IsAt config took moved told h old →
+      (close_with_fault old.connection old.unsent r ≡ None) × IsWritten old new event.CloseAsked (joined (close_with_spoken r)) × (a ≡ Dropped (connection_ready old.connection)) →
+      Leads config (took ++ []) (moved ++ moved_by a) (told ++ Done (CloseWith r) a ∷ []) h new
+  closes_with took moved told h old new r a x d =
+      let answer = Dropped (connection_ready old.connection) in
+      subst (λ (v : Answer). Leads config (took ++ []) (moved ++ moved_by v) (told ++ Done (CloseWith r) v ∷ []) h new) (sym d.2)
+      (tells_leads config took moved (told ++ Done (CloseWith r) answer ∷ []) h (ClosedWith r) new answer refl
+      (closed_with begins goes_on config narrow took moved told h old new r x
+      (open_where old.connection.phase (or_else (reason_fault r) (full_fault old.unsent)) d.0) d.1))
+
   beats : (took moved : List ℕ) (told : List Told) (h : List Happened) (old new : EndpointState) (a : Answer) → IsAt config took moved told h old →
       (open_call_fault old.connection old.unsent ≡ None) × IsBeat old new × (a ≡ Accepted) → Leads config (took ++ []) (moved ++ moved_by a) (told ++ Done Heartbeat a ∷ []) h new
   beats took moved told h old new a x d =
@@ -660,6 +700,15 @@ module _ (begins : ConnectionBegins) (goes_on : ConnectionGoesOn) (units : Units
   does took moved told h old new Close (MovedOut b) x range d = closes took moved told h old new (MovedOut b) x d
   does took moved told h old new Close (Holds n) x range d = closes took moved told h old new (Holds n) x d
   does took moved told h old new Close (Ended e) x range d = closes took moved told h old new (Ended e) x d
+  does took moved told h old new (CloseWith r) (Refused f) x range d = kept_leads took moved told h old new x d.1
+  does took moved told h old new (CloseWith r) (Fed n o) x range d = closes_with took moved told h old new r (Fed n o) x d
+  does took moved told h old new (CloseWith r) Accepted x range d = closes_with took moved told h old new r Accepted x d
+  does took moved told h old new (CloseWith r) (Dropped n) x range d = closes_with took moved told h old new r (Dropped n) x d
+  does took moved told h old new (CloseWith r) (Named n) x range d = closes_with took moved told h old new r (Named n) x d
+  does took moved told h old new (CloseWith r) (HandedUp y) x range d = closes_with took moved told h old new r (HandedUp y) x d
+  does took moved told h old new (CloseWith r) (MovedOut b) x range d = closes_with took moved told h old new r (MovedOut b) x d
+  does took moved told h old new (CloseWith r) (Holds n) x range d = closes_with took moved told h old new r (Holds n) x d
+  does took moved told h old new (CloseWith r) (Ended e) x range d = closes_with took moved told h old new r (Ended e) x d
   does took moved told h old new Heartbeat (Refused f) x range d = kept_leads took moved told h old new x d.1
   does took moved told h old new Heartbeat (Fed n o) x range d = beats took moved told h old new (Fed n o) x d
   does took moved told h old new Heartbeat Accepted x range d = beats took moved told h old new Accepted x d

@@ -25,7 +25,7 @@ use Rattle.amqp_endpoint.specs.Credits.{granted_to, granted_on, granted_since}
 use Rattle.amqp_endpoint.specs.Held.{held, any_link_most, counted_most, session_count, link_count}
 use Rattle.amqp_endpoint.specs.Histories.{state_of, Accepted}
 use Rattle.amqp_endpoint.specs.Lines.{line_of, event_on, told_on}
-use Rattle.amqp_endpoint.specs.Runs.{Call, Answer, Does, Run, IsStart, Handed, handed_of, Happened, Acted, Called, Closed, Beat, Over, events}
+use Rattle.amqp_endpoint.specs.Runs.{Call, Answer, Does, Run, IsStart, Handed, handed_of, Happened, Acted, Called, Closed, ClosedWith, Beat, Over, events}
 use Rattle.amqp_endpoint.specs.Steps.{EndpointState}
 use Rattle.amqp_endpoint.specs.Takings.{Taking, lives, attaches_on, handed_up_in, taking_on, takings, taken_in, link_part, last_part, lived_or, past_in}
 use Rattle.amqp_endpoint.specs.Traces.{IsInRange, AreInRange, told_by, heard, event_told, told_of, tellings, message_in, placed, IsWholeRun}
@@ -207,6 +207,12 @@ module _ (channel handle : ℕ) where
     arith,
     sum_by-cons (granted_on channel handle) event.CloseAsked (events config h),
     sum_by-cons (granted_to channel handle) Closed h,
+    granted_events config h,
+  )
+  granted_events config (ClosedWith r ∷ h) = omega (
+    arith,
+    sum_by-cons (granted_on channel handle) event.CloseAsked (events config h),
+    sum_by-cons (granted_to channel handle) (ClosedWith r) h,
     granted_events config h,
   )
   granted_events config (Beat ∷ h) = omega (arith, sum_by-cons (granted_to channel handle) Beat h, granted_events config h)

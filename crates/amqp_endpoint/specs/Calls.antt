@@ -1,5 +1,6 @@
 -- What a connection does with a call of its application: why it is refused, or which event it is, and what it writes.
 use Rattle.std.specs.Prelude.{ℕ, ◌+◌, Bool, true, false, not, ◌||◌, nat_lt, if◌then◌else◌, List, [], ◌∷◌, length, Option, Some, None}
+use Rattle.amqp_reason.specs.Reasons.{Reason, is_valid, error_span}
 use Rattle.amqp_session.specs.declared.fault.CallFault as session_fault
 use Rattle.amqp_session.specs.declared.fault.CallFault.TheVariants as of_session
 use Rattle.amqp_session.specs.declared.slot.Slot.{Slot}
@@ -46,6 +47,7 @@ fault_of_session of_session.MixedModes = refused.MixedModes
 fault_of_session of_session.NothingReady = refused.NothingReady
 fault_of_session of_session.TooMuchCredit = refused.TooMuchCredit
 fault_of_session of_session.WindowTooWide = refused.WindowTooWide
+fault_of_session of_session.BadError = refused.BadError
 
 abbrev pub of_option : Option session_fault.CallFault → Option CallFault
 of_option None = None
@@ -70,6 +72,13 @@ call_fault s unsent channel call =
 abbrev pub open_call_fault : ConnectionState → List ℕ → Option CallFault
 open_call_fault s unsent = or_else (dead_fault s) (or_else (unopened_fault s) (full_fault unsent))
 
+-- so does a close with an error, whose words are tested last but for room [2.8.14]
+abbrev pub reason_fault : Reason → Option CallFault
+reason_fault r = where_so (not (is_valid r)) refused.BadError
+
+abbrev pub close_with_fault : ConnectionState → List ℕ → Reason → Option CallFault
+close_with_fault s unsent r = or_else (dead_fault s) (or_else (unopened_fault s) (or_else (reason_fault r) (full_fault unsent)))
+
 -- What an accepted call is, and writes. -------------------------------------------------------------------------------
 
 abbrev pub slot_event : ℕ → Slot SessionState → session.Call → ConnectionEvent
@@ -90,6 +99,10 @@ call_spoken s channel call = slot_spoken channel (slot_at s channel) call
 
 abbrev pub close_call_spoken : List Spoken
 close_call_spoken = aloud (close_said []) ∷ []
+
+-- a close with an error [2.7.9]
+abbrev pub close_with_spoken : Reason → List Spoken
+close_with_spoken r = aloud (close_said (error_span r)) ∷ []
 
 -- an empty frame on channel 0 [2.4.5]
 abbrev pub heartbeat : List ℕ

@@ -4,10 +4,11 @@ use Rattle.amqp_frame.specs.Splits.{SplitterState, Waits, IsHeld, IsOver}
 use Rattle.amqp_frame.specs.Units.{StreamUnit}
 use Rattle.amqp_frame.specs.declared.units.Stage.TheVariants as due
 use Rattle.amqp_link.specs.declared.link.Taken.{Taken}
+use Rattle.amqp_reason.specs.Reasons.{reason_of}
 use Rattle.amqp_session.specs.declared.slot.Slot.{Slot}
 use Rattle.amqp_session.specs.declared.slot.Slot.TheVariants.{Free, Live, Waits as Awaits}
 use Rattle.amqp_session.specs.declared.view.LinkView.{LinkView}
-use Rattle.amqp_session.specs.Calls.{Widen, Grant, Drain, Take, Settle, SettleRange, Detach}
+use Rattle.amqp_session.specs.Calls.{Widen, Grant, Drain, Take, Settle, SettleRange, Detach, Refuse, SettleWith, SettleRangeWith}
 use Rattle.amqp_session.specs.Sessions as session
 use Rattle.amqp_session.specs.Sessions.{SessionState}
 use Rattle.amqp_session.specs.Slots.{IsViewAt}
@@ -22,7 +23,7 @@ use Rattle.amqp_endpoint.specs.Acting.{IsDone}
 use Rattle.amqp_endpoint.specs.Configs.{Configured}
 use Rattle.amqp_endpoint.specs.Connections.{ConnectionState, slot_at, is_open, is_dead}
 use Rattle.amqp_endpoint.specs.Lines.{line_of, may_grow_on}
-use Rattle.amqp_endpoint.specs.Runs.{Call, Feed, InSession, Close, Heartbeat, Output, Held, Finish, Answer, Fed, Accepted, Dropped, Named, Handed, HandedUp, Refused, MovedOut, Holds, Ended, Run, IsStart}
+use Rattle.amqp_endpoint.specs.Runs.{Call, Feed, InSession, Close, CloseWith, Heartbeat, Output, Held, Finish, Answer, Fed, Accepted, Dropped, Named, Handed, HandedUp, Refused, MovedOut, Holds, Ended, Run, IsStart}
 use Rattle.amqp_endpoint.specs.Steps.{EndpointState, room_for}
 
 -- What always holds. --------------------------------------------------------------------------------------------------
@@ -75,7 +76,11 @@ call_of (call.Take channel handle) = InSession channel (Take handle)
 call_of (call.Settle channel id outcome) = InSession channel (Settle id outcome)
 call_of (call.SettleRange channel first last outcome) = InSession channel (SettleRange first last outcome)
 call_of (call.Detach channel handle) = InSession channel (Detach handle)
+call_of (call.Refuse channel handle r) = InSession channel (Refuse handle (reason_of r))
+call_of (call.SettleWith channel id r) = InSession channel (SettleWith id (reason_of r))
+call_of (call.SettleRangeWith channel first last r) = InSession channel (SettleRangeWith first last (reason_of r))
 call_of call.Close = Close
+call_of (call.CloseWith r) = CloseWith (reason_of r)
 call_of call.Heartbeat = Heartbeat
 call_of (call.Output room) = Output room
 call_of call.Held = Held

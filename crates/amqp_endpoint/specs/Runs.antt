@@ -5,10 +5,11 @@ use Rattle.amqp_frame.specs.Splits.{IsUnchanged}
 use Rattle.amqp_frame.specs.Units.{StreamUnit}
 use Rattle.amqp_frame.specs.declared.units.Stage.TheVariants as due
 use Rattle.amqp_link.specs.Links.{Delivery, first_ready}
+use Rattle.amqp_reason.specs.Reasons.{Reason}
 use Rattle.amqp_session.specs.declared.slot.Slot.{Slot}
 use Rattle.amqp_session.specs.declared.slot.Slot.TheVariants.{Free, Live, Waits as Awaits}
 use Rattle.amqp_session.specs.Calls as session
-use Rattle.amqp_session.specs.Calls.{Widen, Grant, Drain, Take, Settle, SettleRange, Detach}
+use Rattle.amqp_session.specs.Calls.{Widen, Grant, Drain, Take, Settle, SettleRange, Detach, Refuse, SettleWith, SettleRangeWith}
 use Rattle.amqp_session.specs.Laws.{named_total}
 use Rattle.amqp_session.specs.Sessions as of_session
 use Rattle.amqp_session.specs.Sessions.{LiveLink, SessionState, slot_ready}
@@ -16,7 +17,7 @@ use Rattle.amqp_endpoint.specs.declared.event.End.{End}
 use Rattle.amqp_endpoint.specs.declared.event.End.TheVariants as ended
 use Rattle.amqp_endpoint.specs.declared.event.Outcome.{Outcome}
 use Rattle.amqp_endpoint.specs.declared.fault.CallFault.{CallFault}
-use Rattle.amqp_endpoint.specs.Calls.{call_fault, call_event, call_spoken, open_call_fault, close_call_spoken, heartbeat}
+use Rattle.amqp_endpoint.specs.Calls.{call_fault, call_event, call_spoken, open_call_fault, close_with_fault, close_call_spoken, close_with_spoken, heartbeat}
 use Rattle.amqp_endpoint.specs.Configs.{Configured}
 use Rattle.amqp_endpoint.specs.Connections as event
 use Rattle.amqp_endpoint.specs.Connections.{ConnectionState, ConnectionEvent, connection_begins, connection_after, connection_ready, slot_at}
@@ -32,6 +33,7 @@ pub data Call : Type 0 where
   Feed : List ℕ → Call  -- a piece of the peer's bytes
   InSession : ℕ → session.Call → Call  -- a call for the session on this channel
   Close : Call
+  CloseWith : Reason → Call  -- a close with an error
   Heartbeat : Call
   Output : ℕ → Call  -- at most this many bytes are moved out
   Held : Call
@@ -77,6 +79,9 @@ session_answer s (Take handle) = link_handed (of_session.slot_at s handle)
 session_answer s (Settle id outcome) = Accepted
 session_answer s (SettleRange first last outcome) = Named (named_total first last s)
 session_answer s (Detach handle) = Dropped (slot_ready (of_session.slot_at s handle))
+session_answer s (Refuse handle r) = Dropped (slot_ready (of_session.slot_at s handle))
+session_answer s (SettleWith id r) = Accepted
+session_answer s (SettleRangeWith first last r) = Named (named_total first last s)
 
 abbrev pub accepted_answer : Slot SessionState → session.Call → Answer
 accepted_answer Free c = Accepted  -- refused
@@ -128,6 +133,11 @@ abbrev pub CloseDone : EndpointState → EndpointState → Answer → Type 0
 CloseDone old new (Refused fault) = (open_call_fault old.connection old.unsent ≡ Some fault) × IsKept old new
 CloseDone old new answer = (open_call_fault old.connection old.unsent ≡ None) × IsWritten old new event.CloseAsked (joined close_call_spoken) × (answer ≡ Dropped (connection_ready old.connection))
 
+abbrev pub CloseWithDone : EndpointState → EndpointState → Reason → Answer → Type 0
+CloseWithDone old new r (Refused fault) = (close_with_fault old.connection old.unsent r ≡ Some fault) × IsKept old new
+CloseWithDone old new r answer =
+    (close_with_fault old.connection old.unsent r ≡ None) × IsWritten old new event.CloseAsked (joined (close_with_spoken r)) × (answer ≡ Dropped (connection_ready old.connection))
+
 abbrev pub BeatDone : EndpointState → EndpointState → Answer → Type 0
 BeatDone old new (Refused fault) = (open_call_fault old.connection old.unsent ≡ Some fault) × IsKept old new
 BeatDone old new answer = (open_call_fault old.connection old.unsent ≡ None) × IsBeat old new × (answer ≡ Accepted)
@@ -137,6 +147,7 @@ abbrev pub Does : EndpointState → EndpointState → Call → Answer → Type 0
 Does old new (Feed piece) (Fed used outcome) = IsFed old new piece used outcome
 Does old new (InSession channel c) answer = CallDone old new channel c answer
 Does old new Close answer = CloseDone old new answer
+Does old new (CloseWith r) answer = CloseWithDone old new r answer
 Does old new Heartbeat answer = BeatDone old new answer
 Does old new (Output room) (MovedOut bytes) = IsMoved old new room bytes
 Does old new Held (Holds n) = IsKept old new × (n ≡ held old)
@@ -170,6 +181,7 @@ pub data Happened : Type 0 where
   Acted : StreamUnit → Happened  -- this unit was acted upon
   Called : ℕ → session.Call → Happened  -- this call for the session on this channel was accepted
   Closed : Happened  -- a close of the application was accepted
+  ClosedWith : Reason → Happened  -- so was one with an error
   Beat : Happened  -- a heartbeat was accepted
   Over : Happened  -- finish was called
 
@@ -178,6 +190,7 @@ abbrev pub event_of : ConnectionState → Happened → List ConnectionEvent
 event_of s (Acted u) = event_on s (line_of s u) ∷ []
 event_of s (Called channel c) = call_event s channel c ∷ []
 event_of s Closed = event.CloseAsked ∷ []
+event_of s (ClosedWith r) = event.CloseAsked ∷ []
 event_of s Beat = []
 event_of s Over = event.Finished ∷ []
 
@@ -186,6 +199,7 @@ abbrev pub written_of : ConnectionState → Happened → List ℕ
 written_of s (Acted u) = reply_on s (line_of s u)
 written_of s (Called channel c) = joined (call_spoken s channel c)
 written_of s Closed = joined close_call_spoken
+written_of s (ClosedWith r) = joined (close_with_spoken r)
 written_of s Beat = heartbeat
 written_of s Over = []
 
@@ -195,6 +209,7 @@ units_of [] = []
 units_of (Acted u ∷ h) = units_of h ++ u ∷ []
 units_of (Called channel c ∷ h) = units_of h
 units_of (Closed ∷ h) = units_of h
+units_of (ClosedWith r ∷ h) = units_of h
 units_of (Beat ∷ h) = units_of h
 units_of (Over ∷ h) = units_of h
 

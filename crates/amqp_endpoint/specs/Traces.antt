@@ -22,8 +22,8 @@ use Rattle.amqp_endpoint.specs.Held.{HoldsWithin}
 use Rattle.amqp_endpoint.specs.Histories as of_connection
 use Rattle.amqp_endpoint.specs.Histories.{part, state_of, Sound}
 use Rattle.amqp_endpoint.specs.Lines.{line_of, told_on}
-use Rattle.amqp_endpoint.specs.Runs.{Call, Feed, InSession, Close, Heartbeat, Finish, Handed, Answer, Fed, Accepted, Dropped, HandedUp, Refused, MovedOut, accepted_answer}
-use Rattle.amqp_endpoint.specs.Runs.{Happened, Acted, Called, Closed, Beat, Over, events, written, units_of, Run, IsStart}
+use Rattle.amqp_endpoint.specs.Runs.{Call, Feed, InSession, Close, CloseWith, Heartbeat, Finish, Handed, Answer, Fed, Accepted, Dropped, HandedUp, Refused, MovedOut, accepted_answer}
+use Rattle.amqp_endpoint.specs.Runs.{Happened, Acted, Called, Closed, ClosedWith, Beat, Over, events, written, units_of, Run, IsStart}
 use Rattle.amqp_endpoint.specs.Steps.{EndpointState}
 use Rattle.amqp_endpoint.specs.Takings.{Taking, lives, takings, taken_in, link_part, last_part, link_at, AreFirst, HasItsPart}
 use Rattle.amqp_endpoint.specs.Windows.{HasItsWindow}
@@ -69,6 +69,8 @@ told_by (InSession channel c) (Refused fault) = []
 told_by (InSession channel c) a = Done (InSession channel c) a ∷ []
 told_by Close (Refused fault) = []
 told_by Close a = Done Close a ∷ []
+told_by (CloseWith r) (Refused fault) = []
+told_by (CloseWith r) a = Done (CloseWith r) a ∷ []
 told_by Heartbeat (Refused fault) = []
 told_by Heartbeat a = Done Heartbeat a ∷ []
 told_by Finish a = Ends ∷ []
@@ -102,6 +104,7 @@ abbrev pub told_of : ConnectionState → Happened → List Told
 told_of s (Acted u) = event_told (told_on s (line_of s u))
 told_of s (Called channel c) = Done (InSession channel c) (accepted_answer (slot_at s channel) c) ∷ []
 told_of s Closed = Done Close (Dropped (connection_ready s)) ∷ []
+told_of s (ClosedWith r) = Done (CloseWith r) (Dropped (connection_ready s)) ∷ []
 told_of s Beat = Done Heartbeat Accepted ∷ []
 told_of s Over = Ends ∷ []
 

@@ -3,6 +3,7 @@ use crate::event::{End, Fed};
 use crate::fault::CallFault;
 use amqp_link::Taken;
 use amqp_perform::Outcome;
+use amqp_reason::Reason;
 use std::alloc::{Allocator, Global};
 
 /// A call of an [`Endpoint`](crate::Endpoint).
@@ -49,8 +50,29 @@ pub enum Call<'a> {
         channel: u16,
         handle: u32,
     },
+    /// The link is ended with an error.
+    Refuse {
+        channel: u16,
+        handle: u32,
+        reason: Reason<'a>,
+    },
+    /// A delivery is rejected with an error.
+    SettleWith {
+        channel: u16,
+        id: u32,
+        reason: Reason<'a>,
+    },
+    /// The deliveries with the ids from `first` to `last` are rejected with an error.
+    SettleRangeWith {
+        channel: u16,
+        first: u32,
+        last: u32,
+        reason: Reason<'a>,
+    },
     /// The connection is closed.
     Close,
+    /// The connection is closed with an error.
+    CloseWith(Reason<'a>),
     /// An empty frame is written.
     Heartbeat,
     /// At most this many bytes are moved out.
@@ -68,7 +90,7 @@ pub enum Answer<A: Allocator + Copy = Global> {
     Fed(Fed),
     /// The answer to a grant, a widening, a drain, a settle and a heartbeat that is not refused.
     Accepted,
-    /// The answer to a detach and a close that is not refused: how many ready deliveries were
+    /// The answer to a detach, a refusal of a link and a close that is not refused: how many ready deliveries were
     /// dropped.
     Dropped(u32),
     /// The answer to a settle of a range that is not refused: how many deliveries were named.

@@ -1,6 +1,7 @@
 //! How a connection ends: by a fault of its peer, by a close, or with its input.
-ghost use Rattle.std.specs.Prelude.{◌≡◌, ◌≤◌, ◌+◌, ◌++◌, [], ◌∷◌, length};
-ghost use Rattle.amqp_endpoint.specs.Calls.{output_size, reply_room, close_call_spoken};
+ghost use Rattle.std.specs.Prelude.{◌≡◌, ◌≤◌, ◌+◌, ◌++◌, [], ◌∷◌, length, true};
+ghost use Rattle.amqp_reason.specs.Reasons.{is_valid, reason_of};
+ghost use Rattle.amqp_endpoint.specs.Calls.{output_size, reply_room, close_call_spoken, close_with_spoken};
 ghost use Rattle.amqp_endpoint.specs.Connections.{connection_after, connection_ready, Broken, Failed, CloseAsked, PeerClosed};
 ghost use Rattle.amqp_endpoint.specs.Replies.{joined, close_spoken, aloud, close_said};
 
@@ -11,6 +12,7 @@ use crate::opening::say_open;
 use crate::output::Output;
 use crate::phase::Phase;
 use amqp_perform::Condition;
+use amqp_reason::Reason;
 use std::alloc::Allocator;
 
 /// Writes a close with an error. If the peer's open has not come, the open of this side goes first
@@ -91,5 +93,22 @@ pub fn close<A: Allocator + Copy>(connection: &mut Connection<A>, out: &mut Outp
     ensures dropped { result ≡ connection_ready connection.old }
 {
     out.say(0, &frames::close(&[]));
+    connection.close()
+}
+
+/// Closes the connection for the application, with an error. Returns how many ready deliveries were dropped.
+pub fn close_with<A: Allocator + Copy>(
+    connection: &mut Connection<A>,
+    out: &mut Output<A>,
+    reason: &Reason<'_>,
+) -> u32
+    requires valid { is_valid (reason_of reason.now) ≡ true }
+    requires room { length out.old + reply_room ≤ output_size }
+    ensures connection { connection.new ≡ connection_after connection.old CloseAsked }
+    ensures unsent { out.new ≡ out.old ++ joined (close_with_spoken (reason_of reason.now)) }
+    ensures dropped { result ≡ connection_ready connection.old }
+{
+    let error = amqp_reason::error(reason);
+    out.say(0, &frames::close_with(error.as_slice()));
     connection.close()
 }

@@ -1,17 +1,18 @@
 //! The receiving endpoint of one connection.
 ghost use Rattle.std.specs.Prelude.{◌≡◌, ◌↔◌, [], IsTrue, ℕ, List, slice_index, ◌+◌, ◌≤◌, ◌++◌, ◌<◌, min, length, take, drop, true, false, Some, None, option_map, IfOk, OnOk, IfErr, IfSome};
 ghost use Rattle.amqp_frame.specs.Splits.{IsOver, IsLent, IsUnchanged, TakesNothing};
-ghost use Rattle.amqp_endpoint.specs.Asking.{CallAnswered, IsCounted, asked_of};
+ghost use Rattle.amqp_endpoint.specs.Asking.{CallAnswered, IsCounted, asked_of, refused_of};
 ghost use Rattle.amqp_frame.specs.declared.units.Stage.{Stage};
-ghost use Rattle.amqp_session.specs.Calls.{Widen, Grant, Drain, Take, Settle, SettleRange, Detach};
+ghost use Rattle.amqp_reason.specs.Reasons.{reason_of};
+ghost use Rattle.amqp_session.specs.Calls.{Widen, Grant, Drain, Take, Settle, SettleRange, Detach, Refuse, SettleWith, SettleRangeWith};
 ghost use Rattle.amqp_session.specs.Places.{live_in};
 ghost use Rattle.amqp_session.specs.Sessions.{IsApart};
 ghost use Rattle.std.specs.Option.{option_copied};
-ghost use Rattle.amqp_endpoint.specs.Calls.{output_size, reply_room, open_call_fault};
+ghost use Rattle.amqp_endpoint.specs.Calls.{output_size, reply_room, open_call_fault, close_with_fault};
 ghost use Rattle.amqp_endpoint.specs.Connections.{slot_at, is_dead};
 ghost use Rattle.amqp_endpoint.specs.Endpoints.{HasActed, IsLinkAt, accepted_by, dropped_by, named_by, handed_by};
 ghost use Rattle.amqp_endpoint.specs.Held.{held};
-ghost use Rattle.amqp_endpoint.specs.Runs.{IsStart, IsMoved, IsFinished, CallDone, CloseDone, BeatDone, accepted_answer, end_of};
+ghost use Rattle.amqp_endpoint.specs.Runs.{IsStart, IsMoved, IsFinished, CallDone, CloseDone, CloseWithDone, BeatDone, accepted_answer, end_of};
 ghost use Rattle.amqp_session.specs.Lacking.{IsFirstLacking};
 ghost use Rattle.amqp_endpoint.specs.Takings.{link_at};
 ghost use Rattle.amqp_endpoint.specs.Steps.{AsksFor, MayRead, Comes, IsFed, TakesAndActs, told_outcome};
@@ -25,12 +26,14 @@ use crate::fault::CallFault;
 use crate::introduction::Introduction;
 use crate::output::Output;
 use crate::phase::Phase;
+use crate::reasons::Refusal;
 use crate::requests::Request;
 use crate::units::{act_on_fault, act_on_frame, act_on_header};
-use crate::{closing, requests};
+use crate::{closing, reasons, requests};
 use amqp_frame::{Frame, Splitter};
 use amqp_link::Taken;
 use amqp_perform::Outcome as Settlement;
+use amqp_reason::Reason;
 use amqp_session::LinkView;
 use std::alloc::{AllocError, Allocator, Global};
 use std::marker::Model;
@@ -436,6 +439,77 @@ impl<A: Allocator + Copy> Endpoint<A> {
         self.ask(channel, Request::Detach { handle })
     }
 
+    /// Ends the link at a handle, by a detach with closed true and an error that it writes [2.6.5]. Returns how
+    /// many ready deliveries were dropped. The handle stays in use until the peer detaches it. The first fault is
+    /// returned, and nothing has changed: `Dead`, `NoSession`, `NoLink`, `BadError`, `Full`.
+    pub fn refuse(
+        &mut self,
+        channel: u16,
+        handle: u32,
+        reason: &Reason<'_>,
+    ) -> Result<u32, CallFault>
+        ensures { CallDone self.old self.new channel (Refuse handle (reason_of reason.now)) (dropped_by result) }
+    {
+        self.say_why(channel, Refusal::Link { handle }, reason)
+    }
+
+    /// Tells the sender that the delivery of a session with this id is rejected, and why, by a disposition with
+    /// an error that it writes [3.4.3]. What becomes of the delivery is as in [`Endpoint::settle`]. The first
+    /// fault is returned, and nothing has changed: `Dead`, `NoSession`, `NoDelivery`, `NotTaken`, `AlreadyTold`,
+    /// `BadError`, `Full`.
+    pub fn settle_with(
+        &mut self,
+        channel: u16,
+        id: u32,
+        reason: &Reason<'_>,
+    ) -> Result<(), CallFault>
+        ensures { CallDone self.old self.new channel (SettleWith id (reason_of reason.now)) (accepted_by result) }
+    {
+        let refusal = Refusal::Deliveries {
+            first: id,
+            last: id,
+        };
+        self.say_why(channel, refusal, reason)?;
+        Ok(())
+    }
+
+    /// Tells the sender that the open deliveries of a session with ids from `first` to `last` are rejected, and
+    /// why, by one disposition with an error that it writes [3.4.3]. Returns how many deliveries that names. What
+    /// becomes of them is as in [`Endpoint::settle_range`]. The first fault is returned, and nothing has changed:
+    /// `Dead`, `NoSession`, `NoDelivery`, `NotTaken`, `AlreadyTold`, `MixedModes`, `BadError`, `Full`.
+    pub fn settle_range_with(
+        &mut self,
+        channel: u16,
+        first: u32,
+        last: u32,
+        reason: &Reason<'_>,
+    ) -> Result<u32, CallFault>
+        ensures { CallDone self.old self.new channel (SettleRangeWith first last (reason_of reason.now)) (named_by result) }
+    {
+        self.say_why(channel, Refusal::Deliveries { first, last }, reason)
+    }
+
+    /// Makes a refusal of a session, and writes the frame for it. Returns how many ready deliveries were dropped
+    /// with a link, or how many deliveries are named.
+    fn say_why(
+        &mut self,
+        channel: u16,
+        refusal: Refusal,
+        reason: &Reason<'_>,
+    ) -> Result<u32, CallFault>
+        ensures answered { CallAnswered self.old.connection self.new.connection self.old.unsent self.new.unsent channel (refused_of refusal (reason_of reason.now)) result }
+        ensures input { IsUnchanged self.old.input self.new.input }
+        ensures count { IfOk result (λ n. IsCounted (accepted_answer (slot_at self.old.connection channel) (refused_of refusal (reason_of reason.now))) n) }
+    {
+        reasons::refuse(
+            &mut self.connection,
+            &mut self.out,
+            channel,
+            refusal,
+            reason,
+        )
+    }
+
     /// Makes a request of a session, and writes the frame for it. Returns how many deliveries a settle names,
     /// or a detach drops.
     // Inlined for `telemetry` and `gateway` (docs/PERF.md).
@@ -456,6 +530,15 @@ impl<A: Allocator + Copy> Endpoint<A> {
     {
         open_call(&self.connection, &self.out)?;
         Ok(closing::close(&mut self.connection, &mut self.out))
+    }
+
+    /// Closes the connection, as [`Endpoint::close`] does, by a close with an error that it writes [2.7.9]. The
+    /// first fault is returned, and nothing has changed: `Dead`, `NotOpen`, `BadError`, `Full`.
+    pub fn close_with(&mut self, reason: &Reason<'_>) -> Result<u32, CallFault>
+        ensures { CloseWithDone self.old self.new (reason_of reason.now) (dropped_by result) }
+    {
+        close_with_call(&self.connection, &self.out, reason)?;
+        Ok(closing::close_with(&mut self.connection, &mut self.out, reason))
     }
 
     /// Writes an empty frame, which tells the peer that this side is there [2.4.5]. The first fault is
@@ -564,6 +647,24 @@ fn open_call<A: Allocator + Copy>(
     match connection.phase() {
         Phase::Dead | Phase::Closing => Err(CallFault::Dead),
         Phase::Unopened => Err(CallFault::NotOpen),
+        Phase::Open { .. } if out.has_room() => Ok(()),
+        Phase::Open { .. } => Err(CallFault::Full),
+    }
+}
+
+/// Returns why a close with an error would be refused, if it would be.
+fn close_with_call<A: Allocator + Copy>(
+    connection: &Connection<A>,
+    out: &Output<A>,
+    reason: &Reason<'_>,
+) -> Result<(), CallFault>
+    ensures ok { OnOk result (close_with_fault connection.now out.now (reason_of reason.now) ≡ None) }
+    ensures err { IfErr result (λ fault. close_with_fault connection.now out.now (reason_of reason.now) ≡ Some fault) }
+{
+    match connection.phase() {
+        Phase::Dead | Phase::Closing => Err(CallFault::Dead),
+        Phase::Unopened => Err(CallFault::NotOpen),
+        Phase::Open { .. } if !reason.is_valid() => Err(CallFault::BadError),
         Phase::Open { .. } if out.has_room() => Ok(()),
         Phase::Open { .. } => Err(CallFault::Full),
     }

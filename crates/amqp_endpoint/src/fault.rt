@@ -4,7 +4,7 @@ use thiserror::Error;
 /// Why the endpoint refuses a call of its application. Nothing has changed.
 ///
 /// The first fault is returned, in this order: `Dead`, `NotOpen`, `NoSession`, `NoLink`, `NoDelivery`,
-/// `NotTaken`, `AlreadyTold`, `MixedModes`, `NothingReady`, `TooMuchCredit`, `WindowTooWide`, `Full`.
+/// `NotTaken`, `AlreadyTold`, `MixedModes`, `NothingReady`, `TooMuchCredit`, `WindowTooWide`, `BadError`, `Full`.
 #[derive(Clone, Copy, Debug, PartialEq, Eq, Drop, Error)]
 pub enum CallFault {
     /// No session is live on the channel. One that this side has ended is not live.
@@ -44,4 +44,8 @@ pub enum CallFault {
     /// The connection is not open.
     #[error("the connection is not open")]
     NotOpen,
+    /// The condition of an error is not 1 to 64 printable characters of ASCII, or its description is not at most
+    /// 255 bytes of UTF-8 [2.8.14].
+    #[error("the condition is not 1 to 64 printable characters, or the description is not at most 255 bytes of UTF-8")]
+    BadError,
 }

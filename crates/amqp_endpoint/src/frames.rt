@@ -96,6 +96,15 @@ pub fn close(error: &[u8]) -> Performative<'_>
     Performative::Close(Close { error })
 }
 
+/// Makes a close with an error of the application, which is encoded already [2.7.9].
+pub fn close_with(error: &[u8]) -> Performative<'_>
+    requires { length error.now ≤ 335 }
+    ensures said { said result ≡ close_said error.now }
+    ensures short { said_most (said result) ≤ 400 }
+{
+    Performative::Close(Close { error })
+}
+
 /// Returns the encoded error of a condition [2.8.14].
 pub fn error(condition: Condition) -> &'static [u8]
     ensures value { result.now ≡ condition_span condition }

@@ -7,7 +7,7 @@
 //! writer and a sink.
 //!
 //! A frame goes through `endpoint`, `units` and `sessions` to `amqp_session`; `reports` makes an event of a
-//! report. A call goes through `requests` or `closing`, and `output` writes all frames. `specs/Lines.antt` has
+//! report. A call goes through `requests`, `reasons` or `closing`, and `output` writes all frames. `specs/Lines.antt` has
 //! what a unit results in, and `specs/Traces.antt` what holds for every run. The tests are in `test_layer_rows`
 //! and `test_endpoint`.
 #![tactic(auto)]
@@ -26,6 +26,7 @@ mod limits;
 mod opening;
 mod output;
 mod phase;
+mod reasons;
 mod replays;
 mod reports;
 mod requests;

@@ -42,6 +42,8 @@ fn is_in_range(call: &Call<'_>)
         Call::Feed(piece) => are_bytes(piece),
         Call::Settle { id, .. } => is_id(id),
         Call::SettleRange { first, last, .. } => are_ids(first, last),
+        Call::SettleWith { id, .. } => is_id(id),
+        Call::SettleRangeWith { first, last, .. } => are_ids(first, last),
         _ => {}
     }
 }
@@ -80,7 +82,24 @@ impl<A: Allocator + Copy> Endpoint<A> {
                 outcome,
             } => named(self.settle_range(channel, first, last, outcome)),
             Call::Detach { channel, handle } => dropped(self.detach(channel, handle)),
+            Call::Refuse {
+                channel,
+                handle,
+                reason,
+            } => dropped(self.refuse(channel, handle, &reason)),
+            Call::SettleWith {
+                channel,
+                id,
+                reason,
+            } => accepted(self.settle_with(channel, id, &reason)),
+            Call::SettleRangeWith {
+                channel,
+                first,
+                last,
+                reason,
+            } => named(self.settle_range_with(channel, first, last, &reason)),
             Call::Close => dropped(self.close()),
+            Call::CloseWith(reason) => dropped(self.close_with(&reason)),
             Call::Heartbeat => accepted(self.heartbeat()),
             Call::Output(room) => Answer::MovedOut(self.output_to_vec(alloc, room)?),
             Call::Held => Answer::Holds(self.held()),

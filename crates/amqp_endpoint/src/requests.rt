@@ -78,7 +78,7 @@ pub fn take<A: Allocator + Copy>(
 }
 
 /// Returns whether any call for a session is refused: the connection is over, or this side has closed it.
-fn takes_no_call<A: Allocator + Copy>(connection: &Connection<A>) -> bool
+pub fn takes_no_call<A: Allocator + Copy>(connection: &Connection<A>) -> bool
     ensures { result ≡ (is_dead connection.now.phase || is_closing connection.now.phase) }
 {
     matches!(connection.phase(), Phase::Closing | Phase::Dead)
@@ -203,7 +203,7 @@ impl Request {
 }
 
 /// Returns the endpoint's fault for a fault of its session.
-fn fault_of(fault: SessionCallFault) -> CallFault
+pub fn fault_of(fault: SessionCallFault) -> CallFault
     ensures { result ≡ fault_of_session fault }
 {
     match fault {
@@ -215,5 +215,6 @@ fn fault_of(fault: SessionCallFault) -> CallFault
         SessionCallFault::NothingReady => CallFault::NothingReady,
         SessionCallFault::TooMuchCredit => CallFault::TooMuchCredit,
         SessionCallFault::WindowTooWide => CallFault::WindowTooWide,
+        SessionCallFault::BadError => CallFault::BadError,
     }
 }

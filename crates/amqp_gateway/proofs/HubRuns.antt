@@ -9,13 +9,19 @@ use Rattle.amqp_serve.specs.declared.rules.Rule.{Rule}
 use Rattle.amqp_serve.specs.declared.steps.Stepped.{Stepped}
 use Rattle.amqp_serve.specs.Servers.{status_after}
 use Rattle.amqp_hub.specs.declared.keeper.Keeper.{Ghosts}
+use Rattle.amqp_hub.specs.declared.fault.AskFault.{AskFault}
+use Rattle.amqp_hub.specs.declared.fault.AskFault.TheVariants as asking
+use Rattle.amqp_hub.specs.Links.{AskRefused, IsAskedAt, IsToppedUpAt}
+use Rattle.amqp_reason.specs.Reasons.{Reason}
+use Rattle.amqp_session.specs.Calls as session
+use Rattle.amqp_session.specs.Calls.{Grant, Refuse}
 use Rattle.amqp_hub.specs.declared.fault.HubFault.{HubFault}
 use Rattle.amqp_hub.specs.declared.keeper.Progress.{Progress}
 use Rattle.amqp_endpoint.specs.Calls.{heartbeat}
 use Rattle.amqp_hub.specs.declared.fault.HubFault.TheVariants as fault
 use Rattle.amqp_hub.specs.Members.{MemberState, hear_fault, beat_fault, end_fault, close_fault}
 use Rattle.amqp_hub.specs.Turns.{HubState, SameSlot, AreSame, AreAlike, IsOpened, HearsTo, IsRuledAt, IsDueAt, SendsAt, IsBeatAt, IsEndedAt, IsClosedAt, IsGone, IsLentBy, OpenRefused, HearRefusedBy, refusal_at}
-use Rattle.amqp_gateway.specs.HubCalls.{HubCall, Opened, Heard, Ruled, MadeRoom, Settled, Sent, Beaten, Ended, Closed, Removed, Refused, IsStill, Does, Ran, Went, parts, takes, tells}
+use Rattle.amqp_gateway.specs.HubCalls.{HubCall, Opened, Heard, Ruled, MadeRoom, Settled, Sent, Beaten, Ended, Closed, Removed, Refused, LinkRefused, ToppedUp, Silenced, IsStill, Does, Ran, Went, parts, takes, tells}
 
 -- Lists. --------------------------------------------------------------------------------------------------------------
 
@@ -50,6 +56,9 @@ takes_parts (Ended key) e = refl
 takes_parts (Closed key) e = e
 takes_parts (Removed key) e = refl
 takes_parts Refused e = refl
+takes_parts (LinkRefused key channel handle) e = refl
+takes_parts (ToppedUp key channel handle) e = refl
+takes_parts (Silenced key) e = refl
 
 tells_parts : (x : HubCall) → parts x ≡ true → tells x ≡ true
 tells_parts (Opened key number) e = e
@@ -63,6 +72,9 @@ tells_parts (Ended key) e = e
 tells_parts (Closed key) e = refl
 tells_parts (Removed key) e = refl
 tells_parts Refused e = refl
+tells_parts (LinkRefused key channel handle) e = e
+tells_parts (ToppedUp key channel handle) e = e
+tells_parts (Silenced key) e = e
 
 pub as_takes : {K : Type 0} (k : Ghosts K) (a b : HubState K) → Went k parts a b → Went k takes a b
 as_takes k = wider k parts takes takes_parts
@@ -144,3 +156,21 @@ hears_or_not k key piece (Err f) a b limit room heard none = was_refused k takes
 
 pub makes_room : {K : Type 0} (k : Ghosts K) (p : Progress) (a b : HubState K) → b.limit ≡ a.limit → b.members ≡ a.members → k.makes_room a.keeper p b.keeper → Went k takes a b
 makes_room k p a b limit members room = went_one k takes MadeRoom a b refl (limit, members, (p, room))
+
+-- What was asked for a link was done, or was refused.
+module _ {K : Type 0} (k : Ghosts K) (a b : HubState K) (limit : b.limit ≡ a.limit) (keeper : b.keeper ≡ a.keeper) where
+  asked_not : (f : AskFault) (key channel : ℕ) (c : session.Call) → AskRefused f a.members b.members key channel c → Went k takes a b
+  asked_not asking.NoKey key channel c x = was_refused k takes a b limit keeper refl x.0
+  asked_not asking.Over key channel c x = was_refused k takes a b limit keeper refl x.0
+  asked_not (asking.Call f) key channel c x = was_refused k takes a b limit keeper refl x.0
+  asked_not asking.NoMemory key channel c x = went_one k takes (Silenced key) a b refl (still k takes a b limit keeper, (channel, c, x))
+
+  pub refuses_link : (key channel handle : ℕ) (why : Reason) (r : Result (Unit {0}) AskFault) → OnOk r (IsAskedAt a.members b.members key channel (Refuse handle why))
+      → IfErr r (λ f. AskRefused f a.members b.members key channel (Refuse handle why)) → Went k takes a b
+  refuses_link key channel handle why (Ok u) asked none = went_one k takes (LinkRefused key channel handle) a b refl (still k takes a b limit keeper, (why, asked))
+  refuses_link key channel handle why (Err f) asked none = asked_not f key channel (Refuse handle why) none
+
+  pub tops_up : (key channel handle most lacking : ℕ) (r : Result ℕ AskFault) → IfOk r (λ n. IsToppedUpAt a.members b.members key channel handle most n)
+      → IfErr r (λ f. AskRefused f a.members b.members key channel (Grant handle lacking)) → Went k takes a b
+  tops_up key channel handle most lacking (Ok n) topped none = went_one k takes (ToppedUp key channel handle) a b refl (still k takes a b limit keeper, (most, n, topped))
+  tops_up key channel handle most lacking (Err f) topped none = asked_not f key channel (Grant handle lacking) none

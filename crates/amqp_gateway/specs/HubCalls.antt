@@ -8,6 +8,10 @@ use Rattle.amqp_serve.specs.declared.rules.Rule.{Rule}
 use Rattle.amqp_serve.specs.declared.steps.Stepped.{Stepped}
 use Rattle.amqp_serve.specs.Servers.{status_after}
 use Rattle.amqp_hub.specs.declared.keeper.Progress.{Progress}
+use Rattle.amqp_hub.specs.Links.{IsAskedAt, IsSilencedAt, IsToppedUpAt}
+use Rattle.amqp_reason.specs.Reasons.{Reason}
+use Rattle.amqp_session.specs.Calls as session
+use Rattle.amqp_session.specs.Calls.{Refuse}
 use Rattle.amqp_hub.specs.declared.keeper.Keeper.{Ghosts}
 use Rattle.amqp_hub.specs.Turns.{HubState, IsOpened, HearsTo, IsRuledAt, IsDueAt, SendsAt, IsBeatAt, IsEndedAt, IsClosedAt, IsGone, AreAlike}
 use Rattle.amqp_gateway.specs.declared.gateway.GatewayFault.{GatewayFault}
@@ -25,6 +29,9 @@ pub data HubCall : Type 0 where
   Closed : ℕ → HubCall  -- the connection under this key was closed by this side
   Removed : ℕ → HubCall  -- the connection under this key was removed
   Refused : HubCall  -- a call was refused
+  LinkRefused : ℕ → ℕ → ℕ → HubCall  -- the link at a channel and handle of the connection under this key was refused
+  ToppedUp : ℕ → ℕ → ℕ → HubCall  -- it got what it lacked of some credit
+  Silenced : ℕ → HubCall  -- memory was refused for the answer to such a call, and the connection under this key hears nothing any more
 
 -- as many connections may be open, and the records are as they were
 pub record IsStill {K : Type 0} (old new : HubState K) : Type 0 where
@@ -45,6 +52,9 @@ Does k (Ended key) old new = IsStill old new × ((how : End) × IsEndedAt old.me
 Does k (Closed key) old new = IsStill old new × IsClosedAt old.members new.members key
 Does k (Removed key) old new = IsStill old new × IsGone old.members new.members key
 Does k Refused old new = IsStill old new × AreAlike old.members new.members
+Does k (LinkRefused key channel handle) old new = IsStill old new × ((r : Reason) × IsAskedAt old.members new.members key channel (Refuse handle r))
+Does k (ToppedUp key channel handle) old new = IsStill old new × ((most n : ℕ) × IsToppedUpAt old.members new.members key channel handle most n)
+Does k (Silenced key) old new = IsStill old new × ((channel : ℕ) × (c : session.Call) × IsSilencedAt old.members new.members key channel c)
 
 -- these calls were made, one after the other, and no other
 abbrev pub Ran : {K : Type 0} → Ghosts K → List HubCall → HubState K → HubState K → Type 0
@@ -72,6 +82,9 @@ takes MadeRoom = true
 takes (Ended key) = true
 takes (Removed key) = true
 takes Refused = true
+takes (LinkRefused key channel handle) = true
+takes (ToppedUp key channel handle) = true
+takes (Silenced key) = true
 takes x = false
 
 -- what comes after it: bytes are sent, empty frames requested, connections closed

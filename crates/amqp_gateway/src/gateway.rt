@@ -6,6 +6,7 @@ ghost use Rattle.amqp_hub.specs.Turns.{all_held};
 ghost use Rattle.amqp_gateway.specs.Gateways.{IsNewGateway, IsStopping, IsGoneOn, IsTurned, IsPlaced, LeavesNone, MayOpen, is_done, is_last};
 ghost use Rattle.amqp_gateway.specs.HubCalls.{Went, HasAnswered, IsTurnOf, takes, tells};
 
+use crate::admission::{Admission, Unasked};
 use crate::counts::Counts;
 use crate::ending::Ending;
 use crate::held_up::HeldUp;
@@ -72,7 +73,7 @@ impl From<AllocError> for GatewayFault {
 
 /// Many peers, served in turn.
 #[derive(Drop)]
-pub struct Gateway<K: Keeper + Drop, W: Watcher + Drop> {
+pub struct Gateway<K: Keeper + Drop, W: Watcher + Drop, D: Admission + Drop = Unasked> {
     alloc: Global,
     settings: Settings,
     config: Config,
@@ -82,13 +83,11 @@ pub struct Gateway<K: Keeper + Drop, W: Watcher + Drop> {
     listener: TcpListener,
     may_accept: bool,
     peers: Slab<Peer>,
-    desk: Desk<K, W>,
+    desk: Desk<K, W, D>,
     /// Whether records wait for the keeper, so that no peer is heard.
     is_stuck: bool,
     /// Whether the keeper has no room for another record, so that no peer is heard.
     is_full: bool,
-    /// Whether links get credit.
-    grants: bool,
     piece: Vec<u8>,
     now: Vec<usize>,
     next: Vec<usize>,
@@ -99,7 +98,7 @@ pub struct Gateway<K: Keeper + Drop, W: Watcher + Drop> {
     stopped: Option<u64>,
 }
 
-impl<K: Keeper + Drop, W: Watcher + Drop> Model for Gateway<K, W> {
+impl<K: Keeper + Drop, W: Watcher + Drop, D: Admission + Drop> Model for Gateway<K, W, D> {
     ghost use Rattle.std.specs.Prelude.{◌≡◌, false};
     ghost use Rattle.slab.specs.Slab.{slab_len};
     ghost use Rattle.amqp_gateway.specs.Gateways.{GatewayState};
@@ -129,6 +128,32 @@ impl<K: Keeper + Drop, W: Watcher + Drop> Gateway<K, W> {
     ) -> Result<Gateway<K, W>, GatewayFault>
         ensures { IfOk result (λ gateway. IsNewGateway settings keeper gateway) }
     {
+        Gateway::admitting(
+            rt, listener, config, rule, settings, keeper, watcher, Unasked, now,
+        )
+    }
+}
+
+impl<K: Keeper + Drop, W: Watcher + Drop, D: Admission + Drop> Gateway<K, W, D> {
+    /// Makes a gateway as [`Gateway::new`] does, whose admission says which links get credit and how much, in place of the
+    /// rule. If it is not asked, the rule does.
+    ///
+    /// # Errors
+    ///
+    /// `Poll` if the system can't watch the listener, and `NoMemory` if memory is refused.
+    pub fn admitting<R: Net + AllocGlobal>(
+        rt: &R,
+        listener: TcpListener,
+        config: Config,
+        rule: Rule,
+        settings: Settings,
+        keeper: K,
+        watcher: W,
+        admission: D,
+        now: u64,
+    ) -> Result<Gateway<K, W, D>, GatewayFault>
+        ensures { IfOk result (λ gateway. IsNewGateway settings keeper gateway) }
+    {
         let alloc = rt.alloc();
         let Ok(poll) = Poll::new(rt) else {
             return Err(GatewayFault::Poll);
@@ -154,11 +179,12 @@ impl<K: Keeper + Drop, W: Watcher + Drop> Gateway<K, W> {
             desk: Desk {
                 hub: Hub::new(alloc, settings.peers, keeper),
                 watcher,
+                admission,
                 counts: Counts::NONE,
+                grants: true,
             },
             is_stuck: false,
             is_full: false,
-            grants: true,
             piece: Vec::from_elem(alloc, 0, PIECE)?,
             now: Vec::with_capacity(alloc, settings.peers)?,
             next: Vec::with_capacity(alloc, settings.peers)?,
@@ -252,7 +278,7 @@ impl<K: Keeper + Drop, W: Watcher + Drop> Gateway<K, W> {
             Some(HeldUp::Records)
         } else if self.is_full {
             Some(HeldUp::Peers)
-        } else if !self.grants {
+        } else if !self.desk.grants {
             Some(HeldUp::Credit)
         } else {
             None
@@ -346,10 +372,10 @@ impl<K: Keeper + Drop, W: Watcher + Drop> Gateway<K, W> {
     {
         self.is_full = self.desk.hub.make_room() != Progress::Out;
         let grants = self.desk.hub.keeper().may_grant();
-        if grants == self.grants {
+        if grants == self.desk.grants {
             return Ok(());
         }
-        self.grants = grants;
+        self.desk.grants = grants;
         self.follow_all()
     }
 
@@ -380,23 +406,20 @@ impl<K: Keeper + Drop, W: Watcher + Drop> Gateway<K, W> {
         let Some(peer) = self.peers.get_mut(at) else {
             return Ok(());
         };
-        peer.follow(&mut self.desk.hub, rule);
+        peer.follow(&mut self.desk.hub, rule, self.desk.grants);
         if peer.queue() {
             put(&mut self.next, at)?;
         }
         Ok(())
     }
 
-    /// Returns the rule by which peers are served now: without credit if there is no room for it.
+    /// Returns the rule by which peers are served now: without credit if there is no room for it, or an admission is
+    /// asked first.
     fn rule_of_now(&self) -> Rule {
-        if self.grants {
+        if self.desk.grants && !self.desk.admission.asks() {
             self.rule
         } else {
-            Rule {
-                credit: 0,
-                mark: 0,
-                ..self.rule
-            }
+            Rule::without_credit(self.rule.outcome)
         }
     }
 

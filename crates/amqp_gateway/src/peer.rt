@@ -7,13 +7,15 @@ ghost use Rattle.amqp_endpoint.specs.Replies.{joined};
 ghost use Rattle.amqp_hub.specs.Turns.{answers_of};
 ghost use Rattle.amqp_gateway.specs.HubCalls.{Went, parts, takes, tells};
 
+use crate::admission::{Admission, Verdict};
 use crate::counts::Counts;
 use crate::ending::Ending;
 use crate::passed::Passed;
 use crate::watcher::Watcher;
 use amqp_endpoint::{End, Endpoint, Event, Outcome, Scope};
-use amqp_hub::{Hub, HubFault, Keeper};
+use amqp_hub::{AskFault, Hub, HubFault, Keeper};
 use amqp_perform::Condition;
+use amqp_reason::Reason;
 use amqp_serve::{Rule, ServeFault, Stepped};
 use mio::event::Event as Ready;
 use mio::net::TcpStream;
@@ -58,10 +60,13 @@ pub enum Came {
 
 /// Where what peers bring goes.
 #[derive(Drop)]
-pub struct Desk<K: Keeper + Drop, W: Watcher + Drop> {
+pub struct Desk<K: Keeper + Drop, W: Watcher + Drop, D: Admission + Drop> {
     pub hub: Hub<K>,
     pub watcher: W,
+    pub admission: D,
     pub counts: Counts,
+    /// Whether links get credit.
+    pub grants: bool,
 }
 
 /// How a peer is between two calls.
@@ -88,7 +93,7 @@ pub struct Peer {
     phase: Phase,
     /// What came and was not heard, since memory was refused, or too many units came or answers wait.
     unheard: Vec<u8>,
-    /// Whether it is to make a step though nothing came, since it is served by a rule that grants credit again.
+    /// Whether it is to make a step though nothing came, since its links may get credit again.
     is_due: bool,
     is_queued: bool,
     is_readable: bool,
@@ -158,15 +163,16 @@ impl Peer {
         (self.owed as u64).saturating_add(self.unheard.len() as u64)
     }
 
-    /// Has it served by another rule from its next step on. If that grants credit it makes one though nothing comes.
+    /// Has it served by another rule from its next step on. If its links may get credit again (`grants`) it makes one
+    /// though nothing comes.
     #[tactic(auto, using(crate::proofs::HubRuns::went_none))]
-    pub fn follow<K: Keeper + Drop>(&mut self, hub: &mut Hub<K>, rule: Rule)
+    pub fn follow<K: Keeper + Drop>(&mut self, hub: &mut Hub<K>, rule: Rule, grants: bool)
         ensures keeper { hub.new.keeper ≡ hub.old.keeper }
         ensures ran { Went K.Keeper takes hub.old hub.new }
     {
         if let Some(key) = self.key {
             let _ = hub.rule(key, rule);
-            self.is_due = rule.credit > 0;
+            self.is_due = grants;
         }
     }
 
@@ -274,11 +280,11 @@ impl Peer {
 
     /// Lets the hub hear what was kept, if anything was and it may be heard.
     #[tactic(auto, using(crate::proofs::HubRuns::went_none))]
-    pub fn hear_again<K: Keeper + Drop, W: Watcher + Drop>(
+    pub fn hear_again<K: Keeper + Drop, W: Watcher + Drop, D: Admission + Drop>(
         &mut self,
         alloc: Global,
         now: u64,
-        desk: &mut Desk<K, W>,
+        desk: &mut Desk<K, W, D>,
         rt: &impl Eprint,
     )
         ensures accepted { desk.new.counts.accepted ≡ desk.old.counts.accepted }
@@ -296,10 +302,10 @@ impl Peer {
     /// Lets the hub hear what came, unit by unit: at most [`UNITS`], and none once so much waits for the peer that
     /// its socket has to take it first. The rest is kept.
     #[tactic(auto, using(crate::proofs::HubRuns::went_none))]
-    pub fn hear<K: Keeper + Drop, W: Watcher + Drop>(
+    pub fn hear<K: Keeper + Drop, W: Watcher + Drop, D: Admission + Drop>(
         &mut self,
         bytes: &[u8],
-        desk: &mut Desk<K, W>,
+        desk: &mut Desk<K, W, D>,
         rt: &impl Eprint,
     )
         ensures accepted { desk.new.counts.accepted ≡ desk.old.counts.accepted }
@@ -316,7 +322,6 @@ impl Peer {
             let waited = desk.hub.answers(key).len();
             match desk.hub.hear(key, rest) {
                 Ok(stepped) => {
-                    self.is_due = false;
                     let taken = rest.get(..stepped.used).unwrap_or(&[]);
                     rest = rest.get(stepped.used..).unwrap_or(&[]);
                     if !self.go_on(key, taken, waited, &stepped, desk, rt) {
@@ -337,18 +342,19 @@ impl Peer {
     /// Goes on after a step that took these bytes, before which so many bytes of answers waited. Returns `false` if no
     /// more is to be heard now.
     #[tactic(auto, using(crate::proofs::HubRuns::went_none, crate::proofs::HubRuns::as_takes))]
-    fn go_on<K: Keeper + Drop, W: Watcher + Drop>(
+    fn go_on<K: Keeper + Drop, W: Watcher + Drop, D: Admission + Drop>(
         &mut self,
         key: usize,
         taken: &[u8],
         waited: usize,
         stepped: &Stepped,
-        desk: &mut Desk<K, W>,
+        desk: &mut Desk<K, W, D>,
         rt: &impl Eprint,
     ) -> bool
         ensures accepted { desk.new.counts.accepted ≡ desk.old.counts.accepted }
         ensures ran { Went K.Keeper takes desk.old.hub desk.new.hub }
     {
+        let is_due = mem::replace(&mut self.is_due, false);
         if let Err(ServeFault::Read | ServeFault::Write | ServeFault::Sink) = stepped.done {
             self.key = None; // the hub has removed it
             self.give_up(&mut desk.hub, Ending::NoMemory);
@@ -367,7 +373,128 @@ impl Peer {
             self.finish(&mut desk.hub);
             return false;
         }
+        !desk.admission.asks() || self.admit(key, stepped.told, is_due, desk, rt)
+    }
+
+    /// Asks what becomes of the links that may lack credit after a step that told this, or of all if it is due: no step
+    /// gives them credit. Returns `false` if no more is to be heard now.
+    #[tactic(auto, using(crate::proofs::HubRuns::went_none))]
+    fn admit<K: Keeper + Drop, W: Watcher + Drop, D: Admission + Drop>(
+        &mut self,
+        key: usize,
+        told: Outcome,
+        is_due: bool,
+        desk: &mut Desk<K, W, D>,
+        rt: &impl Eprint,
+    ) -> bool
+        ensures accepted { desk.new.counts.accepted ≡ desk.old.counts.accepted }
+        ensures ran { Went K.Keeper takes desk.old.hub desk.new.hub }
+    {
+        match look_behind(told, is_due, key, &desk.hub) {
+            Look::Nothing => true,
+            Look::Link { channel, handle } => self.admit_link(key, channel, handle, desk, rt),
+            Look::Sessions { first, last } => self.admit_links(key, first, last, desk, rt),
+        }
+    }
+
+    /// Asks what becomes of each link on these channels that may be granted credit. Returns `false` if no more is to be
+    /// heard now.
+    #[tactic(auto, using(crate::proofs::HubRuns::went_none))]
+    fn admit_links<K: Keeper + Drop, W: Watcher + Drop, D: Admission + Drop>(
+        &mut self,
+        key: usize,
+        first: u16,
+        last: u16,
+        desk: &mut Desk<K, W, D>,
+        rt: &impl Eprint,
+    ) -> bool
+        ensures accepted { desk.new.counts.accepted ≡ desk.old.counts.accepted }
+        ensures ran { Went K.Keeper takes desk.old.hub desk.new.hub }
+    {
+        let mut from = (first, 0);
+        for _ in 0..u64::MAX {
+            let Some((channel, handle)) = next_link(key, from, last, &desk.hub) else {
+                break;
+            };
+            if !self.admit_link(key, channel, handle, desk, rt) {
+                return false;
+            }
+            from = (channel, handle.saturating_add(1));
+        }
         true
+    }
+
+    /// Asks what becomes of a link, and has the hub do so. Returns `false` if no more is to be heard now.
+    #[tactic(auto, using(crate::proofs::HubRuns::went_none))]
+    fn admit_link<K: Keeper + Drop, W: Watcher + Drop, D: Admission + Drop>(
+        &mut self,
+        key: usize,
+        channel: u16,
+        handle: u32,
+        desk: &mut Desk<K, W, D>,
+        rt: &impl Eprint,
+    ) -> bool
+        ensures accepted { desk.new.counts.accepted ≡ desk.old.counts.accepted }
+        ensures ran { Went K.Keeper takes desk.old.hub desk.new.hub }
+    {
+        let Some(verdict) = verdict_on(&mut desk.admission, key, channel, handle, &desk.hub) else {
+            return true;
+        };
+        let waited = desk.hub.answers(key).len();
+        let grants = desk.grants;
+        let asked = self.obey(&mut desk.hub, key, channel, handle, &verdict, grants, rt);
+        if let Err(AskFault::NoMemory) = asked {
+            self.give_up(&mut desk.hub, Ending::NoMemory);
+            return false;
+        }
+        let answers = answers_after(&desk.hub, key, waited);
+        if !answers.is_empty() {
+            desk.watcher.said(self.at, answers);
+        }
+        true
+    }
+
+    /// Has the hub do what was said of a link.
+    #[tactic(auto, using(crate::proofs::HubRuns::went_none))]
+    fn obey<K: Keeper + Drop>(
+        &mut self,
+        hub: &mut Hub<K>,
+        key: usize,
+        channel: u16,
+        handle: u32,
+        verdict: &Verdict<'_>,
+        grants: bool,
+        rt: &impl Eprint,
+    ) -> Result<(), AskFault>
+        ensures keeper { hub.new.keeper ≡ hub.old.keeper }
+        ensures ran { Went K.Keeper takes hub.old hub.new }
+    {
+        match verdict {
+            Verdict::Admit { most } if grants => top_up(hub, key, channel, handle, *most),
+            Verdict::Admit { .. } => Ok(()),
+            Verdict::Refuse(reason) => self.refuse(hub, key, channel, handle, reason, rt),
+        }
+    }
+
+    /// Refuses a link, and reports that on standard error.
+    #[tactic(auto, using(crate::proofs::HubRuns::went_none))]
+    fn refuse<K: Keeper + Drop>(
+        &mut self,
+        hub: &mut Hub<K>,
+        key: usize,
+        channel: u16,
+        handle: u32,
+        reason: &Reason<'_>,
+        rt: &impl Eprint,
+    ) -> Result<(), AskFault>
+        ensures keeper { hub.new.keeper ≡ hub.old.keeper }
+        ensures ran { Went K.Keeper takes hub.old hub.new }
+    {
+        let refused = hub.refuse(key, channel, handle, reason);
+        if refused.is_ok() {
+            self.tell_refusal(channel, handle, reason, rt);
+        }
+        refused
     }
 
     /// Keeps what is to be heard later, unless it has ended.
@@ -416,6 +543,29 @@ impl Peer {
             }
             Scope::Link { channel, handle } => {
                 eprintln!(rt; "connection {number}: link {channel} {handle} ended with {name}")
+            }
+        };
+    }
+
+    /// Reports that a link was refused, or that no more of what is ended is reported.
+    fn tell_refusal(&mut self, channel: u16, handle: u32, reason: &Reason<'_>, rt: &impl Eprint) {
+        if self.told > MOST_TOLD {
+            return;
+        }
+        self.told = self.told.saturating_add(1);
+        let number = self.number;
+        let name = str::from_utf8(reason.condition).unwrap_or("");
+        let _ = match text_of(reason) {
+            _ if self.told > MOST_TOLD => {
+                eprintln!(rt; "connection {number}: what else is ended is not told")
+            }
+            Some(text) => {
+                eprintln!(rt;
+                    "connection {number}: link {channel} {handle} refused with {name}: {text:?}"
+                )
+            }
+            None => {
+                eprintln!(rt; "connection {number}: link {channel} {handle} refused with {name}")
             }
         };
     }
@@ -688,6 +838,96 @@ impl Peer {
     }
 }
 
+/// Which links may lack credit.
+#[derive(Clone, Copy)]
+enum Look {
+    Nothing,
+    Link { channel: u16, handle: u32 },
+    /// Those of the sessions on these channels.
+    Sessions { first: u16, last: u16 },
+}
+
+/// Returns which links of the connection under a key may lack credit after a step that told this. If it is due, that is
+/// all.
+fn look_behind<K: Keeper + Drop>(told: Outcome, is_due: bool, key: usize, hub: &Hub<K>) -> Look {
+    let Some(endpoint) = hub.endpoint(key) else {
+        return Look::Nothing;
+    };
+    let all = Look::Sessions {
+        first: 0,
+        last: endpoint.config().channel_max() as u16,
+    };
+    match told {
+        _ if is_due => all,
+        Outcome::Event(
+            Event::Attached { channel, handle }
+            | Event::Unfinished { channel, handle }
+            | Event::Ready { channel, handle }
+            | Event::Aborted { channel, handle }
+            | Event::Drained { channel, handle },
+        ) => Look::Link { channel, handle },
+        Outcome::Event(Event::Settled { channel, .. }) => Look::Sessions {
+            first: channel,
+            last: channel,
+        },
+        // a flow may say that the sender has used up credit
+        Outcome::More if endpoint.is_between() => all,
+        _ => Look::Nothing,
+    }
+}
+
+/// Returns the first link, from a channel and handle on up to the last channel, that can be granted more credit.
+fn next_link<K: Keeper + Drop>(
+    key: usize,
+    from: (u16, u32),
+    last: u16,
+    hub: &Hub<K>,
+) -> Option<(u16, u32)> {
+    let endpoint = hub.endpoint(key)?;
+    let (first, mut handle) = from;
+    for channel in first..=last {
+        if let Some(next) = endpoint.first_lacking(channel, handle, u32::MAX) {
+            return Some((channel, next));
+        }
+        handle = 0;
+    }
+    None
+}
+
+/// Asks an admission what becomes of a link of the connection under a key; `None` if there is no such link.
+fn verdict_on<'a, K: Keeper + Drop, D: Admission>(
+    admission: &'a mut D,
+    key: usize,
+    channel: u16,
+    handle: u32,
+    hub: &Hub<K>,
+) -> Option<Verdict<'a>> {
+    let endpoint = hub.endpoint(key)?;
+    // Not by `?`, of which nothing is proved if the value borrows.
+    match endpoint.link(channel, handle) {
+        Some(_) => Some(admission.verdict(endpoint, channel, handle)),
+        None => None,
+    }
+}
+
+/// Gives a link of the connection under a key what it lacks of `most` credit.
+#[tactic(auto, using(crate::proofs::HubRuns::went_none))]
+fn top_up<K: Keeper + Drop>(
+    hub: &mut Hub<K>,
+    key: usize,
+    channel: u16,
+    handle: u32,
+    most: u32,
+) -> Result<(), AskFault>
+    ensures keeper { hub.new.keeper ≡ hub.old.keeper }
+    ensures ran { Went K.Keeper takes hub.old hub.new }
+{
+    match hub.top_up_link(key, channel, handle, most) {
+        Ok(_) => Ok(()),
+        Err(fault) => Err(fault),
+    }
+}
+
 /// Returns the answers that wait for the peer under a key, after the first `waited` bytes of them.
 fn answers_after<K: Keeper + Drop>(hub: &Hub<K>, key: usize, waited: usize) -> &[u8]
     ensures { result.now ≡ drop waited (answers_of (get hub.now.members key)) }
@@ -700,4 +940,12 @@ fn close_frame() -> [u8; 12]
     ensures { result ≡ joined close_call_spoken }
 {
     [0, 0, 0, 12, 2, 0, 0, 0, 0, 0x53, 0x18, 0x45]
+}
+
+/// Returns the description of a reason, if it has one.
+fn text_of<'a>(reason: &Reason<'a>) -> Option<&'a str> {
+    match reason.description {
+        Some(text) => str::from_utf8(text).ok(),
+        None => None,
+    }
 }

@@ -1,4 +1,5 @@
 mod Asked
+mod LinkCalls
 mod Livings
 mod Numbers
 mod Putting

@@ -1,5 +1,6 @@
 //! Why a call is refused.
-use amqp_serve::ServerFault;
+use amqp_endpoint::CallFault;
+use amqp_serve::{LinkFault, ServerFault};
 use thiserror::Error;
 
 /// Why a call of a hub is refused. Nothing has changed then, of this connection or of any other.
@@ -44,6 +45,39 @@ impl From<ServerFault> for HubFault {
             ServerFault::NotOpen => HubFault::NotOpen,
             ServerFault::Over => HubFault::Over,
             ServerFault::Starved => HubFault::Starved,
+        }
+    }
+}
+
+/// Why what is asked for a link of a connection is not done.
+#[derive(Clone, Copy, Debug, PartialEq, Eq, Drop, Error)]
+pub enum AskFault {
+    /// There is no connection under that key. Nothing has changed.
+    #[error("there is no such connection")]
+    NoKey,
+    /// The connection hears nothing any more: its input has ended, or this side has closed it. Nothing has changed.
+    #[error("the connection is over")]
+    Over,
+    /// The endpoint refuses the call. Nothing that counts has changed.
+    #[error("{0}")]
+    Call(CallFault),
+    /// Memory was refused for the answer. The call was made. The connection hears nothing any more, and stays for what
+    /// waits for its peer.
+    #[error("memory was refused")]
+    NoMemory,
+}
+
+impl From<LinkFault> for AskFault {
+    ghost use Rattle.std.specs.Prelude.{◌≡◌};
+    ghost use Rattle.amqp_hub.specs.Links.{ask_fault_of};
+
+    ghost from_gives = { λ f e. e ≡ ask_fault_of f };
+
+    fn from(fault: LinkFault) -> AskFault {
+        match fault {
+            LinkFault::Over => AskFault::Over,
+            LinkFault::Call(fault) => AskFault::Call(fault),
+            LinkFault::Lost(_) => AskFault::NoMemory,
         }
     }
 }

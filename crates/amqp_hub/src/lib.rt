@@ -25,7 +25,7 @@ mod replays;
 mod servers;
 mod turn;
 
-pub use fault::HubFault;
+pub use fault::{AskFault, HubFault};
 pub use hub::Hub;
 pub use keeper::{Keeper, Origin, Progress};
 pub use ledger::{Ledger, Record};

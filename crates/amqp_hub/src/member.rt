@@ -2,14 +2,18 @@
 ghost use Rattle.std.specs.Prelude.{◌≡◌, ◌≤◌, ◌<◌, ◌++◌, ◌^◌, ◌-◌, [], ℕ, List, length, min, None, Some, IsTrue, IfOk, IfErr, OnOk};
 ghost use Rattle.amqp_frame.specs.Devices.{device_inner, has_failed};
 ghost use Rattle.amqp_endpoint.specs.Calls.{heartbeat};
+ghost use Rattle.amqp_reason.specs.Reasons.{reason_of};
+ghost use Rattle.amqp_session.specs.Calls.{Refuse};
 ghost use Rattle.amqp_serve.specs.Noting.{stepped_by};
 ghost use Rattle.amqp_serve.specs.Servers.{waiting};
+ghost use Rattle.amqp_hub.specs.Links.{Asks, TopsUp};
 ghost use Rattle.amqp_hub.specs.Members.{unsent_of, member_held, hear_fault, beat_fault, end_fault, close_fault, IsNew, IsHeard, IsSame, IsSent, IsFinishedSo, IsClosed};
 
-use crate::HubFault;
 use crate::answers::Answers;
+use crate::{AskFault, HubFault};
 use amqp_endpoint::{Config, End, Endpoint, Fed};
 use amqp_frame::Device;
+use amqp_reason::Reason;
 use amqp_serve::{Note, Rule, ServeFault, Server, Status};
 use std::alloc::{AllocError, Allocator, Global};
 use std::io::Write;
@@ -110,6 +114,49 @@ impl<A: Allocator + Copy> Member<A> {
             .step_into(self.rule, piece, note, &mut writer, sink);
         self.waiting = writer.into_inner().into_bytes();
         (fed, end)
+    }
+
+    /// Refuses a link with an error [2.6.5]. The detach that says so waits after the answers that did. Returns `Over` if
+    /// it hears nothing any more, `Call` if its endpoint refuses the call, and `NoMemory` if memory is refused for the
+    /// answer: then it hears nothing any more.
+    pub fn refuse(
+        &mut self,
+        alloc: A,
+        channel: u16,
+        handle: u32,
+        reason: &Reason<'_>,
+    ) -> Result<(), AskFault>
+        ensures { Asks result channel (Refuse handle (reason_of reason.now)) self.old self.new }
+    {
+        let room = mem::replace(&mut self.waiting, Vec::new(alloc));
+        let mut writer = Device::new(Answers::new(room));
+        let mut sink = Device::new(Vec::new(alloc));
+        let refused = self
+            .server
+            .refuse(channel, handle, reason, &mut writer, &mut sink);
+        self.waiting = writer.into_inner().into_bytes();
+        Ok(refused?)
+    }
+
+    /// Gives a link what it lacks of `most` credit, if at most half of that is left [2.6.7], and returns how much. The
+    /// flow that says so waits after the answers that did. Errors are as those of [`Member::refuse`].
+    pub fn top_up_link(
+        &mut self,
+        alloc: A,
+        channel: u16,
+        handle: u32,
+        most: u32,
+    ) -> Result<u32, AskFault>
+        ensures { TopsUp result channel handle most self.old self.new }
+    {
+        let room = mem::replace(&mut self.waiting, Vec::new(alloc));
+        let mut writer = Device::new(Answers::new(room));
+        let mut sink = Device::new(Vec::new(alloc));
+        let granted = self
+            .server
+            .top_up_link(channel, handle, most, &mut writer, &mut sink);
+        self.waiting = writer.into_inner().into_bytes();
+        Ok(granted?)
     }
 
     /// Returns an empty frame for its peer [2.4.5], if nothing waits before it. The errors are, in this order:

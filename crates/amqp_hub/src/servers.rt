@@ -5,15 +5,19 @@ ghost use Rattle.amqp_frame.specs.Devices.{device_inner, has_failed};
 ghost use Rattle.amqp_serve.specs.Deeds.{filled};
 ghost use Rattle.amqp_serve.specs.Noting.{done_of, stepped_by};
 ghost use Rattle.amqp_serve.specs.Servers.{status_after};
+ghost use Rattle.amqp_reason.specs.Reasons.{reason_of};
+ghost use Rattle.amqp_session.specs.Calls.{Grant, Refuse};
+ghost use Rattle.amqp_hub.specs.Links.{IsAskedAt, IsToppedUpAt, AskRefused, lacking_at};
 ghost use Rattle.amqp_hub.specs.Members.{hear_fault, beat_fault, end_fault, close_fault};
 ghost use Rattle.amqp_hub.specs.Turns.{IsOpened, OpenRefused, IsHeardAt, HearsBy, IsGone, IsRuledAt, is_lost, due_of, answers_of, IsFrontAt, IsDueAt, SendsAt, IsBeatAt, IsEndedAt, IsClosedAt, AreSame, AreAlike, refusal_at, all_held};
 ghost use Rattle.slab.specs.Slab.{get, slab_len};
 ghost use Rattle.std.specs.Option.{option_copied};
 
-use crate::HubFault;
 use crate::member::Member;
+use crate::{AskFault, HubFault};
 use amqp_endpoint::{Config, End, Endpoint, Fed};
 use amqp_frame::Device;
+use amqp_reason::Reason;
 use amqp_serve::{Done, Note, Rule, ServeFault};
 use slab::Slab;
 use std::alloc::{Allocator, Global};
@@ -265,6 +269,61 @@ impl<A: Allocator + Copy> Servers<A> {
             return Err(HubFault::NoKey);
         };
         member.close()
+    }
+
+    /// Refuses a link of the connection under a key with an error [2.6.5]. The detach that says so waits after what waits
+    /// for its peer. No other connection changes.
+    ///
+    /// # Errors
+    ///
+    /// `NoKey`; `Over` if its input has ended, or this side has closed it; and `Call` with what
+    /// [`Endpoint::refuse`] returns: `Dead`, `NoSession`, `NoLink`, `BadError`. The first that holds is named, and
+    /// nothing that counts has changed then. `NoMemory` if memory is refused for the detach. The link is refused all
+    /// the same. The connection hears nothing any more, and stays for what waits.
+    pub fn refuse(
+        &mut self,
+        key: usize,
+        channel: u16,
+        handle: u32,
+        reason: &Reason<'_>,
+    ) -> Result<(), AskFault>
+        ensures limit { self.new.limit ≡ self.old.limit }
+        ensures asked { OnOk result (IsAskedAt self.old.members self.new.members key channel (Refuse handle (reason_of reason.now))) }
+        ensures refused { IfErr result (λ f. AskRefused f self.old.members self.new.members key channel (Refuse handle (reason_of reason.now))) }
+    {
+        let alloc = self.alloc;
+        let Some(member) = self.members.get_mut(key) else {
+            return Err(AskFault::NoKey);
+        };
+        member.refuse(alloc, channel, handle, reason)
+    }
+
+    /// Gives a link of the connection under a key what it lacks of `most` credit, if at most half of that is left,
+    /// within what it is allowed less its credit and its open deliveries [2.6.7]. Returns how much it was granted: 0 if
+    /// it lacks nothing, or there is no such link. The flow that says so waits after what waits for the peer. No other
+    /// connection changes. It is for a connection that is served by a rule without credit.
+    ///
+    /// # Errors
+    ///
+    /// `NoKey`; `Over` if its input has ended, or this side has closed it; and `Call` with `Dead` if it is over. The
+    /// first that holds is named, and nothing that counts has changed then. `NoMemory` if memory is refused for the
+    /// flow. The link has the credit. The connection hears nothing any more, and stays for what waits.
+    pub fn top_up_link(
+        &mut self,
+        key: usize,
+        channel: u16,
+        handle: u32,
+        most: u32,
+    ) -> Result<u32, AskFault>
+        ensures limit { self.new.limit ≡ self.old.limit }
+        ensures granted { IfOk result (λ n. IsToppedUpAt self.old.members self.new.members key channel handle most n) }
+        ensures refused { IfErr result (λ f. AskRefused f self.old.members self.new.members key channel (Grant handle (lacking_at most channel handle (get self.old.members key)))) }
+    {
+        let alloc = self.alloc;
+        let Some(member) = self.members.get_mut(key) else {
+            return Err(AskFault::NoKey);
+        };
+        member.top_up_link(alloc, channel, handle, most)
     }
 
     /// Serves the connection under a key by another rule from its next step on. No other connection changes.

@@ -7,7 +7,7 @@ use Rattle.amqp_frame.specs.Units.{StreamUnit, due_after}
 use Rattle.amqp_frame.proofs.Fronts.{waits_or_not}
 use Rattle.amqp_link.specs.declared.terms.Terms.{Terms}
 use Rattle.amqp_session.specs.Calls as session
-use Rattle.amqp_session.specs.Calls.{Widen, Grant, Drain, Take, Settle, SettleRange, Detach}
+use Rattle.amqp_session.specs.Calls.{Widen, Grant, Drain, Take, Settle, SettleRange, Detach, Refuse, SettleWith, SettleRangeWith}
 use Rattle.amqp_endpoint.specs.declared.event.Event.{Event}
 use Rattle.amqp_endpoint.specs.declared.event.Event.TheVariants as event
 use Rattle.amqp_endpoint.specs.declared.event.Fed.{Fed}
@@ -441,6 +441,9 @@ module _ (law : Below) (config : Configured) (terms : SendTerms) (a : AreTerms c
       accepted_kept s next w x (Settle id outcome) [] p d.does.1 d.rest (settle_becomes law config terms s.endpoint.connection w x p.half.sound s.endpoint.unsent p.e id outcome fair p.half.far d.does.0)
   accepted_ask s next w x (SettleRange first last outcome) p fair d = absurd fair
   accepted_ask s next w x (Detach handle) p fair d = absurd fair
+  accepted_ask s next w x (Refuse handle r) p fair d = absurd fair
+  accepted_ask s next w x (SettleWith id r) p fair d = absurd fair
+  accepted_ask s next w x (SettleRangeWith first last r) p fair d = absurd fair
 
   handed_same : (d b : Handed) → HandedUp d ≡ HandedUp b → d ≡ b
   handed_same d b e = ap (λ (z : of_endpoint.Answer). handed_or d z) e
@@ -462,6 +465,9 @@ module _ (law : Below) (config : Configured) (terms : SendTerms) (a : AreTerms c
   handed_ask s next w x (Settle id outcome) b p fair d = absurd (not_handed b _ d.does.2 (settle_answer (slot_at s.endpoint.connection 0) id outcome))
   handed_ask s next w x (SettleRange first last outcome) b p fair d = absurd fair
   handed_ask s next w x (Detach handle) b p fair d = absurd fair
+  handed_ask s next w x (Refuse handle r) b p fair d = absurd fair
+  handed_ask s next w x (SettleWith id r) b p fair d = absurd fair
+  handed_ask s next w x (SettleRangeWith first last r) b p fair d = absurd fair
 
   -- An offer. ---------------------------------------------------------------------------------------------------------------------
 

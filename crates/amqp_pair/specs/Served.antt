@@ -28,7 +28,7 @@ pub record AreTerms (config : Configured) (terms : SendTerms) : Type 0 where
   pub name : IsText terms.name
   pub short_name : length terms.name ≤ 255
 
--- the calls are for the one link, which is not detached, and ids have 32 bits
+-- the calls are for the one link, which is neither detached nor refused, and ids have 32 bits; no call has a reason
 abbrev pub IsOfLink : session.Call → Type 0
 IsOfLink (Widen n) = Unit {0}
 IsOfLink (Grant handle n) = handle ≡ 0

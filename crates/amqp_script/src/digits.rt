@@ -32,6 +32,15 @@ fn is_digit(byte: u8) -> bool
     (byte.wrapping_sub(b'0') < 10) | ((byte | 0x20).wrapping_sub(b'a') < 6)
 }
 
+/// Returns the number that a byte stands for as a digit; `None` if it is none.
+pub fn hex_digit(byte: u8) -> Option<u8> {
+    if is_digit(byte) {
+        Some(value_of(byte))
+    } else {
+        None
+    }
+}
+
 /// Returns the number that a digit stands for.
 fn value_of(digit: u8) -> u8
     ensures { (v : ℕ) → hex_digit_value digit ≡ Some v → result ≡ v }

@@ -10,6 +10,7 @@ mod digits;
 mod limits;
 mod lines;
 mod replay;
+mod texts;
 
 pub use limits::read_limits;
 pub use replay::{ScriptFault, replay_script};

@@ -4,8 +4,10 @@
 //! that is not text has another word, and is refused.
 
 use crate::digits::is_hex;
+use crate::texts::is_text;
 use amqp_endpoint::{Call, Config, LinkLimit};
 use amqp_perform::Outcome;
+use amqp_reason::Reason;
 use std::alloc::{AllocError, Global};
 
 /// The words of a line.
@@ -71,6 +73,29 @@ impl<'a> Words<'a> {
             }),
             _ => None,
         }
+    }
+
+    /// Returns whether a word is left.
+    fn has_more(&self) -> bool {
+        self.rest.is_some()
+    }
+
+    /// Returns the reason that the words left state: a condition, and then a text if more is left, whose bytes are
+    /// `text`.
+    fn reason(&mut self, text: &'a [u8]) -> Option<Reason<'a>> {
+        let condition = printed(self.word()?)?.as_bytes();
+        if condition.is_empty() {
+            return None;
+        }
+        let description = match self.rest.take() {
+            Some(word) if is_text(word) => Some(text),
+            Some(_) => return None,
+            None => None,
+        };
+        Some(Reason {
+            condition,
+            description,
+        })
     }
 
     /// Returns `read` if no word is left, else `None`.
@@ -192,26 +217,48 @@ pub fn is_call(line: &[u8]) -> bool {
     }
 }
 
+/// Returns the text of a reason, as a line that may have one spells it behind its other words.
+pub fn text_in(line: &[u8]) -> Option<&[u8]> {
+    // Nearly all lines end here: the words of the others are gone through.
+    if !matches!(line.first()?, b'c' | b'r' | b's') || line.ends_with(b" accepted") {
+        return None;
+    }
+    let mut words = Words::of(line);
+    let others = match words.word()? {
+        b"close" => 1,
+        b"refuse" => 3,
+        b"settle" => 4,
+        b"settle-range" => 5,
+        _ => return None,
+    };
+    for _ in 0..others {
+        words.word()?;
+    }
+    words.rest
+}
+
 /// Returns the call that a line asks for; `None` if it asks for none. `piece` has the bytes that a `feed` line
-/// feeds: what follows `feed` is not looked at.
-pub fn call_of<'a>(line: &[u8], piece: &'a [u8]) -> Option<Call<'a>> {
+/// feeds, for what follows `feed` is not looked at, and those of the text that a reason has.
+pub fn call_of<'a>(line: &'a [u8], piece: &'a [u8]) -> Option<Call<'a>> {
     if line == FEED || fed(line).is_some() {
         return Some(Call::Feed(piece));
     }
     let mut words = Words::of(line);
     let call = match words.word()? {
-        b"close" => Call::Close,
-        b"heartbeat" => Call::Heartbeat,
-        b"output" => Call::Output(words.number()?),
-        b"held" => Call::Held,
-        b"finish" => Call::Finish,
-        name => session_call(name, &mut words)?,
+        b"close" if words.has_more() => Some(Call::CloseWith(words.reason(piece)?)),
+        b"close" => Some(Call::Close),
+        b"heartbeat" => Some(Call::Heartbeat),
+        b"output" => Some(Call::Output(words.number()?)),
+        b"held" => Some(Call::Held),
+        b"finish" => Some(Call::Finish),
+        name => session_call(name, &mut words, piece),
     };
-    words.end(call)
+    if words.has_more() { None } else { call }
 }
 
-/// Returns the call for a session with this name and the rest of the words; `None` if there is none.
-fn session_call<'a>(name: &[u8], words: &mut Words<'_>) -> Option<Call<'a>> {
+/// Returns the call for a session with this name and the rest of the words; `None` if there is none. The text of
+/// a reason has these bytes.
+fn session_call<'a>(name: &[u8], words: &mut Words<'a>, text: &'a [u8]) -> Option<Call<'a>> {
     let channel = words.channel()?;
     Some(match name {
         b"grant" => Call::Grant {
@@ -231,21 +278,67 @@ fn session_call<'a>(name: &[u8], words: &mut Words<'_>) -> Option<Call<'a>> {
             channel,
             handle: words.number()?,
         },
-        b"settle" => Call::Settle {
+        b"settle" => {
+            let id = words.number()?;
+            settle(channel, id, words, text)?
+        }
+        b"settle-range" => {
+            let first = words.number()?;
+            let last = words.number()?;
+            settle_range(channel, first, last, words, text)?
+        }
+        b"refuse" => Call::Refuse {
             channel,
-            id: words.number()?,
-            outcome: words.outcome()?,
-        },
-        b"settle-range" => Call::SettleRange {
-            channel,
-            first: words.number()?,
-            last: words.number()?,
-            outcome: words.outcome()?,
+            handle: words.number()?,
+            reason: words.reason(text)?,
         },
         b"detach" => Call::Detach {
             channel,
             handle: words.number()?,
         },
         _ => return None,
+    })
+}
+
+/// Returns the settle of a delivery with the outcome that the words left state, and with a reason if more is left
+/// behind `rejected`.
+fn settle<'a>(channel: u16, id: u32, words: &mut Words<'a>, text: &'a [u8]) -> Option<Call<'a>> {
+    let outcome = words.outcome()?;
+    if outcome == Outcome::Rejected && words.has_more() {
+        return Some(Call::SettleWith {
+            channel,
+            id,
+            reason: words.reason(text)?,
+        });
+    }
+    Some(Call::Settle {
+        channel,
+        id,
+        outcome,
+    })
+}
+
+/// Returns the settle of a range, in the same way.
+fn settle_range<'a>(
+    channel: u16,
+    first: u32,
+    last: u32,
+    words: &mut Words<'a>,
+    text: &'a [u8],
+) -> Option<Call<'a>> {
+    let outcome = words.outcome()?;
+    if outcome == Outcome::Rejected && words.has_more() {
+        return Some(Call::SettleRangeWith {
+            channel,
+            first,
+            last,
+            reason: words.reason(text)?,
+        });
+    }
+    Some(Call::SettleRange {
+        channel,
+        first,
+        last,
+        outcome,
     })
 }

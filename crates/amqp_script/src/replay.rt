@@ -8,7 +8,8 @@ ghost use Rattle.amqp_script.specs.declared.replay.ScriptFault.TheVariants.{NoMe
 use crate::answers::write_answer;
 use crate::digits::read_hex;
 use crate::limits::{limits_of, line_of};
-use crate::lines::{call_of, config_of, fed, is_call};
+use crate::lines::{call_of, config_of, fed, is_call, text_in};
+use crate::texts::read_text;
 use amqp_endpoint::{Config, Endpoint};
 use amqp_frame::Device;
 use memchr::memchr_iter;
@@ -187,7 +188,7 @@ fn empty(alloc: Global, buffer: &mut Vec<u8>) {
 }
 
 /// Makes the call that a line asks for, and appends the line of its answer; nothing if it asks for none. The
-/// bytes that the line feeds are then in `piece`. It is an error if memory is refused.
+/// bytes that the line feeds, or those of its text, are then in `piece`. It is an error if memory is refused.
 fn answer_to(
     alloc: Global,
     endpoint: &mut Endpoint,
@@ -195,10 +196,25 @@ fn answer_to(
     piece: &mut Vec<u8>,
     answer: &mut Vec<u8>,
 ) -> Result<(), AllocError> {
-    read_hex(piece, fed(line).unwrap_or(&[]))?;
+    read_bytes(piece, line)?;
     match call_of(line, piece) {
         Some(call) => write_answer(alloc, answer, &endpoint.call(alloc, &call)?),
         None => Ok(()),
+    }
+}
+
+/// Makes `piece` the bytes that a line feeds, or those of its text; none if it has neither. It is an error if
+/// memory is refused.
+fn read_bytes(piece: &mut Vec<u8>, line: &[u8]) -> Result<(), AllocError> {
+    if let Some(hex) = fed(line) {
+        return read_hex(piece, hex);
+    }
+    match text_in(line) {
+        Some(text) => read_text(piece, text),
+        None => {
+            piece.clear();
+            Ok(())
+        }
     }
 }
 

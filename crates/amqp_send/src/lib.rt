@@ -21,5 +21,6 @@ mod talk;
 mod telling;
 
 pub use config::SendConfig;
+pub use flow_state::MAX_FRAME_SIZE;
 pub use news::{News, OfferFault};
 pub use sender::Sender;

@@ -1,20 +1,23 @@
 //! Sends a file as one message: what `amqp send` does.
 //!
 //! Begin reading at [`send_file`], which opens the file and the connection. `send` sends a message over any devices with
-//! `amqp_send`, and waits for its fate. The tests are in `test_amqp`.
+//! `amqp_send`, and waits for its fate. `why` hears the error of a receiver that does not accept it. The tests are in
+//! `test_amqp`.
 #![tactic(auto)]
 
 mod send;
+mod why;
 
 use amqp_frame::Device;
 use amqp_send::{SendConfig, Sender};
-pub use send::{Fate, SendFault, send_all};
+pub use send::{Fate, SendFault, send_all, send_all_heard};
 use std::alloc::{AllocError, Global};
 use std::io::Read;
 use std::net::{Net, OpenStream, TcpStream};
 use std::rt::Files;
 use std::{fs, io};
 use thiserror::Error;
+pub use why::{Deaf, Listen, Why};
 
 /// The container-id of the sender, and the name of its link.
 const NAME: &str = "send";
@@ -34,7 +37,8 @@ pub enum FileFault {
     Send(SendFault),
 }
 
-/// Sends a file as one message to the listener at `address`, and returns what became of it.
+/// Sends a file as one message to the listener at `address`, and returns what became of it. `why` hears what the
+/// listener says of that.
 ///
 /// # Errors
 ///
@@ -44,6 +48,7 @@ pub fn send_file<R: Net + Files + AllocGlobal>(
     rt: &R,
     address: &str,
     path: &str,
+    why: &mut Why,
 ) -> Result<Fate, FileFault> {
     let alloc = rt.alloc();
     let message = read_file(rt, path)?;
@@ -60,7 +65,7 @@ pub fn send_file<R: Net + Files + AllocGlobal>(
     };
     let mut reader = Device::new(stream);
     let mut writer = Device::new(other);
-    match send_all(&mut sender, &mut reader, &mut writer, message) {
+    match send_all_heard(&mut sender, why, &mut reader, &mut writer, message) {
         Ok(fate) => Ok(fate),
         Err(fault) => Err(FileFault::Send(fault)),
     }

@@ -3,6 +3,7 @@
 ghost use Rattle.std.specs.Prelude.{◌≡◌, ◌≢◌, ◌↔◌, ◌<◌, ◌≤◌, Err, IsTrue, IfOk, IfSome, length};
 ghost use Rattle.amqp_frame.specs.Devices.{has_failed};
 
+use crate::why::{Deaf, Listen};
 use amqp_frame::Device;
 use amqp_perform::Outcome;
 use amqp_send::{News, Sender};
@@ -79,10 +80,30 @@ pub fn send_all<A: Allocator + Copy, R: Read + Drop, W: Write + Drop>(
     ensures read { (result ≡ Err SendFault.Read) ↔ IsTrue (has_failed reader.new) }
     ensures write { (result ≡ Err SendFault.Write) ↔ IsTrue (has_failed writer.new) }
 {
+    send_all_heard(sender, &mut Deaf, reader, writer, message)
+}
+
+/// Sends a message as [`send_all`] does, and lets `listener` hear what the receiver sends until it says what became of it.
+///
+/// # Errors
+///
+/// `Read` and `Write` if that device has failed.
+pub fn send_all_heard<A: Allocator + Copy, L: Listen, R: Read + Drop, W: Write + Drop>(
+    sender: &mut Sender<A>,
+    listener: &mut L,
+    reader: &mut Device<R>,
+    writer: &mut Device<W>,
+    message: Vec<u8, A>,
+) -> Result<Fate, SendFault>
+    requires reader { ¬ (IsTrue (has_failed reader.old)) }
+    requires writer { ¬ (IsTrue (has_failed writer.old)) }
+    ensures read { (result ≡ Err SendFault.Read) ↔ IsTrue (has_failed reader.new) }
+    ensures write { (result ≡ Err SendFault.Write) ↔ IsTrue (has_failed writer.new) }
+{
     let mut piece = [0; PIECE];
     let _ = sender.offer(message);
     write_out(sender, writer)?;
-    let met = await_fate(sender, reader, writer, &mut piece)?;
+    let met = await_fate(sender, listener, reader, writer, &mut piece)?;
     if met.fate != Fate::Ended {
         let _ = sender.close();
         write_out(sender, writer)?;
@@ -125,8 +146,9 @@ fn write_piece<W: Write + Drop>(writer: &mut Device<W>, piece: &[u8]) -> Result<
 }
 
 /// Feeds what is read, and writes what is answered, until the fate of the message is known or the input ends.
-fn await_fate<A: Allocator + Copy, R: Read + Drop, W: Write + Drop>(
+fn await_fate<A: Allocator + Copy, L: Listen, R: Read + Drop, W: Write + Drop>(
     sender: &mut Sender<A>,
+    listener: &mut L,
     reader: &mut Device<R>,
     writer: &mut Device<W>,
     piece: &mut [u8],
@@ -145,7 +167,7 @@ fn await_fate<A: Allocator + Copy, R: Read + Drop, W: Write + Drop>(
             Ok(count) => count,
             Err(_) => return Err(SendFault::Read),
         };
-        if let Some((fate, at)) = fate_in(sender, writer, &piece[..end])? {
+        if let Some((fate, at)) = fate_in(sender, listener, writer, &piece[..end])? {
             return Ok(Met { fate, at, end });
         }
     }
@@ -158,8 +180,9 @@ fn await_fate<A: Allocator + Copy, R: Read + Drop, W: Write + Drop>(
 
 /// Feeds a piece, and writes what is answered, until it is used up or has the fate of the message. Returns that
 /// fate, if it came, and how many bytes were fed.
-fn fate_in<A: Allocator + Copy, W: Write + Drop>(
+fn fate_in<A: Allocator + Copy, L: Listen, W: Write + Drop>(
     sender: &mut Sender<A>,
+    listener: &mut L,
     writer: &mut Device<W>,
     piece: &[u8],
 ) -> Result<Option<(Fate, usize)>, SendFault>
@@ -171,6 +194,7 @@ fn fate_in<A: Allocator + Copy, W: Write + Drop>(
     let mut at = 0;
     'units: while at < piece.len() {
         let (used, news) = sender.feed(&piece[at..]);
+        listener.hear(&piece[at..at + used]);
         write_out(sender, writer)?;
         at += used;
         if let Some(fate) = fate_by(news) {

@@ -52,6 +52,9 @@ none_recorded channel (session.Take handle) fault = refl
 none_recorded channel (session.Settle id outcome) fault = refl
 none_recorded channel (session.SettleRange first last outcome) fault = refl
 none_recorded channel (session.Detach handle) fault = refl
+none_recorded channel (session.Refuse handle r) fault = refl
+none_recorded channel (session.SettleWith id r) fault = refl
+none_recorded channel (session.SettleRangeWith first last r) fault = refl
 
 module _ (s t : EndpointState) (channel : ℕ) (c : session.Call) (w r : List ℕ) where
   refused_made : (fault : CallFault) → call_fault s.connection [] channel c ≡ Some fault → IsKept s t → IsCalled s t channel c (Refused fault) w r

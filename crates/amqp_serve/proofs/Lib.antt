@@ -12,6 +12,7 @@ pub mod Looks
 pub mod Settles
 pub mod OneLink
 pub mod Stepping
+pub mod LinkCalls
 pub mod CutSteps
 pub mod CutRuns
 pub mod Cuts

@@ -48,6 +48,9 @@ session_quiet s (session.Drain handle) = refl
 session_quiet s (session.Settle id fate) = refl
 session_quiet s (session.SettleRange first last fate) = refl
 session_quiet s (session.Detach handle) = refl
+session_quiet s (session.Refuse handle r) = refl
+session_quiet s (session.SettleWith id r) = refl
+session_quiet s (session.SettleRangeWith first last r) = refl
 
 accepted_quiet : (slot : Slot SessionState) (c : session.Call) → outcomes_by (accepted_answer slot c) ≡ []
 accepted_quiet Free c = refl

@@ -150,6 +150,9 @@ called_makes s (session.Take handle) h = taken_makes handle (one.slot_at s handl
 called_makes s (session.Settle id outcome) h = refl
 called_makes s (session.SettleRange first last outcome) h = refl
 called_makes s (session.Detach handle) h = refl
+called_makes s (session.Refuse handle r) h = refl
+called_makes s (session.SettleWith id r) h = refl
+called_makes s (session.SettleRangeWith first last r) h = refl
 
 -- no call makes anything ready
 pub call_makes : (place : ℕ) (x : Slot SessionState) (c : session.Call) (channel handle : ℕ) → made channel handle (slot_event place x c) ≡ 0

@@ -3,10 +3,10 @@ use Rattle.std.proofs.Common.{◌≡◌, ℕ, List, [], ◌∷◌, ◌++◌, ref
 use Rattle.std.proofs.lemmas.Grind.{flat_map-append}
 use Rattle.std.specs.List.{flat_map}
 use Rattle.amqp_session.specs.Calls as session
-use Rattle.amqp_session.specs.Calls.{Widen, Grant, Drain, Take, Settle, SettleRange, Detach}
+use Rattle.amqp_session.specs.Calls.{Widen, Grant, Drain, Take, Settle, SettleRange, Detach, Refuse, SettleWith, SettleRangeWith}
 use Rattle.amqp_endpoint.specs.declared.event.Outcome.{Outcome}
 use Rattle.amqp_endpoint.specs.declared.event.Outcome.TheVariants as outcome
-use Rattle.amqp_endpoint.specs.Runs.{Call, Feed, InSession, Close, Heartbeat, Output, Held, Finish, Handed, Answer, Fed, Accepted, Dropped, Named, HandedUp, Refused, MovedOut, Holds, Ended}
+use Rattle.amqp_endpoint.specs.Runs.{Call, Feed, InSession, Close, CloseWith, Heartbeat, Output, Held, Finish, Handed, Answer, Fed, Accepted, Dropped, Named, HandedUp, Refused, MovedOut, Holds, Ended}
 use Rattle.amqp_serve.specs.Serving.{Step, recorded_by, recorded, record_of, calls_of, answers_of}
 use Rattle.amqp_endpoint.specs.Traces.{Told, event_in, told_by, heard, handed_to, message_in}
 
@@ -52,6 +52,9 @@ one (InSession channel (Drain handle)) a = silent channel (Drain handle) a (λ d
 one (InSession channel (Settle id o)) a = silent channel (Settle id o) a (λ d. refl)
 one (InSession channel (SettleRange first last o)) a = silent channel (SettleRange first last o) a (λ d. refl)
 one (InSession channel (Detach handle)) a = silent channel (Detach handle) a (λ d. refl)
+one (InSession channel (Refuse handle r)) a = silent channel (Refuse handle r) a (λ d. refl)
+one (InSession channel (SettleWith id r)) a = silent channel (SettleWith id r) a (λ d. refl)
+one (InSession channel (SettleRangeWith first last r)) a = silent channel (SettleRangeWith first last r) a (λ d. refl)
 one (InSession channel (Take handle)) (Fed used o) = refl
 one (InSession channel (Take handle)) Accepted = refl
 one (InSession channel (Take handle)) (Dropped n) = refl
@@ -70,6 +73,15 @@ one Close (Refused f) = refl
 one Close (MovedOut b) = refl
 one Close (Holds n) = refl
 one Close (Ended e) = refl
+one (CloseWith r) (Fed used o) = refl
+one (CloseWith r) Accepted = refl
+one (CloseWith r) (Dropped n) = refl
+one (CloseWith r) (Named n) = refl
+one (CloseWith r) (HandedUp d) = refl
+one (CloseWith r) (Refused f) = refl
+one (CloseWith r) (MovedOut b) = refl
+one (CloseWith r) (Holds n) = refl
+one (CloseWith r) (Ended e) = refl
 one Heartbeat (Fed used o) = refl
 one Heartbeat Accepted = refl
 one Heartbeat (Dropped n) = refl

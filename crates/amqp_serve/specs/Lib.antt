@@ -5,6 +5,7 @@ pub mod Supplying
 pub mod Deeds
 pub mod Noting
 pub mod Servers
+pub mod Links
 pub mod Policies
 pub mod Interrupted
 pub mod Rooms

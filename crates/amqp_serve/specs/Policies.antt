@@ -1,5 +1,6 @@
 -- Serving by a policy: by the rule that tops up a link that has any less than the policy's credit (AMQP 1.0, part 2, section 2.6.7).
 use Rattle.std.specs.Prelude.{ℕ, ◌-◌, Bool, List, Option}
+use Rattle.amqp_perform.specs.declared.outcome.Outcome.{Outcome}
 use Rattle.amqp_endpoint.specs.declared.event.End.{End}
 use Rattle.amqp_endpoint.specs.Configs.{Configured}
 use Rattle.amqp_endpoint.specs.Steps.{EndpointState}
@@ -14,6 +15,10 @@ use Rattle.amqp_serve.specs.Serving.{Stand, Step}
 
 abbrev pub rule_of : Policy → Rule
 rule_of p = record { credit = p.credit; mark = p.credit - 1; outcome = p.outcome }
+
+-- the rule by which no link gets credit
+abbrev pub without_credit : Outcome → Rule
+without_credit outcome = record { credit = 0; mark = 0; outcome = outcome }
 
 abbrev pub Serves : Policy → Stand → EndpointState → List Step → Stand → EndpointState → Type 0
 Serves p a s steps b t = by.Serves (rule_of p) a s steps b t

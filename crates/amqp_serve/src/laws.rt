@@ -3,6 +3,7 @@ ghost use Rattle.std.specs.Prelude.{◌≡◌, ℕ, ◌≤◌, ◌-◌, ◌++◌
 ghost use Rattle.std.specs.List.{flat_map};
 ghost use Rattle.amqp_link.specs.Links.{open_count};
 ghost use Rattle.amqp_session.specs.Sessions.{LiveLink};
+ghost use Rattle.amqp_session.specs.declared.slot.Slot.{Slot};
 ghost use Rattle.amqp_session.specs.declared.slot.Slot.TheVariants.{Live};
 ghost use Rattle.amqp_endpoint.specs.Configs.{Configured, IsConfigured};
 ghost use Rattle.amqp_endpoint.specs.Runs.{Run, IsStart};
@@ -22,6 +23,12 @@ use amqp_endpoint::laws::runs_have_a_history;
 #[tactic(auto, using(crate::proofs::Policies::policy_lacks))]
 pub fn a_policy_keeps_each_link_at_its_credit()
     ensures { (p : Policy) (l : LiveLink) → credit_lack (rule_of p) (Live l) ≡ min (p.credit - l.link.credit) (l.link.terms.bounds.allowed - l.link.credit - open_count l.link) }
+{}
+
+/// By a rule without credit no link lacks any, so no step grants any [2.6.7].
+#[tactic(auto, using(crate::proofs::Policies::none_lacked))]
+pub fn a_rule_without_credit_grants_none()
+    ensures { (r : Rule) (x : Slot LiveLink) → r.credit ≡ 0 → credit_lack r x ≡ 0 }
 {}
 
 /// What is served is a run of the endpoint: the calls are in their ranges, and each is in the run with its answer.

@@ -11,6 +11,7 @@
 
 pub mod laws;
 pub mod life_laws;
+mod links;
 mod note;
 mod records;
 mod rules;
@@ -23,6 +24,7 @@ mod supplies;
 mod supplying;
 mod watch;
 
+pub use links::LinkFault;
 pub use note::Note;
 pub use rules::Rule;
 pub use server::{Server, ServerFault, Status};

@@ -1,6 +1,6 @@
 //! The rule by which an endpoint is served.
 ghost use Rattle.std.specs.Prelude.{◌≡◌};
-ghost use Rattle.amqp_serve.specs.Policies.{rule_of};
+ghost use Rattle.amqp_serve.specs.Policies.{rule_of, without_credit};
 
 use crate::Policy;
 use amqp_perform::Outcome;
@@ -26,6 +26,17 @@ impl Rule {
             credit: policy.credit,
             mark: policy.credit.saturating_sub(1),
             outcome: policy.outcome,
+        }
+    }
+
+    /// Returns the rule by which no link gets credit, for a host that gives it by [`crate::Server::top_up_link`].
+    pub fn without_credit(outcome: Outcome) -> Rule
+        ensures { result ≡ without_credit outcome }
+    {
+        Rule {
+            credit: 0,
+            mark: 0,
+            outcome,
         }
     }
 }

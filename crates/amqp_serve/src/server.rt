@@ -1,18 +1,26 @@
 //! A server for a host with a loop of its own.
-ghost use Rattle.std.specs.Prelude.{◌≡◌, ◌≤◌, ◌<◌, ◌++◌, ℕ, List, [], take, length, true, false, None, IfSome, IfOk, IfErr, OnOk};
+ghost use Rattle.std.specs.Prelude.{◌≡◌, ◌≤◌, ◌<◌, ◌++◌, ℕ, List, [], take, length, true, false, Err, None, IfSome, IfOk, IfErr, OnOk};
 ghost use Rattle.amqp_endpoint.specs.Calls.{heartbeat};
-ghost use Rattle.amqp_endpoint.specs.Connections.{ConnectionState};
+ghost use Rattle.amqp_endpoint.specs.Connections.{ConnectionState, slot_at};
+ghost use Rattle.amqp_endpoint.specs.Takings.{link_in};
+ghost use Rattle.amqp_reason.specs.Reasons.{reason_of};
+ghost use Rattle.amqp_session.specs.Calls.{Refuse};
 ghost use Rattle.amqp_serve.specs.Deeds.{filled, IsStepped, Reaches, ends, AreOpen};
+ghost use Rattle.amqp_serve.specs.Links.{Says, TopsUp, status_behind};
 ghost use Rattle.amqp_serve.specs.Noting.{done_of, stepped_by};
 ghost use Rattle.amqp_serve.specs.Servers.{hears, is_over, status_after, refused_step, open_fault, finish_fault, waiting, IsSame, IsFinishedSo, IsClosed, IsSent};
+ghost use Rattle.amqp_serve.specs.Serving.{credit_lack};
 ghost use Rattle.amqp_serve.specs.Supplied.{IsRight};
+ghost use Rattle.amqp_serve.specs.Supplying.{half_rule};
 
+use crate::links::{self, LinkFault};
 use crate::note::Note;
 use crate::steps::{Course, Done, Stepped, serve_piece_into};
 use crate::{Rule, ServeFault};
 use amqp_endpoint::{End, Endpoint, Fed, Outcome as Told};
 use amqp_frame::{Device, HoldsBack};
 use amqp_perform::Outcome;
+use amqp_reason::Reason;
 use std::alloc::{Allocator, Global};
 use std::io::Write;
 use std::marker::Model;
@@ -212,6 +220,75 @@ impl<A: Allocator + Copy> Server<A> {
         Ok(self.endpoint.finish())
     }
 
+    /// Refuses a link with an error, and writes the detach that says so, with closed true [2.6.5]. Its handle stays in
+    /// use until the peer detaches it. Call it between two steps, as when the link attached: by a rule without credit
+    /// the link has got none yet.
+    ///
+    /// # Errors
+    ///
+    /// `Over` if the server hears nothing any more; or `Call`, when [`Endpoint::refuse`] returns it. Nothing that counts
+    /// has changed then. `Lost` with `Write` or `Sink` if that device fails. The link is refused all the same, and the
+    /// server hears nothing any more.
+    #[tactic(auto, using(crate::proofs::LinkCalls::rests))]
+    pub fn refuse<W: Write + HoldsBack + Drop, S: Write + Drop>(
+        &mut self,
+        channel: u16,
+        handle: u32,
+        reason: &Reason<'_>,
+        writer: &mut Device<W>,
+        sink: &mut Device<S>,
+    ) -> Result<(), LinkFault>
+        requires ends { AreOpen (ends W.contents S.contents writer.old sink.old) }
+        ensures over { hears self.old.status ≡ false → (result ≡ Err LinkFault.Over) × (self.new ≡ self.old)
+            × (ends W.contents S.contents writer.new sink.new ≡ ends W.contents S.contents writer.old sink.old) }
+        ensures said { hears self.old.status ≡ true → Says result channel (Refuse handle (reason_of reason.now)) self.old.endpoint self.new.endpoint
+            (ends W.contents S.contents writer.old sink.old) (ends W.contents S.contents writer.new sink.new) }
+        ensures status { self.new.status ≡ status_behind self.old.status result }
+    {
+        if !self.hears() {
+            return Err(LinkFault::Over);
+        }
+        self.course.supplied = false;
+        let refused = links::refuse(&mut self.endpoint, channel, handle, reason, writer, sink);
+        self.status = status_behind(self.status, &refused);
+        refused
+    }
+
+    /// Gives a link what it lacks of `most` credit, if at most half of that is left, within what it is allowed less its
+    /// credit and its open deliveries [2.6.7]. The flow that says so is written. Returns how much it was granted: 0 if
+    /// it lacks nothing, or there is no such link. It is for a host whose rule is one without credit. Call it between
+    /// two steps.
+    ///
+    /// # Errors
+    ///
+    /// `Over` if the server hears nothing any more; or `Call` with `Dead` if the connection is over. Nothing that counts
+    /// has changed then. `Lost` with `Write` or `Sink` if that device fails. The link has the credit, and the server
+    /// hears nothing any more.
+    #[tactic(auto, using(crate::proofs::LinkCalls::topped_rests))]
+    pub fn top_up_link<W: Write + HoldsBack + Drop, S: Write + Drop>(
+        &mut self,
+        channel: u16,
+        handle: u32,
+        most: u32,
+        writer: &mut Device<W>,
+        sink: &mut Device<S>,
+    ) -> Result<u32, LinkFault>
+        requires ends { AreOpen (ends W.contents S.contents writer.old sink.old) }
+        ensures over { hears self.old.status ≡ false → (result ≡ Err LinkFault.Over) × (self.new ≡ self.old)
+            × (ends W.contents S.contents writer.new sink.new ≡ ends W.contents S.contents writer.old sink.old) }
+        ensures topped { hears self.old.status ≡ true → TopsUp (credit_lack (half_rule most) (link_in handle (slot_at self.old.endpoint.connection channel))) result channel handle self.old.endpoint self.new.endpoint
+            (ends W.contents S.contents writer.old sink.old) (ends W.contents S.contents writer.new sink.new) }
+        ensures status { self.new.status ≡ status_behind self.old.status result }
+    {
+        if !self.hears() {
+            return Err(LinkFault::Over);
+        }
+        self.course.supplied = false;
+        let granted = links::top_up(&mut self.endpoint, channel, handle, most, writer, sink);
+        self.status = status_behind(self.status, &granted);
+        granted
+    }
+
     /// Returns the first bytes that wait to be written, as many as lie in one piece: at least one if any wait. None
     /// do as long as the server hears, and after a writer or a sink has failed.
     pub fn unsent_front(&self) -> &[u8]
@@ -278,6 +355,16 @@ fn course_by(rule: Rule, before: Course) -> Course
             rule,
             supplied: false,
         }
+    }
+}
+
+/// Returns the status of a server after what was asked for a link came to this.
+fn status_behind<T>(before: Status, done: &Result<T, LinkFault>) -> Status
+    ensures { result ≡ status_behind before done.now }
+{
+    match done {
+        Ok(_) | Err(LinkFault::Over | LinkFault::Call(_)) => before,
+        Err(LinkFault::Lost(fault)) => Status::Lost(*fault),
     }
 }
 

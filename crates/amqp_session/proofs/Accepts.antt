@@ -24,7 +24,7 @@ use Rattle.amqp_session.specs.Sessions.{LiveLink, SessionState, SessionEvent, Se
 use Rattle.amqp_session.specs.Histories.{state_of, Sound, part, live_state}
 use Rattle.amqp_session.specs.Faults.{or_else, where_so, is_free, attach_fault, handle_fault, named_fault, session_fault, refusal, transfer_fault, attached, attach_event, transfer_event}
 use Rattle.amqp_session.specs.Faults.{flow_event, named_event, is_settling, event_of}
-use Rattle.amqp_session.specs.Calls.{Call, Widen, Grant, Drain, Take, Settle, SettleRange, Detach, standing_in, standing_fault, at_link, call_fault, take_event, first_taken, call_event}
+use Rattle.amqp_session.specs.Calls.{Call, Widen, Grant, Drain, Take, Settle, SettleRange, Detach, Refuse, SettleWith, SettleRangeWith, reason_fault, range_fault, standing_in, standing_fault, at_link, call_fault, take_event, first_taken, call_event}
 use Rattle.amqp_session.specs.Laws.{IsCallInRange}
 use Rattle.amqp_session.proofs.Standings.{settles_everywhere}
 use Rattle.amqp_session.proofs.RangeMays.{range_ok}
@@ -194,6 +194,11 @@ settle_ok s id apart small none = (tt, tt, by (standing_in id s.links) refl none
     by Told e none = absurd (grind (arith, none))
     by (Awaiting mode) e none = settles_everywhere s id mode apart small e
 
+-- a link that is live may be left
+left_ok : (s : SessionState) (handle : ℕ) → at_link (slot_at s handle) (λ l. None) ≡ None → SessionMay s (event.Detached handle)
+left_ok s handle none =
+    let live = at_live (slot_at s handle) (λ l. None) none in (tt, tt, (Live live.0, live_at s handle live.0 live.1, tt))
+
 -- so is a call that is not refused
 pub call_ok : (s : SessionState) (c : Call) → IsApart s → IsCallInRange c → call_fault s c ≡ None → SessionMay s (call_event s c)
 call_ok s (Widen n) apart range none =
@@ -204,8 +209,10 @@ call_ok s (Drain handle) apart range none =
 call_ok s (Take handle) apart range none = take_ok s handle (slot_at s handle) refl none
 call_ok s (Settle id outcome) apart range none = range_ok s id id none
 call_ok s (SettleRange first last outcome) apart range none = range_ok s first last none
-call_ok s (Detach handle) apart range none =
-    let live = at_live (slot_at s handle) (λ l. None) none in (tt, tt, (Live live.0, live_at s handle live.0 live.1, tt))
+call_ok s (Detach handle) apart range none = left_ok s handle none
+call_ok s (Refuse handle r) apart range none = left_ok s handle (neither (at_link (slot_at s handle) (λ l. None)) (reason_fault r) none).0
+call_ok s (SettleWith id r) apart range none = range_ok s id id (neither (range_fault id id s) (reason_fault r) none).0
+call_ok s (SettleRangeWith first last r) apart range none = range_ok s first last (neither (range_fault first last s) (reason_fault r) none).0
 
 -- Of a history. --------------------------------------------------------------------------------------------------------------
 

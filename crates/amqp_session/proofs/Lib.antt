@@ -5,6 +5,7 @@ pub mod Ids
 pub mod Standings
 pub mod Founds
 pub mod Accepts
+pub mod Reasoned
 pub mod Padded
 pub mod States
 pub mod Dones

@@ -1,5 +1,5 @@
--- What a session does with a call of its application: why it is refused, or which event it is, and what it says (AMQP 1.0, part 2, sections 2.5.6, 2.6.6, 2.6.7, 2.6.12 and 2.7.6).
-use Rattle.std.specs.Prelude.{ℕ, ◌+◌, ◌^◌, Bool, true, false, ◌&&◌, ◌||◌, if◌then◌else◌, nat_le, nat_lt, List, [], ◌∷◌, Option, Some, None, is_none}
+-- What a session does with a call of its application: why it is refused, or which event it is, and what it says (AMQP 1.0, part 2, sections 2.5.6, 2.6.5, 2.6.6, 2.6.7, 2.6.12 and 2.7.6).
+use Rattle.std.specs.Prelude.{ℕ, ◌+◌, ◌^◌, Bool, true, false, not, ◌&&◌, ◌||◌, if◌then◌else◌, nat_le, nat_lt, List, [], ◌∷◌, Option, Some, None, is_none}
 use Rattle.std.specs.List.{list_any}
 use Rattle.amqp_serial.specs.Numbers.{distance_of}
 use Rattle.amqp_perform.specs.declared.outcome.Outcome.{Outcome}
@@ -12,10 +12,12 @@ use Rattle.amqp_session.specs.declared.fault.CallFault.TheVariants as refused
 use Rattle.amqp_session.specs.declared.slot.Slot.{Slot}
 use Rattle.amqp_session.specs.declared.slot.Slot.TheVariants.{Free, Live, Waits}
 use Rattle.amqp_perform.specs.Said.{Said}
+use Rattle.amqp_perform.specs.Receivers.{state_said}
+use Rattle.amqp_reason.specs.Reasons.{Reason, is_valid, error_span, rejected_span}
 use Rattle.amqp_session.specs.Frames.{detach_said, disposition_said}
 use Rattle.amqp_session.specs.Sessions.{LiveLink, SessionState, slot_at, SessionEvent, session_after}
 use Rattle.amqp_session.specs.Sessions as event
-use Rattle.amqp_session.specs.Faults.{where_so, session_flow, link_flow}
+use Rattle.amqp_session.specs.Faults.{or_else, where_so, session_flow, link_flow}
 
 pub data Call : Type 0 where
   Widen : ℕ → Call  -- the window gets this many more places
@@ -25,6 +27,9 @@ pub data Call : Type 0 where
   Settle : ℕ → Outcome → Call  -- what became of the delivery with this id
   SettleRange : ℕ → ℕ → Outcome → Call  -- what became of the open deliveries with the ids from the first to the last
   Detach : ℕ → Call  -- the link with this handle is ended
+  Refuse : ℕ → Reason → Call  -- the link with this handle is ended with an error
+  SettleWith : ℕ → Reason → Call  -- the delivery with this id is rejected with an error
+  SettleRangeWith : ℕ → ℕ → Reason → Call  -- the open deliveries with the ids from the first to the last are rejected with an error
 
 -- Settling. -----------------------------------------------------------------------------------------------------------
 
@@ -101,6 +106,10 @@ range_fault first last s =
     else (if list_any (slot_names_told first last) s.links then Some refused.AlreadyTold
     else (if list_any (slot_names_first first last) s.links && list_any (slot_names_second first last) s.links then Some refused.MixedModes else None)))
 
+-- the words of an error are tested last [2.8.14]
+abbrev pub reason_fault : Reason → Option CallFault
+reason_fault r = where_so (not (is_valid r)) refused.BadError
+
 abbrev pub call_fault : SessionState → Call → Option CallFault
 call_fault s (Widen n) = where_so (nat_le (2 ^ 31) (s.window + n)) refused.WindowTooWide
 call_fault s (Grant handle n) = at_link (slot_at s handle) (λ l. where_so (nat_lt l.terms.bounds.allowed (l.credit + open_count l + n)) refused.TooMuchCredit)
@@ -109,6 +118,9 @@ call_fault s (Take handle) = at_link (slot_at s handle) (λ l. where_so (is_none
 call_fault s (Settle id outcome) = range_fault id id s
 call_fault s (SettleRange first last outcome) = range_fault first last s
 call_fault s (Detach handle) = at_link (slot_at s handle) (λ l. None)
+call_fault s (Refuse handle r) = or_else (at_link (slot_at s handle) (λ l. None)) (reason_fault r)
+call_fault s (SettleWith id r) = or_else (range_fault id id s) (reason_fault r)
+call_fault s (SettleRangeWith first last r) = or_else (range_fault first last s) (reason_fault r)
 
 -- What an accepted call is, and says. ------------------------------------------------------------------------------------------
 
@@ -130,6 +142,9 @@ call_event s (Take handle) = take_event handle (slot_at s handle)
 call_event s (Settle id outcome) = event.Settled id id
 call_event s (SettleRange first last outcome) = event.Settled first last
 call_event s (Detach handle) = event.Detached handle
+call_event s (Refuse handle r) = event.Detached handle
+call_event s (SettleWith id r) = event.Settled id id
+call_event s (SettleRangeWith first last r) = event.Settled first last
 
 -- the call settles the delivery, which is so in mode first [2.7.5, 2.8.3]
 abbrev pub settles_at_once : Standing → Bool
@@ -140,6 +155,14 @@ settles_at_once standing = false
 abbrev pub range_said : ℕ → ℕ → Outcome → SessionState → Said
 range_said first last outcome s = disposition_said first last (settles_at_once (standing_in first s.links)) outcome
 
+-- the same with an error: they are rejected [3.4.3]
+abbrev pub range_rejected : ℕ → ℕ → Reason → SessionState → Said
+range_rejected first last r s = state_said first last (settles_at_once (standing_in first s.links)) (rejected_span r)
+
+-- what is said with words that are valid
+abbrev pub if_valid : Reason → Said → List Said
+if_valid r said = if is_valid r then said ∷ [] else []  -- refused
+
 -- The answer states credit, drain and the window as they are after the call. [2.6.7, 2.7.4]
 abbrev pub call_answer : SessionState → Call → List Said
 call_answer s (Widen n) = session_flow (session_after s (call_event s (Widen n))) ∷ []
@@ -149,3 +172,6 @@ call_answer s (Take handle) = []
 call_answer s (Settle id outcome) = range_said id id outcome s ∷ []
 call_answer s (SettleRange first last outcome) = range_said first last outcome s ∷ []
 call_answer s (Detach handle) = detach_said handle true [] ∷ []
+call_answer s (Refuse handle r) = if_valid r (detach_said handle true (error_span r))  -- [2.6.5, 2.7.7]
+call_answer s (SettleWith id r) = if_valid r (range_rejected id id r s)
+call_answer s (SettleRangeWith first last r) = if_valid r (range_rejected first last r s)

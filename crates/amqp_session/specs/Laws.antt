@@ -12,13 +12,15 @@ use Rattle.amqp_session.specs.Places.{Happens, Nothing, Begins, GoesOn, AllGoOn,
 use Rattle.amqp_session.specs.Sessions.{Attached, LiveLink, SessionState, slot_at, SessionEvent, happens, stated_by, handles}
 use Rattle.amqp_session.specs.Histories.{part}
 use Rattle.amqp_session.specs.Faults.{is_free}
-use Rattle.amqp_session.specs.Calls.{Call, Settle, SettleRange}
+use Rattle.amqp_session.specs.Calls.{Call, Settle, SettleRange, SettleWith, SettleRangeWith}
 use Rattle.amqp_session.specs.Frames.{Frame, Transfers}
 
 -- the delivery-ids of a call have 32 bits [2.8.9]
 abbrev pub IsCallInRange : Call → Type 0
 IsCallInRange (Settle id outcome) = id < 2 ^ 32
 IsCallInRange (SettleRange first last outcome) = (first < 2 ^ 32) × (last < 2 ^ 32)
+IsCallInRange (SettleWith id r) = id < 2 ^ 32
+IsCallInRange (SettleRangeWith first last r) = (first < 2 ^ 32) × (last < 2 ^ 32)
 IsCallInRange c = Unit {0}
 
 -- Parts. ------------------------------------------------------------------------------------------------------------------

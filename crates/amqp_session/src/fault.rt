@@ -49,4 +49,6 @@ pub enum CallFault {
     TooMuchCredit,
     /// The window would pass 2147483647 places.
     WindowTooWide,
+    /// The words of an error are not valid [2.8.14].
+    BadError,
 }

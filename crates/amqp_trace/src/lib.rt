@@ -24,5 +24,6 @@ mod unit;
 mod words;
 
 pub use host::{Host, TraceFault, View};
+pub use peer_error::{PeerError, error_in, rejection_in};
 pub use trace::{Trace, TracedReader, TracedWriter};
 pub use words::Cause;

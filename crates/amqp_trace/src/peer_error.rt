@@ -15,16 +15,26 @@ pub struct PeerError<'a> {
 /// Returns the error that the bytes spell, or `None` if they spell none. It is a described list that begins with a
 /// symbol, and may go on with a string. [2.8.14]
 pub fn error_in(bytes: &[u8]) -> Option<PeerError<'_>> {
-    let (0, descriptor) = bytes.split_first()? else {
-        return None;
-    };
-    let len = skip(descriptor, DEPTH).ok()?;
-    let items = items_in(&descriptor[len..])?;
-    let (condition, rest) = text_at(items)?;
+    let (condition, rest) = text_at(described_items(bytes)?)?;
     Some(PeerError {
         condition,
         description: text_in(rest),
     })
+}
+
+/// Returns the error of the state rejected, or `None` if it has none. Such a state is a described list that begins with
+/// an error. [3.4.3]
+pub fn rejection_in(state: &[u8]) -> Option<PeerError<'_>> {
+    error_in(described_items(state)?)
+}
+
+/// Returns the items of the described list at the front.
+fn described_items(bytes: &[u8]) -> Option<&[u8]> {
+    let (0, descriptor) = bytes.split_first()? else {
+        return None;
+    };
+    let len = skip(descriptor, DEPTH).ok()?;
+    items_in(&descriptor[len..])
 }
 
 /// Returns the items of the list at the front. [1.6.22]

@@ -3,6 +3,8 @@
 #![tactic(auto)]
 
 #[cfg(test)]
+mod addresses_tests;
+#[cfg(test)]
 mod consumer_tests;
 #[cfg(test)]
 mod dump_tests;

@@ -790,7 +790,7 @@ fn answers_a_command_line(rt: HostRuntime) {
     let alloc = rt.alloc();
     let host = host_of(alloc, &["amqp", "--version"], None);
     assert_ends(&rt, host, ExitCode::SUCCESS, "amqp 0.1.0\n", "");
-    let lines: [&[&str]; 39] = [
+    let lines: [&[&str]; 41] = [
         &["amqp"],
         &["amqp", "records"],
         &["amqp", "records", "a", "--only", "0"],
@@ -841,6 +841,8 @@ fn answers_a_command_line(rt: HostRuntime) {
         &["amqp", "gateway", "--listen", "a:1", "--links", "x"],
         &["amqp", "gateway", "--listen", "a:1", "--spool", "a"],
         &["amqp", "gateway", "--listen", "a:1", "--bytes", "1"],
+        &["amqp", "gateway", "--listen", "a:1", "--addresses"],
+        &["amqp", "recv", "--listen", "a:1", "--addresses", "a"],
     ];
     for words in lines {
         let host = host_of(alloc, words, None);
@@ -1079,6 +1081,54 @@ pub fn gateway_served(rt: &HostRuntime, more: [&str; 2], stream: &[u8]) -> io::R
     let disk = Disk::new(rt.alloc());
     gateway_heard(rt, more, stream, &disk, b"")
 }
+
+/// Runs a gateway with two words more, to which a peer comes that sends a stream. Its one file is `a.amqp`, with these bytes.
+pub fn gateway_served_by(
+    rt: &HostRuntime,
+    more: [&str; 2],
+    stream: &[u8],
+    bytes: &[u8],
+) -> io::Result<Left> {
+    let disk = Disk::new(rt.alloc());
+    gateway_heard(rt, more, stream, &disk, bytes)
+}
+
+/// A file of addresses that can't be used is named before anything is listened to.
+#[test]
+fn names_the_line_of_a_bad_address(rt: HostRuntime) {
+    let words: [&str; 6] = [
+        "amqp",
+        "gateway",
+        "--listen",
+        "127.0.0.1:5672",
+        "--addresses",
+        "a.amqp",
+    ];
+    for (file, told) in [
+        (
+            whole(b"orders 4\n# orders\n\norders 5\n"),
+            "fault: a.amqp: line 4: Twice\n",
+        ),
+        (whole(b"orders 0"), "fault: a.amqp: line 1: BadCredit\n"),
+        (whole(b"a b\x5cx20\n"), "fault: a.amqp: line 1: BadCredit\n"),
+        (whole(b"a\x5c\n"), "fault: a.amqp: line 1: BadEscape\n"),
+        (whole(b"a\t4\n"), "fault: a.amqp: line 1: BadCharacter\n"),
+        (
+            whole(b"# \xff\na\xff 4\n"),
+            "fault: a.amqp: line 2: NotText\n",
+        ),
+        (whole(b" orders 4\n"), "fault: a.amqp: line 1: NoAddress\n"),
+        (whole(&LONG_LINE), "fault: a.amqp: line 1: TooLong\n"),
+        (broken(b"orders 4\n"), "fault: a.amqp: Read\n"),
+        (None, "fault: a.amqp: Open\n"),
+    ] {
+        let host = host_of(rt.alloc(), &words, file);
+        assert_ends(&rt, host, ExitCode::FAILURE, "", told);
+    }
+}
+
+/// A line of 4097 bytes.
+const LONG_LINE: [u8; 4097] = [b'a'; 4097];
 
 /// The bound that is told is that of the largest link that a table of limits allows.
 #[test]

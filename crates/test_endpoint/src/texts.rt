@@ -171,6 +171,10 @@ fn faults_are_errors_with_sentences(rt: HostRuntime) -> Result<(), Fail> {
             "the connection is over, or this side has closed it",
         ),
         (CallFault::NotOpen, "the connection is not open"),
+        (
+            CallFault::BadError,
+            "the condition is not 1 to 64 printable characters, or the description is not at most 255 bytes of UTF-8",
+        ),
     ] {
         assert_said(&rt, alloc, fault, text)?;
     }

@@ -132,5 +132,7 @@ fn place_of_fault(fault: CallFault) -> usize {
         CallFault::Dead => 9,
         CallFault::NotOpen => 10,
         CallFault::MixedModes => 11,
+        // no call of these lists has words of its own
+        CallFault::BadError => FAULTS,
     }
 }

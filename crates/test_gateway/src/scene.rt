@@ -2,7 +2,8 @@
 
 use amqp_endpoint::Config;
 use amqp_gateway::{
-    Gateway, GatewayFault, Outlet, Settings, Sink, Unwatched, link_most, outlet_most, peer_most,
+    Admission, Gateway, GatewayFault, Outlet, Settings, Sink, Unasked, Unwatched, link_most,
+    outlet_most, peer_most,
 };
 use amqp_hub::Keeper;
 use amqp_perform::Outcome;
@@ -219,8 +220,8 @@ const SETTINGS: Settings = Settings {
 
 /// A gateway, at a moment.
 #[derive(Drop)]
-pub struct Scene<K: Keeper + Drop> {
-    pub gateway: Gateway<K, Unwatched>,
+pub struct Scene<K: Keeper + Drop, D: Admission + Drop = Unasked> {
+    pub gateway: Gateway<K, Unwatched, D>,
     pub log: Log,
     /// What a peer holds at most.
     pub bound: u64,
@@ -273,6 +274,19 @@ impl<'a> Scene<Outlet<Shared<'a>>> {
 impl<K: Keeper + Drop> Scene<K> {
     /// One with this keeper and this many peers at a time, which may send frames of this many bytes.
     pub fn of(rt: &HostRuntime, keeper: K, open: usize, frame: u32) -> Result<Scene<K>, Fail> {
+        Scene::by(rt, keeper, Unasked, open, frame)
+    }
+}
+
+impl<K: Keeper + Drop, D: Admission + Drop> Scene<K, D> {
+    /// One with this admission too.
+    pub fn by(
+        rt: &HostRuntime,
+        keeper: K,
+        admission: D,
+        open: usize,
+        frame: u32,
+    ) -> Result<Scene<K, D>, Fail> {
         let alloc = rt.alloc();
         let listener = net::TcpListener::bind(rt, SocketAddr::from((Ipv4Addr::LOCALHOST, 0)))?;
         let address = listener.local_addr()?;
@@ -292,7 +306,9 @@ impl<K: Keeper + Drop> Scene<K> {
             peers: open,
             ..SETTINGS
         };
-        let gateway = Gateway::new(rt, listener, config, rule, settings, keeper, Unwatched, 0);
+        let gateway = Gateway::admitting(
+            rt, listener, config, rule, settings, keeper, Unwatched, admission, 0,
+        );
         Ok(Scene {
             gateway: gateway.ok().ok_or("no gateway")?,
             log: Log::new(alloc),

@@ -2,11 +2,12 @@
 //!
 //! `open`, `hear KEY HEX`, `hand KEY ROOM`, `heartbeat KEY`, `finish KEY`, `close KEY`, `remove KEY`, `rule KEY CREDIT`, `settle MOST`, `fail`, `held` and
 //! `count` are turns of a hub of three connections at most, whose ledger has room for three records. Shown is what was recorded of the
-//! last one. `origins` lists the connection's number, the channel, the handle and the tag of each record in the ledger.
+//! last one. `refuse_link KEY CHANNEL HANDLE CONDITION` and `top_up KEY CHANNEL HANDLE MOST` ask the hub for a link. `origins` lists the connection's number, the channel, the handle and the tag of each record in the ledger.
 
 use amqp_endpoint::{Config, End};
 use amqp_hub::{Hub, HubFault, Ledger, Origin, Progress, Turn, TurnAnswer};
 use amqp_perform::Outcome;
+use amqp_reason::Reason;
 use amqp_serve::Rule;
 use std::alloc::Global;
 use test_row_files::words::{bytes_of, hex_of, name_of, number};
@@ -84,6 +85,14 @@ impl<'a> Rows<'a> {
     }
 }
 
+/// The channel, the handle and the last word of a row that asks for a link.
+fn link_of(words: &str) -> Result<(u16, u32, &str), Miss> {
+    let (channel, rest) = name_of(words);
+    let (handle, last) = name_of(rest);
+    let channel = u16::try_from(number(channel)?).ok().ok_or("no channel")?;
+    Ok((channel, number(handle)?, last))
+}
+
 /// Makes a turn of a hub.
 fn made<'a>(
     hub: &mut Hub<Ledger<Heap<'a>>, Heap<'a>>,
@@ -127,6 +136,18 @@ impl Subject for Rows<'_> {
                     ..RULE
                 };
                 self.make(alloc, &Turn::Rule { key, rule })
+            }
+            "refuse_link" => {
+                let (channel, handle, condition) = link_of(rest)?;
+                let refused = self
+                    .hub
+                    .refuse(key, channel, handle, &Reason::new(condition));
+                Ok(format!(in alloc; "{refused:?}")?)
+            }
+            "top_up" => {
+                let (channel, handle, most) = link_of(rest)?;
+                let granted = self.hub.top_up_link(key, channel, handle, number(most)?);
+                Ok(format!(in alloc; "{granted:?}")?)
             }
             "settle" => self.make(alloc, &Turn::Settle { most: Some(key) }),
             "fail" => self.make(alloc, &Turn::Settle { most: None }),

@@ -64,16 +64,11 @@ impl<'a> Sending<'a> {
     fn make(&mut self, alloc: Global, names: &str) -> Result<String, Miss> {
         let (container_id, name) = names.split_once(' ').ok_or("two names")?;
         let (container_id, name) = (text_of(alloc, container_id)?, text_of(alloc, name)?);
-        let Ok(config) = config_of(self.heap, container_id.as_str(), name.as_str()) else {
+        let made = sender_of(self.heap, container_id.as_str(), name.as_str())?;
+        if made.is_none() {
             return refused(alloc);
-        };
-        if config.container_id.len() > 255 || config.name.len() > 255 {
-            return Err(Miss::Unread("a name is too long"));
         }
-        let Ok(sender) = Sender::new(self.heap, config) else {
-            return refused(alloc);
-        };
-        self.sender = Some(sender);
+        self.sender = made;
         Ok(String::from_str(alloc, "made")?)
     }
 
@@ -142,6 +137,21 @@ impl<'a> Sending<'a> {
 /// Returns what a call answers that was refused memory.
 fn refused(alloc: Global) -> Result<String, Miss> {
     Ok(String::from_str(alloc, "Err(NoMemory)")?)
+}
+
+/// Returns a sender of this container and name of its link; nothing if it is refused memory.
+fn sender_of<'a>(
+    heap: Heap<'a>,
+    container_id: &str,
+    name: &str,
+) -> Result<Option<Sender<Heap<'a>>>, Miss> {
+    let Ok(config) = config_of(heap, container_id, name) else {
+        return Ok(None);
+    };
+    if config.container_id.len() > 255 || config.name.len() > 255 {
+        return Err(Miss::Unread("a name is too long"));
+    }
+    Ok(Sender::new(heap, config).ok())
 }
 
 fn config_of<'a>(

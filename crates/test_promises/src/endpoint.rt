@@ -2,13 +2,14 @@
 
 ghost use Rattle.std.specs.Prelude.{◌≡◌, ◌↔◌, [], IsTrue, ℕ, List, slice_index, ◌+◌, ◌≤◌, ◌++◌, ◌<◌, min, length, take, drop, true, false, option_map, IfOk, IfErr, IfSome, map};
 ghost use Rattle.amqp_frame.specs.Splits.{IsOver, TakesNothing};
-ghost use Rattle.amqp_session.specs.Calls.{Widen, Grant, Drain, Take, Settle, SettleRange, Detach};
+ghost use Rattle.amqp_reason.specs.Reasons.{reason_of};
+ghost use Rattle.amqp_session.specs.Calls.{Widen, Grant, Drain, Take, Settle, SettleRange, Detach, Refuse, SettleWith, SettleRangeWith};
 ghost use Rattle.amqp_session.specs.Places.{live_in};
 ghost use Rattle.amqp_session.specs.Sessions.{IsApart};
 ghost use Rattle.amqp_endpoint.specs.Connections.{slot_at, is_dead};
 ghost use Rattle.amqp_endpoint.specs.Endpoints.{IsLinkAt, accepted_by, dropped_by, named_by, handed_by, call_of, answer_of, IsReplay};
 ghost use Rattle.amqp_endpoint.specs.Held.{held};
-ghost use Rattle.amqp_endpoint.specs.Runs.{IsStart, IsMoved, IsFinished, CallDone, CloseDone, BeatDone, end_of, Does, may_want};
+ghost use Rattle.amqp_endpoint.specs.Runs.{IsStart, IsMoved, IsFinished, CallDone, CloseDone, CloseWithDone, BeatDone, end_of, Does, may_want};
 ghost use Rattle.amqp_session.specs.Lacking.{IsFirstLacking};
 ghost use Rattle.amqp_endpoint.specs.Takings.{link_at};
 ghost use Rattle.amqp_endpoint.specs.Steps.{AsksFor, MayRead, IsFed};
@@ -19,6 +20,7 @@ ghost use Rattle.amqp_endpoint.specs.Traces.{IsWholeRun};
 use amqp_endpoint::{Answer, Call, CallFault, Config, End, Endpoint, Fed, LimitFault, LinkLimit};
 use amqp_link::{LinkBounds, Taken};
 use amqp_perform::Outcome as Settlement;
+use amqp_reason::Reason;
 use amqp_session::LinkView;
 use std::alloc::{AllocError, Allocator};
 
@@ -253,6 +255,57 @@ pub fn detach<A: Allocator + Copy>(
     ensures { CallDone endpoint.old endpoint.new channel (Detach handle) (dropped_by result) }
 {
     endpoint.detach(channel, handle)
+}
+
+/// Ends the link at a handle, by a detach with closed true and an error that it writes [2.6.5]. Returns how many
+/// ready deliveries were dropped.
+pub fn refuse<A: Allocator + Copy>(
+    endpoint: &mut Endpoint<A>,
+    channel: u16,
+    handle: u32,
+    reason: &Reason<'_>,
+) -> Result<u32, CallFault>
+    ensures { CallDone endpoint.old endpoint.new channel (Refuse handle (reason_of reason.now)) (dropped_by result) }
+{
+    endpoint.refuse(channel, handle, reason)
+}
+
+/// Tells the sender that the delivery of a session with this id is rejected, and why, by a disposition with an
+/// error that it writes [3.4.3].
+pub fn settle_with<A: Allocator + Copy>(
+    endpoint: &mut Endpoint<A>,
+    channel: u16,
+    id: u32,
+    reason: &Reason<'_>,
+) -> Result<(), CallFault>
+    ensures { CallDone endpoint.old endpoint.new channel (SettleWith id (reason_of reason.now)) (accepted_by result) }
+{
+    endpoint.settle_with(channel, id, reason)
+}
+
+/// Tells the sender that the open deliveries of a session with ids from `first` to `last` are rejected, and why,
+/// by one disposition with an error that it writes [3.4.3]. Returns how many deliveries that names.
+pub fn settle_range_with<A: Allocator + Copy>(
+    endpoint: &mut Endpoint<A>,
+    channel: u16,
+    first: u32,
+    last: u32,
+    reason: &Reason<'_>,
+) -> Result<u32, CallFault>
+    ensures { CallDone endpoint.old endpoint.new channel (SettleRangeWith first last (reason_of reason.now)) (named_by result) }
+{
+    endpoint.settle_range_with(channel, first, last, reason)
+}
+
+/// Closes the connection, by a close with an error that it writes [2.7.9]. Returns how many ready deliveries were
+/// dropped.
+pub fn close_with<A: Allocator + Copy>(
+    endpoint: &mut Endpoint<A>,
+    reason: &Reason<'_>,
+) -> Result<u32, CallFault>
+    ensures { CloseWithDone endpoint.old endpoint.new (reason_of reason.now) (dropped_by result) }
+{
+    endpoint.close_with(reason)
 }
 
 /// Closes the connection, by a close that it writes [2.4.3]. Returns how many ready deliveries were dropped.

@@ -1,15 +1,17 @@
 //! What `amqp_session` promises.
 
-ghost use Rattle.std.specs.Prelude.{◌≡◌, ◌≤◌, ◌<◌, ◌+◌, ◌^◌, [], ◌∷◌, Option, Some, None, OnOk, IfOk, OnErr, IfErr};
+ghost use Rattle.std.specs.Prelude.{◌≡◌, ◌≤◌, ◌<◌, ◌+◌, ◌^◌, [], ◌∷◌, true, Option, Some, None, OnOk, IfOk, OnErr, IfErr};
 ghost use Rattle.amqp_link.specs.Links.{sent_of};
 ghost use Rattle.amqp_perform.specs.declared.performative.Performative.{Performative};
 ghost use Rattle.amqp_perform.specs.declared.performative.Performative.TheVariants as performative;
 ghost use Rattle.amqp_perform.specs.Frames.{IsWritten};
 ghost use Rattle.amqp_perform.specs.declared.outcome.Outcome.{Outcome};
-ghost use Rattle.amqp_session.specs.Calls.{Widen, Grant, Drain, Take, Settle, SettleRange, Detach as DetachCall, call_fault, call_event, call_answer, range_fault, settles_at_once, standing_in};
+ghost use Rattle.amqp_reason.specs.Reasons.{is_valid, reason_of, error_span, rejected_span};
+ghost use Rattle.amqp_session.specs.Calls.{Widen, Grant, Drain, Take, Settle, SettleRange, Detach as DetachCall, Refuse, SettleRangeWith, call_fault, call_event, call_answer, range_fault, settles_at_once, standing_in};
 ghost use Rattle.amqp_session.specs.Faults.{session_fault, event_of, report_of, answer_of, IsRefusal};
+ghost use Rattle.amqp_perform.specs.Receivers.{state_said};
 ghost use Rattle.amqp_perform.specs.Said.{said, said_frame};
-ghost use Rattle.amqp_session.specs.Frames.{Attaches, Flows, Transfers, Disposes, Detaches, attaching, flowing, disposing, frame_of, attach_said, refusal_said, failure_said, stated_said};
+ghost use Rattle.amqp_session.specs.Frames.{Attaches, Flows, Transfers, Disposes, Detaches, attaching, flowing, disposing, frame_of, attach_said, refusal_said, detach_said, failure_said, stated_said};
 ghost use Rattle.amqp_session.specs.Lacking.{IsFirstLacking};
 ghost use Rattle.amqp_session.specs.Sessions.{IsApart, session_begins, session_after, session_bytes, session_ready, slot_at, slot_ready, Settled, SessionMay};
 ghost use Rattle.amqp_session.specs.Slots.{HandsUp, IsViewAt};
@@ -21,6 +23,7 @@ use amqp_link::{LinkBounds, Taken};
 use amqp_perform::{
     Attach, Condition, Detach, Disposition, Flow, LinkFlow, Outcome, Performative, Transfer,
 };
+use amqp_reason::Reason;
 use amqp_session::{CallFault, Done, LinkView, Named, Report, Session, SessionFault, SessionTerms};
 use std::alloc::Allocator;
 
@@ -372,6 +375,69 @@ pub fn settle_named<A: Allocator + Copy>(
     ensures err { OnErr result (session.new ≡ session.old) }
 {
     session.settle_named(first, last)
+}
+
+/// Returns why [`Session::refuse`] would be refused now; `None` if it would be accepted.
+pub fn refuse_fault<A: Allocator + Copy>(
+    session: &Session<A>,
+    handle: u32,
+    reason: &Reason<'_>,
+) -> Option<CallFault>
+    ensures { result ≡ call_fault session.now (Refuse handle (reason_of reason.now)) }
+{
+    session.refuse_fault(handle, reason)
+}
+
+/// Returns why [`Session::reject`] would be refused now; `None` if it would be accepted.
+pub fn reject_fault<A: Allocator + Copy>(
+    session: &Session<A>,
+    first: u32,
+    last: u32,
+    reason: &Reason<'_>,
+) -> Option<CallFault>
+    ensures { result ≡ call_fault session.now (SettleRangeWith first last (reason_of reason.now)) }
+{
+    session.reject_fault(first, last, reason)
+}
+
+/// Ends the link at a handle, which is refused with an error [2.6.5]. Returns how many ready deliveries were
+/// dropped.
+pub fn refuse<A: Allocator + Copy>(
+    session: &mut Session<A>,
+    handle: u32,
+    reason: &Reason<'_>,
+) -> Result<u32, CallFault>
+    ensures may { OnOk result (SessionMay session.old (call_event session.old (Refuse handle (reason_of reason.now)))) }
+    ensures new { OnOk result (session.new ≡ session_after session.old (call_event session.old (Refuse handle (reason_of reason.now)))) }
+    ensures accepted { OnOk result (call_fault session.old (Refuse handle (reason_of reason.now)) ≡ None) }
+    ensures valid { OnOk result (is_valid (reason_of reason.now) ≡ true) }
+    ensures answer { OnOk result (call_answer session.old (Refuse handle (reason_of reason.now)) ≡ detach_said handle true (error_span (reason_of reason.now)) ∷ []) }
+    ensures dropped { IfOk result (λ n. n ≡ slot_ready (slot_at session.old handle)) }
+    ensures refused { IfErr result (λ e. call_fault session.old (Refuse handle (reason_of reason.now)) ≡ Some e) }
+    ensures err { OnErr result (session.new ≡ session.old) }
+{
+    session.refuse(handle, reason)
+}
+
+/// Settles the open deliveries with ids from `first` to `last`, which are rejected with an error [3.4.3], and
+/// returns what the disposition has to say. The caller has to write it.
+pub fn reject<A: Allocator + Copy>(
+    session: &mut Session<A>,
+    first: u32,
+    last: u32,
+    reason: &Reason<'_>,
+) -> Result<Named, CallFault>
+    ensures may { OnOk result (SessionMay session.old (call_event session.old (SettleRangeWith first last (reason_of reason.now)))) }
+    ensures new { OnOk result (session.new ≡ session_after session.old (call_event session.old (SettleRangeWith first last (reason_of reason.now)))) }
+    ensures accepted { OnOk result (call_fault session.old (SettleRangeWith first last (reason_of reason.now)) ≡ None) }
+    ensures valid { OnOk result (is_valid (reason_of reason.now) ≡ true) }
+    ensures answer { IfOk result (λ named. call_answer session.old (SettleRangeWith first last (reason_of reason.now)) ≡ state_said first last named.settled (rejected_span (reason_of reason.now)) ∷ []) }
+    ensures settled { IfOk result (λ named. named.settled ≡ settles_at_once (standing_in first session.old.links)) }
+    ensures count { IfOk result (λ named. named.count ≡ named_total first last session.old) }
+    ensures refused { IfErr result (λ e. call_fault session.old (SettleRangeWith first last (reason_of reason.now)) ≡ Some e) }
+    ensures err { OnErr result (session.new ≡ session.old) }
+{
+    session.reject(first, last, reason)
 }
 
 /// Ends the link at a handle [2.6.6]. Returns the detach that says so, and how many ready deliveries were

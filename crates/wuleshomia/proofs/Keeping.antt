@@ -1,16 +1,17 @@
 -- What bytes stand in the room of an endpoint's buffer changes no call, and so no run.
 use Rattle.std.proofs.Common.{◌≡◌, ℕ, ◌+◌, List, [], ◌∷◌, ◌++◌, take, drop, None, refl, sym, ap, ◌∙◌, subst}
 use Rattle.std.specs.Prelude.{length, if◌then◌else◌}
+use Rattle.amqp_reason.specs.Reasons.{Reason}
 use Rattle.amqp_frame.specs.Splits.{SplitterState, IsUnchanged}
 use Rattle.amqp_session.specs.Calls as session
 use Rattle.amqp_endpoint.specs.declared.event.End.{End}
 use Rattle.amqp_endpoint.specs.declared.event.End.TheVariants as ended
 use Rattle.amqp_endpoint.specs.declared.event.Outcome.{Outcome}
-use Rattle.amqp_endpoint.specs.Calls.{call_fault, call_event, call_spoken, open_call_fault, close_call_spoken, heartbeat}
+use Rattle.amqp_endpoint.specs.Calls.{call_fault, call_event, call_spoken, open_call_fault, close_with_fault, close_call_spoken, close_with_spoken, heartbeat}
 use Rattle.amqp_endpoint.specs.Connections.{ConnectionState, ConnectionEvent, CloseAsked, Finished, connection_after, connection_bytes, connection_ready, slot_at}
 use Rattle.amqp_endpoint.specs.Replies.{joined}
-use Rattle.amqp_endpoint.specs.Runs.{Call, Feed, InSession, Close, Heartbeat, Output, Held, Finish, Answer, Fed, Accepted, Dropped, Named, HandedUp, Refused, MovedOut, Holds, Ended}
-use Rattle.amqp_endpoint.specs.Runs.{IsWritten, IsBeat, IsMoved, IsFinished, CallDone, CloseDone, BeatDone, Does, Run, accepted_answer, end_between, end_of}
+use Rattle.amqp_endpoint.specs.Runs.{Call, Feed, InSession, Close, CloseWith, Heartbeat, Output, Held, Finish, Answer, Fed, Accepted, Dropped, Named, HandedUp, Refused, MovedOut, Holds, Ended}
+use Rattle.amqp_endpoint.specs.Runs.{IsWritten, IsBeat, IsMoved, IsFinished, CallDone, CloseDone, CloseWithDone, BeatDone, Does, Run, accepted_answer, end_between, end_of}
 use Rattle.amqp_endpoint.specs.Steps.{EndpointState, IsKept, IsFed}
 use Rattle.wuleshomia.specs.Programs.{IsRunTo}
 
@@ -74,6 +75,26 @@ module _ (s t u : EndpointState) (k : IsKept s t) where
   closes (Holds n) x = closed (Holds n) x
   closes (Ended end) x = closed (Ended end) x
 
+  module _ (r : Reason) where
+    closed_with : (a : Answer) → (close_with_fault t.connection t.unsent r ≡ None) × IsWritten t u CloseAsked (joined (close_with_spoken r)) × (a ≡ Dropped (connection_ready t.connection)) →
+        (close_with_fault s.connection s.unsent r ≡ None) × IsWritten s u CloseAsked (joined (close_with_spoken r)) × (a ≡ Dropped (connection_ready s.connection))
+    closed_with a x = (
+      same_fault (λ (y : ConnectionState) (l : List ℕ). close_with_fault y l r) x.0,
+      written (λ _. CloseAsked) (λ _. joined (close_with_spoken r)) x.1,
+      x.2 ∙ ap (λ (c : ConnectionState). Dropped (connection_ready c)) k.connection,
+    )
+
+    closes_with : (a : Answer) → CloseWithDone t u r a → CloseWithDone s u r a
+    closes_with (Refused f) x = (same_fault (λ (y : ConnectionState) (l : List ℕ). close_with_fault y l r) x.0, kept_on k x.1)
+    closes_with (Fed used told) x = closed_with (Fed used told) x
+    closes_with Accepted x = closed_with Accepted x
+    closes_with (Dropped n) x = closed_with (Dropped n) x
+    closes_with (Named n) x = closed_with (Named n) x
+    closes_with (HandedUp d) x = closed_with (HandedUp d) x
+    closes_with (MovedOut bytes) x = closed_with (MovedOut bytes) x
+    closes_with (Holds n) x = closed_with (Holds n) x
+    closes_with (Ended end) x = closed_with (Ended end) x
+
   beaten : (a : Answer) → (open_call_fault t.connection t.unsent ≡ None) × IsBeat t u × (a ≡ Accepted) → (open_call_fault s.connection s.unsent ≡ None) × IsBeat s u × (a ≡ Accepted)
   beaten a x = (
     same_fault open_call_fault x.0,
@@ -111,6 +132,7 @@ module _ (fed_on : (s read new : EndpointState) (piece : List ℕ) (used : ℕ) 
   does_on : (s t u : EndpointState) (c : Call) (a : Answer) → IsKept s t → Does t u c a → Does s u c a
   does_on s t u (InSession channel c) a k x = in_session s t u k channel c a x
   does_on s t u Close a k x = closes s t u k a x
+  does_on s t u (CloseWith r) a k x = closes_with s t u k r a x
   does_on s t u Heartbeat a k x = beats s t u k a x
   does_on s t u (Feed piece) (Fed used o) k x = fed_on s t u piece used o k x
   does_on s t u (Output room) (MovedOut bytes) k x = moves s t u k room bytes x

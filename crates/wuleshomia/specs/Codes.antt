@@ -61,7 +61,8 @@ fault_at n =
     else if nat_eq n 9 then fault.NothingReady
     else if nat_eq n 10 then fault.TooMuchCredit
     else if nat_eq n 11 then fault.WindowTooWide
-    else fault.Full
+    else if nat_eq n 12 then fault.Full
+    else fault.BadError
 
 -- the code of a fault
 abbrev pub fault_code : CallFault → ℕ
@@ -77,6 +78,7 @@ fault_code fault.NothingReady = 9
 fault_code fault.TooMuchCredit = 10
 fault_code fault.WindowTooWide = 11
 fault_code fault.Full = 12
+fault_code fault.BadError = 13
 
 -- the code of a call's answer: 0, or that of the fault for which it was refused
 abbrev pub answer_code : Answer → ℕ

@@ -1,6 +1,7 @@
 -- What the exports do to the endpoint that C holds, and what they return.
 use Rattle.std.specs.Prelude.{◌≡◌, ◌<◌, ◌≤◌, ℕ, suc, Bool, true, false, nat_eq, nat_le, if◌then◌else◌, List, [], ◌∷◌, ◌++◌, length, take, drop, min, Option, None, Some}
 use Rattle.std.specs.Str.{IsUtf8}
+use Rattle.amqp_reason.specs.Reasons.{Reason}
 use Rattle.amqp_link.specs.Links.{open_count}
 use Rattle.amqp_link.specs.Tags.{padded}
 use Rattle.amqp_session.specs.declared.slot.Slot.{Slot}
@@ -45,6 +46,12 @@ pub record Makes (call : Call) (answer : Answer) (before after : Held) : Type 0 
 pub record Answers (call : Call) (answer : Answer) (code : ℕ) (before after : Held) : Type 0 where
   pub makes : Makes call answer before after
   pub told : code ≡ answer_code answer
+
+-- The words of an error. ----------------------------------------------------------------------------------------------
+
+-- a condition and, unless this number is 0, a description
+abbrev pub words_of : List ℕ → List ℕ → ℕ → Reason
+words_of condition description described = record { condition = condition; description = if nat_eq described 0 then None else Some description }
 
 -- Topping up. ---------------------------------------------------------------------------------------------------------
 

@@ -97,6 +97,7 @@ pub fn of_fault(fault: CallFault) -> u32
         CallFault::TooMuchCredit => 10,
         CallFault::WindowTooWide => 11,
         CallFault::Full => 12,
+        CallFault::BadError => 13,
     }
 }
 

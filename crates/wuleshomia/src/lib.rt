@@ -7,13 +7,14 @@
 //!
 //! The exports of `spool` have no endpoint: they say what bytes of a spool's files are, which C has read.
 //!
-//! C may pass NULL to some calls. These are `wule_NAME` in `c/calls.c`, over an export `wuleshomia_NAME`, which never
-//! gets NULL. The other exports are C's calls themselves.
+//! C may pass NULL to some calls, and texts that end with a zero byte to others. These are `wule_NAME` in `c/calls.c`,
+//! over an export `wuleshomia_NAME`, which never gets NULL, and gets the length of each text. The other exports are C's
+//! calls themselves.
 //!
 //! `handle` has what the sixteen bytes own, and with `unboxed` the only raw pointers. `data` has the structs,
 //! `codes` the numbers for enums, `held` what a handle holds. The exports are in `opening`, `bytes`, `requests`,
-//! `messages`, `views` and `serving`; `specs/Exports.antt` says what each does, and `specs/Spools.antt` it of those in
-//! `spool`. By `laws` those on one handle are a run of its endpoint.
+//! `reasons`, `messages`, `views` and `serving`; `specs/Exports.antt` says what each does, and `specs/Spools.antt` it of
+//! those in `spool`. By `laws` those on one handle are a run of its endpoint.
 #![tactic(auto)]
 
 pub mod bytes;
@@ -24,6 +25,7 @@ pub mod held;
 pub mod laws;
 pub mod messages;
 pub mod opening;
+pub mod reasons;
 pub mod requests;
 pub mod serving;
 pub mod spool;

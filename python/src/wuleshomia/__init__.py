@@ -14,7 +14,10 @@ yours::
                 endpoint.settle(channel, message.id)
     transport.write(endpoint.output())
 
-:class:`ReceiverProtocol` does this for asyncio, with three functions of yours.
+:class:`ReceiverProtocol` does this for asyncio, with functions of yours.
+
+A link or a message is refused, or the connection closed, with an :class:`Error` of your own words; :mod:`wuleshomia.conditions` has the
+conditions of the standard.
 
 A :class:`Spool` has the records that `amqp gateway --spool` keeps, for a program beside it.
 
@@ -24,6 +27,7 @@ tested, and not proved.
 
 from __future__ import annotations
 
+from . import conditions
 from ._endpoint import (
     Aborted,
     AddressKind,
@@ -38,6 +42,7 @@ from ._endpoint import (
     End,
     Ended,
     Endpoint,
+    Error,
     Event,
     Failed,
     Limit,
@@ -54,7 +59,7 @@ from ._endpoint import (
     Step,
     Unfinished,
 )
-from ._asyncio import ReceiverProtocol
+from ._asyncio import Credit, ReceiverProtocol, Refuse, Reject
 from ._spool import (
     Gap,
     Locked,
@@ -76,11 +81,13 @@ __all__ = [
     "Closed",
     "Code",
     "Condition",
+    "Credit",
     "Detached",
     "Drained",
     "End",
     "Ended",
     "Endpoint",
+    "Error",
     "Event",
     "Failed",
     "Gap",
@@ -96,6 +103,8 @@ __all__ = [
     "Receipt",
     "ReceiverProtocol",
     "Record",
+    "Refuse",
+    "Reject",
     "Scope",
     "Settled",
     "Spool",
@@ -106,6 +115,7 @@ __all__ = [
     "Step",
     "TargetKind",
     "Unfinished",
+    "conditions",
 ]
 
 __version__ = "0.1.0"

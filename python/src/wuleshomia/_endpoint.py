@@ -38,6 +38,7 @@ class Code(IntEnum):
     TOO_MUCH_CREDIT = 10
     WINDOW_TOO_WIDE = 11
     FULL = 12
+    BAD_ERROR = 13
     NO_ENDPOINT = 20
     NO_MEMORY = 21
     IN_USE = 22
@@ -66,6 +67,7 @@ _TEXTS = {
     Code.TOO_MUCH_CREDIT: "credit and open deliveries would be more than the link allows",
     Code.WINDOW_TOO_WIDE: "the window would pass 2147483647 places",
     Code.FULL: "the output has less than 2560 free bytes",
+    Code.BAD_ERROR: "the condition is not 1 to 64 printable characters, or the description not at most 255 bytes of UTF-8",
     Code.NO_ENDPOINT: "the endpoint was freed",
     Code.NO_MEMORY: "memory was refused",
     Code.IN_USE: "the handle holds an endpoint",
@@ -177,6 +179,17 @@ _SYMBOLS = (
     "amqp:link:transfer-limit-exceeded",
     "amqp:link:message-size-exceeded",
 )
+
+
+@dataclass(frozen=True)
+class Error:
+    """Why a link or a message is refused, or a connection closed: the peer gets these words.
+
+    `condition` is a symbol of 1 to 64 printable characters of ASCII: one of :mod:`wuleshomia.conditions`, or one of your own. `text` is
+    for people, and at most 255 bytes of UTF-8. A call with other words is refused with BAD_ERROR; a NUL in them is a ValueError."""
+
+    condition: str
+    text: str | None = None
 
 
 class Receipt(IntEnum):
@@ -347,7 +360,7 @@ class Step:
 @dataclass(frozen=True)
 class Link:
     """How a live link stands. `source` and `target` are as its attach spells them. `address` is that of its target: a text if
-    `address_kind` is NAMED, else None."""
+    `address_kind` is NAMED, else None. It is the link at `handle` of the session on `channel`."""
 
     name: str
     credit: int
@@ -359,6 +372,8 @@ class Link:
     target: bytes
     address: str | None
     address_kind: AddressKind
+    channel: int
+    handle: int
 
 
 @dataclass(frozen=True)
@@ -392,6 +407,27 @@ def _text(value: str, name: str) -> bytes:
     if not isinstance(value, str):
         raise TypeError(f"{name} is a str, not {type(value).__name__}")
     return value.encode()
+
+
+def _ended(value: str, name: str) -> bytes:
+    """A text that crosses without its length: a NUL in it would end it."""
+    data = _text(value, name)
+    if b"\0" in data:
+        raise ValueError(f"{name} has a NUL character")
+    return data
+
+
+def _words(error: Error) -> tuple[bytes, bytes | None]:
+    if not isinstance(error, Error):
+        raise TypeError(f"error is an Error, not {type(error).__name__}")
+    return _ended(error.condition, "condition"), None if error.text is None else _ended(error.text, "text")
+
+
+def _rejected(outcome: Outcome | None, error: Error) -> tuple[bytes, bytes | None]:
+    """The words of an error, which goes with no outcome but REJECTED."""
+    if outcome is not None and _outcome(outcome) != Outcome.REJECTED:
+        raise ValueError(f"an error goes with REJECTED, not with {Outcome(outcome).name}")
+    return _words(error)
 
 
 def _check(code: int) -> None:
@@ -545,9 +581,10 @@ class Endpoint:
         """Whether bytes for the peer wait."""
         return bool(self._out) or bool(self._call(_lib.wule_has_output))
 
-    def close(self) -> int:
-        """Closes the connection, and returns how many ready messages were dropped. Feed on until `Closed`."""
-        return self._count(_lib.wule_close)
+    def close(self, error: Error | None = None) -> int:
+        """Closes the connection, with an error if one is given, and returns how many ready messages were dropped. Feed on until
+        `Closed`."""
+        return self._count(_lib.wule_close) if error is None else self._count(_lib.wule_close_with, *_words(error))
 
     def heartbeat(self) -> None:
         """Writes an empty frame, for a peer that asked for an idle-time-out."""
@@ -596,20 +633,32 @@ class Endpoint:
         """Asks the sender on a link to use its credit up: `Drained` tells that it did."""
         self._write(_lib.wule_drain, _word(channel, "channel"), _word(handle, "handle"))
 
-    def settle(self, channel: int, id: int, outcome: Outcome = Outcome.ACCEPTED) -> None:
-        """Tells the sender what became of a message that was taken."""
-        words = (_word(channel, "channel"), _word(id, "id"), _outcome(outcome))
+    def settle(self, channel: int, id: int, outcome: Outcome | None = None, *, error: Error | None = None) -> None:
+        """Tells the sender what became of a message that was taken: ACCEPTED, if no outcome is given. With an `error` it is REJECTED,
+        and the sender is told why; another outcome beside it is a ValueError."""
+        if error is not None:
+            self._write(_lib.wule_settle_with, _word(channel, "channel"), _word(id, "id"), *_rejected(outcome, error))
+            return
+        words = (_word(channel, "channel"), _word(id, "id"), Outcome.ACCEPTED if outcome is None else _outcome(outcome))
         if code := self._call(_lib.wule_settle, *words):
             self._again(code, _lib.wule_settle, *words)
 
-    def settle_range(self, channel: int, first: int, last: int, outcome: Outcome = Outcome.ACCEPTED) -> int:
+    def settle_range(
+        self, channel: int, first: int, last: int, outcome: Outcome | None = None, *, error: Error | None = None
+    ) -> int:
         """The same of all whose ids lie from first to last, by one frame. Returns how many they are."""
-        words = (_word(channel, "channel"), _word(first, "first"), _word(last, "last"), _outcome(outcome))
-        return self._count(_lib.wule_settle_range, *words)
+        words = (_word(channel, "channel"), _word(first, "first"), _word(last, "last"))
+        if error is not None:
+            return self._count(_lib.wule_settle_range_with, *words, *_rejected(outcome, error))
+        return self._count(_lib.wule_settle_range, *words, Outcome.ACCEPTED if outcome is None else _outcome(outcome))
 
     def detach(self, channel: int, handle: int) -> int:
         """Ends a link, and returns how many ready messages were dropped."""
         return self._count(_lib.wule_detach, _word(channel, "channel"), _word(handle, "handle"))
+
+    def refuse(self, channel: int, handle: int, error: Error) -> int:
+        """Ends a link, and tells its sender why. Returns how many ready messages were dropped: none, if it was never granted credit."""
+        return self._count(_lib.wule_refuse, _word(channel, "channel"), _word(handle, "handle"), *_words(error))
 
     def top_up(self, channel: int, credit: int, window: int) -> None:
         """Gives each link of a session whose credit is at most half of `credit` what it lacks of `credit`, but at most what the link
@@ -679,6 +728,8 @@ class Endpoint:
             target[: state.target_len],
             text[: address.len].decode() if kind is AddressKind.NAMED else None,
             kind,
+            channel,
+            handle,
         )
 
     # Serving -------------------------------------------------------------------------------------------------------------

@@ -155,7 +155,7 @@ class SpoolPosition(Structure):
     _fields_ = [("spool", c_uint8 * 16), ("number", c_uint64)]
 
 
-#: Each function: what it returns, and what it takes. A piece of bytes is its address and its length.
+#: Each function: what it returns, and what it takes. A piece of bytes is its address and its length; a text ends with a zero byte.
 FUNCTIONS = {
     "wule_version": (u32, []),
     "wule_open": (u32, [POINTER(Handle), POINTER(Settings), c_char_p, c_size_t, POINTER(Limit), c_size_t, POINTER(c_size_t)]),
@@ -164,6 +164,7 @@ FUNCTIONS = {
     "wule_output": (c_size_t, [POINTER(Handle), c_void_p, c_size_t]),
     "wule_has_output": (u32, [POINTER(Handle)]),
     "wule_close": (u32, [POINTER(Handle), POINTER(u32)]),
+    "wule_close_with": (u32, [POINTER(Handle), c_char_p, c_char_p, POINTER(u32)]),
     "wule_heartbeat": (u32, [POINTER(Handle)]),
     "wule_finish": (u32, [POINTER(Handle), POINTER(c_uint64)]),
     "wule_is_over": (u32, [POINTER(Handle)]),
@@ -172,7 +173,10 @@ FUNCTIONS = {
     "wule_drain": (u32, [POINTER(Handle), u32, u32]),
     "wule_settle": (u32, [POINTER(Handle), u32, u32, u32]),
     "wule_settle_range": (u32, [POINTER(Handle), u32, u32, u32, u32, POINTER(u32)]),
+    "wule_settle_with": (u32, [POINTER(Handle), u32, u32, c_char_p, c_char_p]),
+    "wule_settle_range_with": (u32, [POINTER(Handle), u32, u32, u32, c_char_p, c_char_p, POINTER(u32)]),
     "wule_detach": (u32, [POINTER(Handle), u32, u32, POINTER(u32)]),
+    "wule_refuse": (u32, [POINTER(Handle), u32, u32, c_char_p, c_char_p, POINTER(u32)]),
     "wule_top_up": (u32, [POINTER(Handle), u32, u32, u32]),
     "wule_take": (u32, [POINTER(Handle), u32, u32, POINTER(Taken), c_void_p, c_size_t]),
     "wule_message_read": (c_size_t, [POINTER(Handle), c_size_t, c_void_p, c_size_t]),

@@ -118,21 +118,35 @@ impl<'a> Attack<'a> {
         let unit = Vec::from_slice(alloc, &self.unit)?;
         let mut peer = Peer::new(&self.opening, unit, self.number, times, self.most);
         let mut tally = Tally::new(alloc, self.reads)?;
-        let mut records = Vec::new(alloc);
-        let end = served(
-            self.heap,
-            self.settings,
-            &mut peer,
-            &mut tally,
-            &mut records,
-        )?;
-        let (given, kept) = (peer.given(), records.len());
-        self.shown = format!(in alloc; "sent={given} {tally} records={kept}")?;
-        Ok(match end {
-            Ok(end) => format!(in alloc; "{end:?}")?,
-            Err(fault) => format!(in alloc; "fault {fault:?}")?,
-        })
+        let (end, kept) = recorded(alloc, self.heap, self.settings, &mut peer, &mut tally)?;
+        self.shown = shown(alloc, peer.given(), &tally, kept)?;
+        told(alloc, end)
     }
+}
+
+/// Serves a peer. Returns how the connection ended, and how many bytes the records have.
+// Each of these holds one thing: one function that may drop all of it at each exit takes minutes to prove.
+fn recorded(
+    alloc: Global,
+    heap: Heap<'_>,
+    settings: Settings,
+    peer: &mut Peer<'_>,
+    tally: &mut Tally,
+) -> Result<(Result<End, ServeFault>, usize), Miss> {
+    let mut records = Vec::new(alloc);
+    let end = served(heap, settings, peer, tally, &mut records)?;
+    Ok((end, records.len()))
+}
+
+fn shown(alloc: Global, given: u64, tally: &Tally, kept: usize) -> Result<String, Miss> {
+    Ok(format!(in alloc; "sent={given} {tally} records={kept}")?)
+}
+
+fn told(alloc: Global, end: Result<End, ServeFault>) -> Result<String, Miss> {
+    Ok(match end {
+        Ok(end) => format!(in alloc; "{end:?}")?,
+        Err(fault) => format!(in alloc; "fault {fault:?}")?,
+    })
 }
 
 /// Serves a peer by a new endpoint.

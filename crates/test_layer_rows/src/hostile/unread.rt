@@ -21,11 +21,22 @@ pub fn unread(
 ) -> Result<String, Miss> {
     let mut endpoint = Endpoint::new(heap, settings.config(heap)?)?;
     feed_opening(&mut endpoint, opening);
+    told(alloc, heap, &mut endpoint, unit, times)
+}
+
+// It borrows the endpoint: one function that may drop it at each exit takes a minute to prove.
+fn told(
+    alloc: Global,
+    heap: Heap<'_>,
+    endpoint: &mut Endpoint<Heap<'_>>,
+    unit: &[u8],
+    times: u32,
+) -> Result<String, Miss> {
     let requested = heap.requested();
-    let (acted, most) = feed_units(&mut endpoint, unit, times);
+    let (acted, most) = feed_units(endpoint, unit, times);
     let memory = heap.requested().saturating_sub(requested);
-    let waiting = outcome_behind(&mut endpoint, &mut [0; 10]);
-    let last = outcome_behind(&mut endpoint, &mut [0; 1]);
+    let waiting = outcome_behind(endpoint, &mut [0; 10]);
+    let last = outcome_behind(endpoint, &mut [0; 1]);
     Ok(format!(in alloc;
         "{acted} of {times}, held {most}, memory {memory}, {waiting:?}, {last:?}"
     )?)

@@ -1,5 +1,5 @@
 use Rattle.std.proofs.Common.{ap, refl, count_by, is_some}
-use Rattle.amqp_gateway.proofs.gateway.Gateway.new.Goals as goal
+use Rattle.amqp_gateway.proofs.gateway.Gateway.admitting.Goals as goal
 
 pub returns : goal.returns
 returns g c = record {
