@@ -1,0 +1,6 @@
+mod Names
+mod Pieces
+mod Steps
+mod Values
+mod Whole
+mod Writing

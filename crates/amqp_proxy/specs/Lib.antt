@@ -1,0 +1,5 @@
+pub mod Tlvs
+pub mod Headers
+pub mod Streams
+pub mod Replays
+pub mod Writers

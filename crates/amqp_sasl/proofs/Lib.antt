@@ -1,0 +1,6 @@
+mod Buffers
+mod Frames
+mod Passing
+mod Peeking
+mod Pieces
+mod Steps
